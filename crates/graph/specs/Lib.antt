@@ -1,2 +1,5 @@
 pub mod Graph
 pub mod Order
+pub mod Ways
+pub mod Rank
+pub mod Cut
