@@ -1,0 +1,26 @@
+-- A plan value and its links, as a graph.
+use Prim.Native.Nat.{ℕ, _+_}
+use lib.ListN.{getD}
+use Rattle.plan.specs.declared.Plan.{Plan}
+use Rattle.graph.specs.Graph.{Graph}
+
+-- "for each link lower module, higher module, reading at the lower, reading at the higher"
+abbrev pub low : Plan → ℕ → ℕ
+low p k = getD (p .lower) k 0
+
+abbrev pub high : Plan → ℕ → ℕ
+high p k = getD (p .higher) k 0
+
+abbrev pub readLow : Plan → ℕ → ℕ
+readLow p k = getD (p .near) k 0
+
+abbrev pub readHigh : Plan → ℕ → ℕ
+readHigh p k = getD (p .far) k 0
+
+-- "A link's cost is the sum of its readings."
+unfoldable pub cost : Plan → ℕ → ℕ
+cost p k = readLow p k + readHigh p k
+
+-- its modules are the nodes, its links the edges
+abbrev pub graphOf : Plan → Graph
+graphOf p = record { L = p .links; lo = low p; hi = high p }
