@@ -1,1 +1,3 @@
 pub mod Msg
+pub mod Header
+pub mod Listed

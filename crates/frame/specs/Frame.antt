@@ -1,0 +1,41 @@
+-- Radio frames: the bytes of a message, and which bytes are refused.
+use Prim.Native.Nat.{ℕ, _+_, _*_, _/_, _%_}
+use mathlib.Core.List.{List, [], _∷_}
+use mathlib.Core.Bool.{Bool, not, cond, _&&_}
+use lib.ListN.{length, getD}
+use lib.Dec.{eqb}
+use Rattle.message.specs.Listed.{listed}
+use Rattle.frame.specs.declared.Frame.{Frame}
+
+-- "Integers are 16-bit big-endian."
+abbrev pub at16 : List ℕ → ℕ → ℕ
+at16 s i = getD s i 0 * 256 + getD s (i + 1) 0
+
+-- "A frame is version byte 1, length 3, header, carried number: 6 bytes."
+abbrev pub frameBytes : ℕ → ℕ → List ℕ
+frameBytes header carried = 1 ∷ 0 ∷ 3 ∷ header ∷ carried / 256 ∷ carried % 256 ∷ []
+
+-- the first that applies: "61 not 6 bytes; 62 version or length; 63 header or carried number not listed"
+unfoldable pub frameRefusal : List ℕ → ℕ
+frameRefusal s =
+    cond (not (eqb (length s) 6)) 61
+    (cond (not (eqb (getD s 0 0) 1 && eqb (at16 s 1) 3)) 62
+    (cond (not (listed (getD s 3 0) (at16 s 4))) 63 0))
+
+-- what the reader answers: a refusal answers its number alone
+unfoldable pub frameRead : List ℕ → Frame
+frameRead s =
+    cond (eqb (frameRefusal s) 0)
+    (record { refusal = 0; header = getD s 3 0; carried = at16 s 4 })
+    (record { refusal = frameRefusal s; header = 0; carried = 0 })
+
+pub record Written : Type 0 where
+  pub answer : ℕ
+  pub bytes : List ℕ
+
+-- the writer: "63 header or carried number not listed (the frame writer too, then 64 for a buffer not 6 bytes)"
+unfoldable pub frameWritten : ℕ → ℕ → List ℕ → Written
+frameWritten header carried out =
+    cond (not (listed header carried)) (record { answer = 63; bytes = out })
+    (cond (not (eqb (length out) 6)) (record { answer = 64; bytes = out })
+    (record { answer = 0; bytes = frameBytes header carried }))

@@ -1,0 +1,1 @@
+// Waiting messages in 64-bit words: packed and unpacked by shifts and masks.
