@@ -1,0 +1,195 @@
+-- What a response works on: a node, its own edges with their marks and order, the messages sent.
+-- A module of document 01 is a node, a link an edge.
+use Prim.Native.Nat.{ℕ, zero, suc, _+_}
+use mathlib.Core.Bool.{Bool, true, false, not, cond, _&&_, _||_}
+use mathlib.Core.List.{List, [], _∷_, _++_}
+use lib.Dec.{eqb}
+use Rattle.base.specs.Cond.{bit, upd}
+use Rattle.message.specs.Msg.{Msg, none}
+use Rattle.node.specs.declared.Node.{Node}
+
+-- "status (0 asleep, 1 Find, 2 Found)"
+abbrev pub ASLEEP : ℕ
+ASLEEP = 0
+
+abbrev pub FIND : ℕ
+FIND = 1
+
+abbrev pub FOUND : ℕ
+FOUND = 2
+
+-- "a mark for each own link: 0 Basic, 1 Branch, 2 Rejected"
+abbrev pub BASIC : ℕ
+BASIC = 0
+
+abbrev pub BRANCH : ℕ
+BRANCH = 1
+
+abbrev pub REJECTED : ℕ
+REJECTED = 2
+
+-- the answer to a message
+abbrev pub TAKEN : ℕ
+TAKEN = 0
+
+abbrev pub BACK : ℕ
+BACK = 1
+
+abbrev pub REFUSED : ℕ
+REFUSED = 32
+
+-- "Setup gives zeros and nones."
+abbrev pub setup : Node
+setup =
+    record { status = ASLEEP; level = 0; identity = none; weight = none; best = none; test = none; branch = none; count = 0; halted = 0 }
+
+-- The edges as one node sees them: edge numbers are below `edges`, `own` tells those that end here, `earlier` is the order of weights.
+pub record Own : Type 0 where
+  pub edges : ℕ
+  pub own : ℕ → Bool
+  pub earlier : ℕ → ℕ → Bool
+
+-- ""none" is later than all": a is earlier than b, for edges or none
+abbrev pub before : Own → ℕ → ℕ → Bool
+before o a b = not (eqb a none) && (eqb b none || o.earlier a b)
+
+-- a message and the own edge that it is sent on
+pub record Send : Type 0 where
+  pub edge : ℕ
+  pub msg : Msg
+
+-- A response under way. answer: TAKEN, BACK or REFUSED; mark: of each own edge; sends: in their order.
+pub record Work : Type 0 where
+  pub answer : ℕ
+  pub node : Node
+  pub mark : ℕ → ℕ
+  pub sends : List Send
+
+-- nothing done yet
+abbrev pub start : Node → (ℕ → ℕ) → Work
+start n m = record { answer = TAKEN; node = n; mark = m; sends = [] }
+
+-- "place received message on end of queue": the rest of the response stands
+abbrev pub putBack : Work → Work
+putBack w = record { answer = BACK; node = w .node; mark = w .mark; sends = w .sends }
+
+-- refused by 32. The rest is left as it stands here, and the caller drops it: a refused step alters nothing.
+abbrev pub refused : Work → Work
+refused w = record { answer = REFUSED; node = w .node; mark = w .mark; sends = w .sends }
+
+abbrev pub send : ℕ → Msg → Work → Work
+send k m w =
+    record { answer = w .answer; node = w .node; mark = w .mark; sends = w .sends ++ (record { edge = k; msg = m } ∷ []) }
+
+-- SE(k) ← c
+abbrev pub setMark : ℕ → ℕ → Work → Work
+setMark k c w = record { answer = w .answer; node = w .node; mark = upd (w .mark) k c; sends = w .sends }
+
+abbrev pub withNode : Node → Work → Work
+withNode n w = record { answer = w .answer; node = n; mark = w .mark; sends = w .sends }
+
+abbrev pub setStatus : ℕ → Node → Node
+setStatus x n =
+    record {
+      status = x;
+      level = n .level;
+      identity = n .identity;
+      weight = n .weight;
+      best = n .best;
+      test = n .test;
+      branch = n .branch;
+      count = n .count;
+      halted = n .halted;
+    }
+
+-- best-edge ← e, best-wt ← x
+abbrev pub setBest : ℕ → ℕ → Node → Node
+setBest e x n =
+    record {
+      status = n .status;
+      level = n .level;
+      identity = n .identity;
+      weight = x;
+      best = e;
+      test = n .test;
+      branch = n .branch;
+      count = n .count;
+      halted = n .halted;
+    }
+
+-- test-edge ← x
+abbrev pub setTest : ℕ → Node → Node
+setTest x n =
+    record {
+      status = n .status;
+      level = n .level;
+      identity = n .identity;
+      weight = n .weight;
+      best = n .best;
+      test = x;
+      branch = n .branch;
+      count = n .count;
+      halted = n .halted;
+    }
+
+-- find-count ← x
+abbrev pub setCount : ℕ → Node → Node
+setCount x n =
+    record {
+      status = n .status;
+      level = n .level;
+      identity = n .identity;
+      weight = n .weight;
+      best = n .best;
+      test = n .test;
+      branch = n .branch;
+      count = x;
+      halted = n .halted;
+    }
+
+abbrev pub setHalted : ℕ → Node → Node
+setHalted x n =
+    record {
+      status = n .status;
+      level = n .level;
+      identity = n .identity;
+      weight = n .weight;
+      best = n .best;
+      test = n .test;
+      branch = n .branch;
+      count = n .count;
+      halted = x;
+    }
+
+-- Over the own edges for which f holds, last edge number outermost: a loop that goes up over k holds the value at k.
+
+-- the earliest of them, or none
+unfoldable pub earliest : Own → (ℕ → Bool) → ℕ → ℕ
+earliest o f zero = none
+earliest o f (suc n) = cond (o.own n && f n && before o n (earliest o f n)) n (earliest o f n)
+
+-- how many there are
+unfoldable pub number : Own → (ℕ → Bool) → ℕ → ℕ
+number o f zero = 0
+number o f (suc n) = number o f n + bit (o.own n && f n)
+
+-- m on each of them, by rising edge number
+unfoldable pub onEach : Own → (ℕ → Bool) → Msg → ℕ → List Send
+onEach o f m zero = []
+onEach o f m (suc n) = onEach o f m n ++ cond (o.own n && f n) (record { edge = n; msg = m } ∷ []) []
+
+-- every edge
+abbrev pub every : ℕ → Bool
+every k = true
+
+-- "adjacent edges in the state Basic"
+abbrev pub basic : Work → ℕ → Bool
+basic w k = eqb (w .mark k) BASIC
+
+-- "all i ≠ j such that SE(i) = Branch"
+abbrev pub branches : ℕ → Work → ℕ → Bool
+branches j w k = not (eqb k j) && eqb (w .mark k) BRANCH
+
+-- the number of own edges
+abbrev pub degree : Own → ℕ
+degree o = number o every (o.edges)
