@@ -1,0 +1,25 @@
+-- Samples: the definitions compute.
+use Prim.Native.Nat.{ℕ, zero, suc, _+_}
+use mathlib.Core.Path.{_≡_, refl}
+use mathlib.Core.Bool.{Bool, true, false, cond}
+use mathlib.Core.List.{List, [], _∷_}
+use lib.ListN.{getD}
+use lib.Dec.{ltb, eqb}
+use Rattle.graph.specs.Graph.{Graph}
+use Rattle.graph.specs.Decide.{inTree, connected}
+
+-- three nodes, edges 0-1, 0-2, 1-2, all of the same cost: the lower number is earlier, and the tree is 0-1 and 0-2
+triangle : Graph
+triangle = record { L = 3; lo = λ e. getD (0 ∷ 0 ∷ 1 ∷ []) e 0; hi = λ e. getD (1 ∷ 2 ∷ 2 ∷ []) e 0 }
+
+tree-012 : (inTree triangle ltb 0 ∷ inTree triangle ltb 1 ∷ inTree triangle ltb 2 ∷ []) ≡ (true ∷ true ∷ false ∷ [])
+unfolding triangle inTree
+tree-012 = refl
+
+joined-3 : connected triangle 3 ≡ true
+unfolding triangle connected
+joined-3 = refl
+
+not-4 : connected triangle 4 ≡ false
+unfolding triangle connected
+not-4 = refl
