@@ -1,2 +1,4 @@
 pub mod Work
 pub mod Rules
+pub mod Table
+pub mod Samples

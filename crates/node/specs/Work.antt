@@ -1,7 +1,7 @@
 -- What a response works on: a node, its own edges with their marks and order, the messages sent.
 -- A module of document 01 is a node, a link an edge.
 use Prim.Native.Nat.{ℕ, zero, suc, _+_}
-use mathlib.Core.Bool.{Bool, true, false, not, cond, _&&_, _||_}
+use mathlib.Core.Bool.{Bool, true, false, not, cond, _&&_}
 use mathlib.Core.List.{List, [], _∷_, _++_}
 use lib.Dec.{eqb}
 use Rattle.base.specs.Cond.{bit, upd}
@@ -43,6 +43,11 @@ abbrev pub setup : Node
 setup =
     record { status = ASLEEP; level = 0; identity = none; weight = none; best = none; test = none; branch = none; count = 0; halted = 0 }
 
+-- the nine numbers, in document 01's order
+abbrev pub values : Node → List ℕ
+values n =
+    n .status ∷ n .level ∷ n .identity ∷ n .weight ∷ n .best ∷ n .test ∷ n .branch ∷ n .count ∷ n .halted ∷ []
+
 -- The edges as one node sees them: edge numbers are below `edges`, `own` tells those that end here, `earlier` is the order of weights.
 pub record Own : Type 0 where
   pub edges : ℕ
@@ -51,7 +56,7 @@ pub record Own : Type 0 where
 
 -- ""none" is later than all": a is earlier than b, for edges or none
 abbrev pub before : Own → ℕ → ℕ → Bool
-before o a b = not (eqb a none) && (eqb b none || o.earlier a b)
+before o a b = cond (eqb a none) false (cond (eqb b none) true (o.earlier a b))
 
 -- a message and the own edge that it is sent on
 pub record Send : Type 0 where

@@ -1,0 +1,89 @@
+-- The form of a sample: a node with its own edges, a message, and what the response must be, all in numbers.
+use Prim.Native.Nat.{ℕ, zero, suc}
+use mathlib.Core.Bool.{Bool, true, false, cond, _&&_, _||_}
+use mathlib.Core.List.{List, [], _∷_}
+use lib.ListN.{length, getD}
+use lib.Dec.{eqb, ltb}
+use Rattle.message.specs.Msg.{Msg, connect, initiate, test, accept, reject, report, change, none}
+use Rattle.node.specs.declared.Node.{Node}
+use Rattle.node.specs.Work.{Own, Send, Work, values, REFUSED}
+use Rattle.node.specs.Rules.{respond}
+
+-- what a response gives: answer, the nine values, the marks by edge number, the sends as (edge, kind, level, carried, find)
+pub record Outcome : Type 0 where
+  pub answer : ℕ
+  pub node : List ℕ
+  pub marks : List ℕ
+  pub sends : List (List ℕ)
+
+pub record Row : Type 0 where
+  -- for each edge number 1 if it is an own edge, and its weight; equal weights go by number
+  pub own : List ℕ
+  pub weights : List ℕ
+  -- ⌊log2 N⌋
+  pub limit : ℕ
+  pub node : List ℕ
+  pub marks : List ℕ
+  pub edge : ℕ
+  pub msg : Msg
+  pub want : Outcome
+
+abbrev pub ownOf : List ℕ → List ℕ → Own
+ownOf own ws =
+    record {
+      edges = length own;
+      own = λ k. eqb (getD own k 0) 1;
+      earlier = λ a b. ltb (getD ws a 0) (getD ws b 0) || (eqb (getD ws a 0) (getD ws b 0) && ltb a b);
+    }
+
+abbrev pub nodeOf : List ℕ → Node
+nodeOf xs =
+    record {
+      status = getD xs 0 0;
+      level = getD xs 1 0;
+      identity = getD xs 2 0;
+      weight = getD xs 3 0;
+      best = getD xs 4 0;
+      test = getD xs 5 0;
+      branch = getD xs 6 0;
+      count = getD xs 7 0;
+      halted = getD xs 8 0;
+    }
+
+abbrev pub numbers : Msg → List ℕ
+numbers (connect l) = 1 ∷ l ∷ none ∷ 0 ∷ []
+numbers (initiate l f find) = 2 ∷ l ∷ f ∷ find ∷ []
+numbers (test l f) = 3 ∷ l ∷ f ∷ 0 ∷ []
+numbers accept = 4 ∷ 0 ∷ none ∷ 0 ∷ []
+numbers reject = 5 ∷ 0 ∷ none ∷ 0 ∷ []
+numbers (report x) = 6 ∷ 0 ∷ x ∷ 0 ∷ []
+numbers change = 7 ∷ 0 ∷ none ∷ 0 ∷ []
+
+abbrev pub sendsOf : List Send → List (List ℕ)
+sendsOf [] = []
+sendsOf (s ∷ ss) = (s .edge ∷ numbers (s .msg)) ∷ sendsOf ss
+
+-- the first n entries of a table
+abbrev pub listed : (ℕ → ℕ) → ℕ → ℕ → List ℕ
+listed f k zero = []
+listed f k (suc n) = f k ∷ listed f (suc k) n
+
+-- of a refused response only its number counts
+abbrev pub outcome : ℕ → Work → Outcome
+outcome n w =
+    cond (eqb (w .answer) REFUSED)
+    (record { answer = REFUSED; node = []; marks = []; sends = [] })
+    (record { answer = w .answer; node = values (w .node); marks = listed (w .mark) 0 n; sends = sendsOf (w .sends) })
+
+abbrev pub got : Row → Outcome
+got r =
+    outcome (length (r .own))
+    (respond (ownOf (r .own) (r .weights)) (r .limit) (r .msg) (r .edge) (nodeOf (r .node)) (λ k. getD (r .marks) k 0))
+
+abbrev pub gots : List Row → List Outcome
+gots [] = []
+gots (r ∷ rs) = got r ∷ gots rs
+
+abbrev pub wants : List Row → List Outcome
+wants [] = []
+wants (r ∷ rs) = r .want ∷ wants rs
