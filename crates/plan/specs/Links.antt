@@ -1,5 +1,6 @@
 -- A plan value and its links, as a graph.
 use Prim.Native.Nat.{ℕ, _+_}
+use mathlib.Core.List.{List}
 use lib.ListN.{getD}
 use Rattle.plan.specs.declared.Plan.{Plan}
 use Rattle.graph.specs.Graph.{Graph}
@@ -17,9 +18,9 @@ readLow p k = getD (p .near) k 0
 abbrev pub readHigh : Plan → ℕ → ℕ
 readHigh p k = getD (p .far) k 0
 
--- "A link's cost is the sum of its readings."
-unfoldable pub cost : Plan → ℕ → ℕ
-cost p k = readLow p k + readHigh p k
+-- the plan of lent columns
+abbrev pub planOf : ℕ → ℕ → List ℕ → List ℕ → List ℕ → List ℕ → Plan
+planOf n l lower higher near far = record { modules = n; links = l; lower = lower; higher = higher; near = near; far = far }
 
 -- its modules are the nodes, its links the edges
 abbrev pub graphOf : Plan → Graph

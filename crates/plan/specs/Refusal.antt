@@ -1,6 +1,8 @@
 -- The refusals of a plan value, "by the first number that applies".
 use Prim.Native.Nat.{ℕ, zero, suc}
 use mathlib.Core.Bool.{Bool, true, false, cond, not, _&&_, _||_}
+use mathlib.Core.List.{List}
+use lib.ListN.{getD}
 use lib.Dec.{eqb, ltb, leb}
 use Rattle.plan.specs.declared.Plan.{Plan}
 use Rattle.plan.specs.Links.{low, high, readLow, readHigh, graphOf}
@@ -19,9 +21,9 @@ unfoldable pub ascends : ℕ → ℕ → ℕ → ℕ → Bool
 ascends lo hi lo′ hi′ = ltb lo lo′ || (eqb lo lo′ && ltb hi hi′)
 
 -- link k stands after the link before, if there is one
-unfoldable pub inOrder : Plan → ℕ → Bool
-inOrder p zero = true
-inOrder p (suc k) = ascends (low p k) (high p k) (low p (suc k)) (high p (suc k))
+unfoldable pub inOrder : List ℕ → List ℕ → ℕ → Bool
+inOrder lower higher zero = true
+inOrder lower higher (suc k) = ascends (getD lower k 0) (getD higher k 0) (getD lower (suc k) 0) (getD higher (suc k) 0)
 
 -- "16 lower not below higher, or higher not below N; 17 not after the link before; 18 reading above 2000"
 unfoldable pub linkVerdict : ℕ → ℕ → ℕ → Bool → ℕ → ℕ → ℕ
@@ -31,7 +33,7 @@ linkVerdict n lo hi inorder near far =
     (orElse (ltb 2000 near || ltb 2000 far) 18 0))
 
 abbrev pub linkRefusal : Plan → ℕ → ℕ
-linkRefusal p k = linkVerdict (p .modules) (low p k) (high p k) (inOrder p k) (readLow p k) (readHigh p k)
+linkRefusal p k = linkVerdict (p .modules) (low p k) (high p k) (inOrder (p .lower) (p .higher) k) (readLow p k) (readHigh p k)
 
 -- "for each link": n links from k on
 unfoldable pub linksRefusal : Plan → ℕ → ℕ → ℕ

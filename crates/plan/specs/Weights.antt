@@ -1,24 +1,39 @@
 -- The order of the links, by cost and then by number.
-use Prim.Native.Nat.{ℕ, _<_, _≤_}
+use Prim.Native.Nat.{ℕ, _+_, _<_, _≤_}
 use native.Mathlib.Omega.{arith}
 use mathlib.Core.Path.{_≡_, refl, sym, ap, _∙_}
 use mathlib.Core.Logic.{_≢_, _⊎_, inl, inr}
 use mathlib.Core.Bool.{Bool, true, false, cond, _&&_, _||_, false≢true}
+use mathlib.Core.List.{List}
+use lib.ListN.{getD}
 use lib.Dec.{eqb, ltb}
 use borrow.Author.Tests.{ltb-true, lt-ltb, eq-eqb}
 use Rattle.base.specs.None.{none}
 use Rattle.base.specs.Cond.{bool-cases, ltb-cases, eqb-cases, by-eq}
 use Rattle.graph.specs.Order.{Order}
 use Rattle.plan.specs.declared.Plan.{Plan}
-use Rattle.plan.specs.Links.{cost}
+
+-- "A link's cost is the sum of its readings."
+unfoldable pub costIn : List ℕ → List ℕ → ℕ → ℕ
+costIn near far k = getD near k 0 + getD far k 0
 
 -- "Link a is earlier than b if its cost is less, or costs are equal and its number is less"
-unfoldable pub earlier : Plan → ℕ → ℕ → Bool
-earlier p a b = ltb (cost p a) (cost p b) || (eqb (cost p a) (cost p b) && ltb a b)
+unfoldable pub earlierIn : List ℕ → List ℕ → ℕ → ℕ → Bool
+earlierIn near far a b = ltb (costIn near far a) (costIn near far b) || (eqb (costIn near far a) (costIn near far b) && ltb a b)
 
 -- "'none' is later than all": the order of weights, which are links or none
-unfoldable pub before : Plan → ℕ → ℕ → Bool
-before p a b = cond (eqb a none) false (cond (eqb b none) true (earlier p a b))
+unfoldable pub beforeIn : List ℕ → List ℕ → ℕ → ℕ → Bool
+beforeIn near far a b = cond (eqb a none) false (cond (eqb b none) true (earlierIn near far a b))
+
+-- the same of a plan
+abbrev pub cost : Plan → ℕ → ℕ
+cost p = costIn (p .near) (p .far)
+
+abbrev pub earlier : Plan → ℕ → ℕ → Bool
+earlier p = earlierIn (p .near) (p .far)
+
+abbrev pub before : Plan → ℕ → ℕ → Bool
+before p = beforeIn (p .near) (p .far)
 
 -- what "earlier" says, as a fact
 pub record Less (p : Plan) (a b : ℕ) : Type 0 where
@@ -30,7 +45,7 @@ lt-of-ne a b l n = by-eq a b (λ e. absurd (n e)) (λ d. omega arith)
 
 module _ (p : Plan) where
   pub earlier-less : (a b : ℕ) → earlier p a b ≡ true → Less p a b
-  unfolding earlier
+  unfolding earlierIn
   earlier-less a b = ltb-cases (cost p a) (cost p b) (λ t. t || (eqb (cost p a) (cost p b) && ltb a b) ≡ true → Less p a b)
       (λ h e. record { cheap = omega arith; tie = λ q. absurd (omega arith) })
       (λ h. eqb-cases (cost p a) (cost p b) (λ t. (t && ltb a b) ≡ true → Less p a b)
@@ -38,7 +53,7 @@ module _ (p : Plan) where
       (λ d e. absurd (false≢true e)))
 
   pub less-earlier : (a b : ℕ) → Less p a b → earlier p a b ≡ true
-  unfolding earlier
+  unfolding earlierIn
   less-earlier a b l = ltb-cases (cost p a) (cost p b) (λ t. t || (eqb (cost p a) (cost p b) && ltb a b) ≡ true)
       (λ h. refl)
       (λ h. let q : cost p a ≡ cost p b = omega (arith, l .cheap) in rw (eq-eqb (cost p a) (cost p b) q) (lt-ltb a b (l .tie q)))

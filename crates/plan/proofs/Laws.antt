@@ -1,0 +1,61 @@
+-- Laws that the functions' proofs cite, over plain numbers.
+use Prim.Native.Nat.{ℕ, zero, suc, _+_, _*_, _-_, _^_, _≤_, _<_}
+use native.Mathlib.Omega.{arith}
+use native.Mathlib.Nat.{mul-le-mul}
+use mathlib.Core.Path.{_≡_, refl, sym, ap, _∙_}
+use mathlib.Core.Logic.{_≢_}
+use mathlib.Core.Bool.{Bool, true, false, cond, _&&_, _||_, false≢true}
+use mathlib.Core.List.{List}
+use lib.Dec.{eqb, ltb}
+use lib.Pow.{pow-mono}
+use lib.Count.{leadingZeros, leading-top}
+use borrow.Author.Tests.{ltb-true, ltb-false, lt-ltb, le-ltb, eq-eqb, ne-eqb}
+use Rattle.base.specs.Cond.{bool-cases, ltb-cases, by-eq}
+use Rattle.base.specs.Log.{log2, log2-low, log2-high, level-le}
+use Rattle.plan.specs.Weights.{costIn, earlierIn}
+
+-- THE ORDER OF THE LINKS, as it is tested
+
+module _ (near far : List ℕ) (a b x y : ℕ) (p : x ≡ costIn near far a) (q : y ≡ costIn near far b) where
+  pub same-cost : x ≡ y → ltb a b ≡ earlierIn near far a b
+  unfolding earlierIn
+  same-cost e = rw (← p, ← q, le-ltb x y (omega arith), eq-eqb x y e)
+
+  pub other-cost : x ≢ y → ltb x y ≡ earlierIn near far a b
+  unfolding earlierIn
+  other-cost d = rw (← p, ← q, ne-eqb x y d) (bool-cases (ltb x y) (λ e. rw e) (λ e. rw e))
+
+-- THE LOGARITHM
+
+-- the place of the highest digit
+pub log2-is : (j n : ℕ) → 2 ^ j ≤ n → n < 2 ^ suc j → log2 n ≡ j
+log2-is j n l h =
+    let up : j ≤ log2 n = level-le j n l in
+    let down : log2 n ≤ j = bool-cases (ltb j (log2 n)) (λ t. absurd (beyond (ltb-true j (log2 n) t))) (λ t. ltb-false j (log2 n) t) in
+    omega arith
+  where
+    beyond : suc j ≤ log2 n → ⊥
+    beyond g = omega (arith, pow-mono g, log2-low n (omega arith))
+
+-- 32 digits: the zeros above the highest
+pub leading : (n : ℕ) → n ≢ 0 → n < 2 ^ 32 → (leadingZeros 32 n ≤ 31) × (31 - leadingZeros 32 n ≡ log2 n)
+leading n d h =
+    let t = leading-top 32 n (omega arith) h in
+    let e : log2 n ≡ t .0 = log2-is (t .0) n (t .2) (t .3) in
+    (omega (arith, t .1), omega (arith, t .1))
+
+log2-pos : (n : ℕ) → 1 ≤ log2 n → 1 ≤ n
+unfolding log2
+log2-pos zero h = h
+log2-pos (suc n) h = omega arith
+
+-- the first term of the ceiling, for any 16 bits
+pub term-fits : (n t : ℕ) → n < 2 ^ 16 → t ≡ log2 n → 5 * n * t ≤ 4915125
+term-fits n t h e =
+    let small : log2 n ≤ 15 = bool-cases (ltb 15 (log2 n)) (λ g. absurd (beyond (ltb-true 15 (log2 n) g))) (λ g. ltb-false 15 (log2 n) g) in
+    let first : 5 * n ≤ 327675 = omega arith in
+    let second : t ≤ 15 = omega arith in
+    mul-le-mul first second
+  where
+    beyond : 16 ≤ log2 n → ⊥
+    beyond g = omega (arith, pow-mono g, log2-low n (log2-pos n (omega arith)))
