@@ -6,7 +6,7 @@ use lib.ListN.{getD}
 use lib.Dec.{eqb, ltb, leb}
 use Rattle.plan.specs.declared.Plan.{Plan}
 use Rattle.plan.specs.Links.{low, high, readLow, readHigh, graphOf}
-use Rattle.plan.specs.Joined.{connected}
+use Rattle.graph.specs.Decide.{connected}
 
 -- the number where the test says so, else what follows
 abbrev pub orElse : Bool → ℕ → ℕ → ℕ
