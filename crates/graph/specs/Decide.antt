@@ -90,6 +90,12 @@ tree-inTree g earlier e t = bool-cases (joined g (λ f. earlier f e) (g.lo e) (g
     (λ y. absurd (t (joined-way g (λ f. earlier f e) (g.lo e) (g.hi e) y)))
     (λ n. ap not n)
 
+-- an edge that is not in the tree has another way between its ends
+pub way-or-tree : (g : Graph) (earlier : ℕ → ℕ → Bool) (e : ℕ) → Way g (Earlier earlier e) (g.lo e) (g.hi e) ⊎ InTree g earlier e
+way-or-tree g earlier e = bool-cases (joined g (λ f. earlier f e) (g.lo e) (g.hi e))
+    (λ y. inl (joined-way g (λ f. earlier f e) (g.lo e) (g.hi e) y))
+    (λ n. inr (λ w. true≢false (sym (way-joined g (λ f. earlier f e) (g.lo e) (g.hi e) w) ∙ n)))
+
 unfoldable pub inTree? : (g : Graph) (earlier : ℕ → ℕ → Bool) (e : ℕ) → Dec (InTree g earlier e)
 unfolding inTree dec-test
 inTree? g earlier e = dec-test (inTree g earlier e) (inTree-tree g earlier e) (tree-inTree g earlier e)

@@ -6,3 +6,5 @@ pub mod Cut
 pub mod Labels
 pub mod Decide
 pub mod Sample
+pub mod Span
+pub mod Cycle
