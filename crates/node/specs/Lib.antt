@@ -2,3 +2,5 @@ pub mod Work
 pub mod Rules
 pub mod Table
 pub mod Samples
+pub mod Laws
+pub mod First

@@ -55,7 +55,7 @@ pub record Own : Type 0 where
   pub earlier : ℕ → ℕ → Bool
 
 -- ""none" is later than all": a is earlier than b, for edges or none
-abbrev pub before : Own → ℕ → ℕ → Bool
+unfoldable pub before : Own → ℕ → ℕ → Bool
 before o a b = cond (eqb a none) false (cond (eqb b none) true (o.earlier a b))
 
 -- a message and the own edge that it is sent on
