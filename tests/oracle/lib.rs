@@ -1,0 +1,21 @@
+//! The oracle: a second implementation of document 01 in plain Rust, written from that document and the appendix of
+//! Gallager, Humblet and Spira alone. The tests compare the compiled Rattle code with it. Nothing here is proved and
+//! nothing here is fast: it is meant to be read beside the document.
+//!
+//! Standard terms: a module is a node, a link an edge, a plan a weighted graph in a file format, a field the state of
+//! the network, the waiting words its channels and queues.
+
+pub mod field;
+pub mod frame;
+pub mod kruskal;
+pub mod plan;
+pub mod plans;
+pub mod report;
+pub mod rng;
+pub mod rounds;
+pub mod rules;
+pub mod schedule;
+pub mod trace;
+
+#[cfg(test)]
+mod tests;

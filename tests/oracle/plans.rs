@@ -1,0 +1,265 @@
+//! Generators of plans: good ones of many shapes, and damaged bytes.
+
+use crate::frame::{self, CARRIED_BOUND};
+use crate::plan::{Link, Plan, MOST_LINKS, MOST_MODULES, NONE};
+use crate::rng::Rng;
+use std::collections::BTreeSet;
+
+/// How readings are drawn. All but `Wide` make many equal costs.
+#[derive(Clone, Copy, Debug)]
+pub enum Readings {
+    Wide,
+    Few,
+    Same,
+    /// Different readings of the same sum.
+    SameSum,
+    Extreme,
+}
+
+pub const READINGS: [Readings; 5] =
+    [Readings::Wide, Readings::Few, Readings::Same, Readings::SameSum, Readings::Extreme];
+
+type Pairs = Vec<(u16, u16)>;
+
+pub fn path(n: u16) -> Pairs {
+    (1..n).map(|v| (v - 1, v)).collect()
+}
+
+pub fn star(n: u16, centre: u16) -> Pairs {
+    (0..n).filter(|v| *v != centre).map(|v| (v.min(centre), v.max(centre))).collect()
+}
+
+/// A ring of 3 modules or more.
+pub fn ring(n: u16) -> Pairs {
+    let mut pairs = path(n);
+    pairs.push((0, n - 1));
+    pairs
+}
+
+pub fn complete(n: u16) -> Pairs {
+    (0..n).flat_map(|a| (a + 1..n).map(move |b| (a, b))).collect()
+}
+
+/// A random spanning tree over shuffled modules, and further links up to l in all where there is room.
+pub fn connected(rng: &mut Rng, n: u16, l: usize) -> Pairs {
+    let mut order: Vec<u16> = (0..n).collect();
+    rng.shuffle(&mut order);
+    let mut pairs = BTreeSet::new();
+    for i in 1..n as usize {
+        let (a, b) = (order[rng.below(i)], order[i]);
+        pairs.insert((a.min(b), a.max(b)));
+    }
+    let room = n as usize * (n as usize - 1) / 2;
+    while pairs.len() < l.min(room).min(MOST_LINKS) {
+        let (a, b) = (rng.below(n as usize) as u16, rng.below(n as usize) as u16);
+        if a != b {
+            pairs.insert((a.min(b), a.max(b)));
+        }
+    }
+    pairs.into_iter().collect()
+}
+
+/// The plan of n modules and these links, ascending, with drawn readings.
+pub fn plan(rng: &mut Rng, n: u16, mut pairs: Pairs, readings: Readings) -> Plan {
+    pairs.sort();
+    let same = rng.range(0, 2000) as u16;
+    let mut draw = || match readings {
+        Readings::Wide => (rng.range(0, 2000) as u16, rng.range(0, 2000) as u16),
+        Readings::Few => (rng.range(0, 2) as u16, rng.range(0, 2) as u16),
+        Readings::Same => (same, same),
+        Readings::SameSum => {
+            let a = rng.range(0, same as usize) as u16;
+            (a, same - a)
+        }
+        Readings::Extreme => (rng.pick(&[0, 1, 1999, 2000]), rng.pick(&[0, 1, 1999, 2000])),
+    };
+    let links = pairs.into_iter().map(|(lower, higher)| {
+        let (at_lower, at_higher) = draw();
+        Link { lower, higher, at_lower, at_higher }
+    });
+    Plan { modules: n, links: links.collect() }
+}
+
+pub const KINDS: [&str; 9] = ["single", "path", "star", "ring", "complete", "tree", "small", "medium", "full"];
+
+/// A good plan of a kind.
+pub fn good(rng: &mut Rng, kind: &str) -> Plan {
+    let readings = rng.pick(&READINGS);
+    let size = |rng: &mut Rng, least: usize| {
+        let most = rng.pick(&[4, 12, 60, 192]);
+        rng.range(least, most) as u16
+    };
+    let (n, pairs) = match kind {
+        "single" => (1, Vec::new()),
+        "path" => {
+            let n = size(rng, 2);
+            (n, path(n))
+        }
+        "star" => {
+            let n = size(rng, 2);
+            (n, star(n, rng.below(n as usize) as u16))
+        }
+        "ring" => {
+            let n = size(rng, 3);
+            (n, ring(n))
+        }
+        "complete" => {
+            // 35 modules have 595 pairs, 36 have more than 600
+            let n = rng.range(2, 35) as u16;
+            (n, complete(n))
+        }
+        "tree" => {
+            let n = size(rng, 2);
+            (n, connected(rng, n, 0))
+        }
+        "small" => {
+            let n = rng.range(2, 8) as u16;
+            let l = rng.range(n as usize - 1, 28);
+            (n, connected(rng, n, l))
+        }
+        "medium" => {
+            let n = rng.range(9, 100) as u16;
+            let l = rng.range(n as usize - 1, 4 * n as usize);
+            (n, connected(rng, n, l))
+        }
+        _ => (MOST_MODULES, connected(rng, MOST_MODULES, MOST_LINKS)),
+    };
+    plan(rng, n, pairs, readings)
+}
+
+/// A value that a reading, a module number or a count may be damaged to: most lie at a bound.
+fn odd_number(rng: &mut Rng, bound: u16) -> u16 {
+    match rng.below(6) {
+        0 => bound,
+        1 => bound + 1,
+        2 => bound.saturating_sub(1),
+        3 => 0,
+        4 => NONE,
+        _ => rng.next() as u16,
+    }
+}
+
+/// Damages a plan value: its counts, an end of a link, the order of links, a reading, its connectedness.
+fn damage_value(rng: &mut Rng, plan: &mut Plan) {
+    if plan.links.is_empty() {
+        plan.modules = odd_number(rng, MOST_MODULES);
+        return;
+    }
+    let k = rng.below(plan.links.len());
+    match rng.below(11) {
+        0 => plan.modules = odd_number(rng, MOST_MODULES),
+        // one module more, without a link
+        1 => plan.modules += 1,
+        // one module fewer than the links name
+        2 => plan.modules -= 1,
+        3 => plan.links[k].higher = plan.links[k].lower,
+        4 => {
+            let link = &mut plan.links[k];
+            (link.lower, link.higher) = (link.higher, link.lower);
+        }
+        5 => plan.links[k].higher = odd_number(rng, plan.modules),
+        6 => {
+            let other = rng.below(plan.links.len());
+            plan.links.swap(k, other);
+        }
+        // a link twice
+        7 => plan.links.insert(k, plan.links[k]),
+        8 => plan.links[k].at_lower = odd_number(rng, 2000),
+        9 => plan.links[k].at_higher = odd_number(rng, 2000),
+        // all links of one module
+        _ => {
+            let v = plan.links[k].lower;
+            plan.links.retain(|link| link.lower != v && link.higher != v);
+        }
+    }
+}
+
+/// More than 600 links with a fitting length, good but for their number.
+fn too_many(rng: &mut Rng) -> Plan {
+    let mut pairs = complete(rng.range(37, 60) as u16);
+    pairs.truncate(rng.pick(&[601, 602, 666]));
+    let n = 1 + pairs.iter().map(|p| p.1).max().unwrap();
+    plan(rng, n, pairs, Readings::Wide)
+}
+
+/// Damages bytes: flips, truncation, appended bytes, version, length, counts.
+fn damage_bytes(rng: &mut Rng, bytes: &mut Vec<u8>) {
+    match rng.below(7) {
+        0 => {
+            for _ in 0..rng.range(1, 3) {
+                let at = rng.below(bytes.len().max(1));
+                if let Some(byte) = bytes.get_mut(at) {
+                    *byte ^= 1 << rng.below(8);
+                }
+            }
+        }
+        1 => bytes.truncate(rng.below(bytes.len() + 1)),
+        2 => bytes.truncate(rng.below(12)),
+        3 => {
+            for _ in 0..rng.range(1, 9) {
+                let byte = rng.byte();
+                bytes.push(byte);
+            }
+        }
+        4 if !bytes.is_empty() => bytes[0] = rng.pick(&[0, 2, 3, 128, 255]),
+        5 if bytes.len() >= 3 => bytes[1 + rng.below(2)] = rng.byte(),
+        6 if bytes.len() >= 7 => bytes[5 + rng.below(2)] = rng.byte(),
+        _ => {}
+    }
+}
+
+/// The bytes of a plan with one damage or several, or random bytes. Some come out whole.
+pub fn damaged(rng: &mut Rng) -> Vec<u8> {
+    if rng.once_in(40) {
+        return (0..rng.below(40)).map(|_| rng.byte()).collect();
+    }
+    if rng.once_in(40) {
+        return too_many(rng).encode();
+    }
+    let kind = rng.pick(&KINDS);
+    let mut plan = good(rng, kind);
+    for _ in 0..rng.below(3) {
+        damage_value(rng, &mut plan);
+    }
+    let mut bytes = plan.encode();
+    for _ in 0..rng.pick(&[0, 0, 0, 1, 1, 2]) {
+        damage_bytes(rng, &mut bytes);
+    }
+    bytes
+}
+
+/// A frame's six bytes: a good one, one with numbers at their bounds, or a damaged one.
+pub fn damaged_frame(rng: &mut Rng) -> Vec<u8> {
+    if rng.once_in(20) {
+        return (0..rng.below(9)).map(|_| rng.byte()).collect();
+    }
+    let carried = match rng.below(4) {
+        0 => NONE,
+        1 => rng.pick(&[0, 1, 255, 256, 598, 599, 600, 601, 65534]),
+        2 => rng.below(CARRIED_BOUND as usize) as u16,
+        _ => rng.next() as u16,
+    };
+    let header = if rng.once_in(2) { rng.byte() } else { good_header(rng) };
+    let c = carried.to_be_bytes();
+    let mut bytes = vec![1, 0, 3, header, c[0], c[1]];
+    match rng.below(12) {
+        0 => bytes.truncate(rng.below(6)),
+        1 => bytes.push(rng.byte()),
+        2 => bytes[0] = rng.byte(),
+        3 => bytes[1] = rng.byte(),
+        4 => bytes[2] = rng.byte(),
+        5 => bytes[rng.below(6)] ^= 1 << rng.below(8),
+        _ => {}
+    }
+    bytes
+}
+
+/// A header that is listed with some carried number.
+fn good_header(rng: &mut Rng) -> u8 {
+    loop {
+        let header = rng.byte();
+        if [0, NONE].iter().any(|c| frame::Message::listed(header, *c, CARRIED_BOUND).is_some()) {
+            return header;
+        }
+    }
+}

@@ -1,0 +1,66 @@
+//! Schedules: version byte 1, the length of what follows, and 3 bytes a step.
+
+use crate::field::Field;
+use crate::plan::be16;
+
+#[derive(Clone, Copy, Debug, PartialEq, Eq)]
+pub struct Step {
+    pub kind: u8,
+    pub number: u16,
+}
+
+/// What a run answers: steps done (or rounds completed) and the refusal that ended it, or none.
+#[derive(Clone, Copy, Debug, PartialEq, Eq)]
+pub struct Answer {
+    pub done: u32,
+    pub refusal: Option<u32>,
+}
+
+impl Answer {
+    pub fn refused(refusal: u32) -> Answer {
+        Answer { done: 0, refusal: Some(refusal) }
+    }
+}
+
+/// Reads a schedule: 51 to 54, or its steps. Every kind is checked before any step is taken.
+pub fn read(bytes: &[u8]) -> Result<Vec<Step>, u32> {
+    if bytes.len() < 3 {
+        return Err(51);
+    }
+    if bytes[0] != 1 {
+        return Err(52);
+    }
+    let length = be16(bytes, 1) as usize;
+    if length != bytes.len() - 3 || length % 3 != 0 {
+        return Err(53);
+    }
+    let steps: Vec<Step> = bytes[3..].chunks_exact(3).map(|b| Step { kind: b[0], number: be16(b, 1) }).collect();
+    if steps.iter().any(|s| s.kind < 1 || s.kind > 3) {
+        return Err(54);
+    }
+    Ok(steps)
+}
+
+pub fn encode(steps: &[Step]) -> Vec<u8> {
+    let mut out = vec![1];
+    out.extend_from_slice(&((3 * steps.len()) as u16).to_be_bytes());
+    for step in steps {
+        out.push(step.kind);
+        out.extend_from_slice(&step.number.to_be_bytes());
+    }
+    out
+}
+
+/// A run of a schedule: 31, then 51 to 54, then the steps up to the first refused one.
+pub fn run(field: &mut Field, words: &mut [u64], bytes: &[u8]) -> Answer {
+    let steps = match field.check(words).and_then(|_| read(bytes)) {
+        Ok(steps) => steps,
+        Err(refusal) => return Answer::refused(refusal),
+    };
+    for (done, step) in steps.iter().enumerate() {
+        if let Err(refusal) = field.take(words, step.kind, step.number) {
+            return Answer { done: done as u32, refusal: Some(refusal) };
+        }
+    }
+    Answer { done: steps.len() as u32, refusal: None }
+}
