@@ -8,3 +8,5 @@ pub mod Decide
 pub mod Sample
 pub mod Span
 pub mod Cycle
+pub mod Least
+pub mod Size

@@ -1,11 +1,11 @@
 -- The rank of an edge: how many edges are earlier. It turns `earlier` into `<` on numbers.
-use Prim.Native.Nat.{ℕ, _≤_, _<_, zero-le}
+use Prim.Native.Nat.{ℕ, _≤_, _<_}
 use native.Mathlib.Omega.{arith}
 use native.Mathlib.Decide.{decLe}
 use mathlib.Core.Path.{_≡_, refl, sym, ap, _∙_}
 use mathlib.Core.Logic.{_≢_, _⊎_, inl, inr, by-cases}
 use mathlib.Core.Bool.{Bool, true, false, true≢false}
-use Rattle.base.specs.Cond.{bool-cases, by-eq, bit}
+use Rattle.base.specs.Cond.{bool-cases, by-eq, bit, bit-le, bit-mono}
 use Rattle.base.specs.Sum.{sum, sum-lt, sum-const}
 use Rattle.graph.specs.Graph.{Graph, Way}
 use Rattle.graph.specs.Order.{Order, InTree}
@@ -13,14 +13,6 @@ use Rattle.graph.specs.Ways.{wider}
 
 unfoldable pub rank : {L : ℕ} → Order L → ℕ → ℕ
 rank {L} o k = sum L (λ j. bit (o.earlier j k))
-
-bit-mono : (a b : Bool) → (a ≡ true → b ≡ true) → bit a ≤ bit b
-bit-mono true b h = rw (h refl) (omega arith)
-bit-mono false b h = zero-le
-
-bit-le : (b : Bool) → bit b ≤ 1
-bit-le true = omega arith
-bit-le false = omega arith
 
 module _ {L : ℕ} (o : Order L) where
   pub rank-lt : (a b : ℕ) → a < L → o.earlier a b ≡ true → rank o a < rank o b

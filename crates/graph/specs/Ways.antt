@@ -128,3 +128,13 @@ module _ {g : Graph} where
       at : Joins g m u v → S m → Way g (But S m) v t ⊎ Uses g S m v t → Way g (But S m) u t ⊎ Uses g S m u t
       at jm sm (inl x) = inr (use-first jm sm x)
       at jm sm (inr x) = meet jm sm x (ends-two jm (x.joins))
+
+  pub uses-wider : {S T : ℕ → Type 0} {m u v : ℕ} → ((e : ℕ) → e < g.L → S e → T e) → Uses g S m u v → Uses g T m u v
+  uses-wider {m} f x = record {
+    from = x.from;
+    to = x.to;
+    joins = x.joins;
+    used = f m (joins-lt (x.joins)) (x.used);
+    before = wider (λ e l t. (f e l (t .0), t .1)) (x.before);
+    after = wider (λ e l t. (f e l (t .0), t .1)) (x.after);
+  }
