@@ -1,0 +1,55 @@
+-- Turns one after the other on a state, each of which is taken or refused: ONE loop for every run, its last turn outermost.
+use Prim.Native.Nat.{ℕ, zero, suc}
+use mathlib.Core.Bool.{Bool, cond, not, _&&_}
+use mathlib.Core.List.{List, [], _++_}
+use lib.Dec.{eqb}
+
+-- what a turn answers, 0 for taken or the refusal's number, and what it leaves
+pub record After (S : Type 0) : Type 0 where
+  pub answer : ℕ
+  pub state : S
+
+-- turns done, the refusal that ended them or 0, and what they leave
+pub record Ran (S : Type 0) : Type 0 where
+  pub done : ℕ
+  pub answer : ℕ
+  pub state : S
+
+module _ {S : Type 0} where
+  abbrev pub taken : S → After S
+  taken x = record { answer = 0; state = x }
+
+  -- "A refused call alters no field": x is what it was given
+  abbrev pub refused : ℕ → S → After S
+  refused number x = record { answer = number; state = x }
+
+  -- g on what a leaves, unless a was refused
+  unfoldable pub then : After S → (S → After S) → After S
+  then a g = cond (eqb (a .answer) 0) (g (a .state)) a
+
+  -- turns 0 to n - 1, up to the first that is refused
+  unfoldable pub loop : ℕ → (ℕ → S → After S) → S → After S
+  loop zero g x = taken x
+  loop (suc n) g x = then (loop n g x) (g n)
+
+  -- one turn more, counted if it is taken
+  abbrev pub counted : ℕ → After S → Ran S
+  counted done a = record { done = cond (eqb (a .answer) 0) (suc done) done; answer = a .answer; state = a .state }
+
+  -- turns 0 to n - 1, up to the first that is refused or before which `rest` holds
+  unfoldable pub runs : (S → Bool) → ℕ → (ℕ → S → After S) → S → Ran S
+  runs rest zero g x = record { done = 0; answer = 0; state = x }
+  runs rest (suc n) g x =
+      let r = runs rest n g x in
+      cond (eqb (r .answer) 0 && not (rest (r .state))) (counted (r .done) (g n (r .state))) r
+
+  -- What each turn tells of itself (t), put together over the turns that were come to: of a loop, and of turns that may rest.
+  unfoldable pub tale : {E : Type 0} → ℕ → (ℕ → S → After S) → (ℕ → S → List E) → S → List E
+  tale zero g t x = []
+  tale (suc n) g t x = tale n g t x ++ cond (eqb (loop n g x .answer) 0) (t n (loop n g x .state)) []
+
+  unfoldable pub tales : {E : Type 0} → (S → Bool) → ℕ → (ℕ → S → After S) → (ℕ → S → List E) → S → List E
+  tales rest zero g t x = []
+  tales rest (suc n) g t x =
+      let r = runs rest n g x in
+      tales rest n g t x ++ cond (eqb (r .answer) 0 && not (rest (r .state))) (t n (r .state)) []

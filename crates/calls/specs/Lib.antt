@@ -1,0 +1,5 @@
+pub mod Schedule
+pub mod Rounds
+pub mod Call
+pub mod Trail
+pub mod Demand

@@ -1,0 +1,42 @@
+-- Rounds (synchronous rounds), and a run of them.
+use Prim.Native.Nat.{ℕ, zero, suc, _+_, _*_}
+use mathlib.Core.Bool.{Bool, cond}
+use mathlib.Core.List.{List, [], _∷_}
+use lib.ListN.{length}
+use lib.Dec.{eqb}
+use Rattle.base.specs.Cond.{bit}
+use Rattle.base.specs.Loop.{After, Ran, then, loop, runs}
+use Rattle.plan.specs.declared.Plan.{Plan}
+use Rattle.field.specs.State.{State}
+use Rattle.field.specs.Step.{inAir, inQueue, hand, serve}
+
+-- how many words pass the test
+unfoldable pub many : (ℕ → Bool) → List ℕ → ℕ
+many q [] = 0
+many q (x ∷ l) = bit (q x) + many q l
+
+-- "A round hands over all that each directed link holds, in number order,"
+unfoldable pub handTurn : Plan → ℕ → State → After State
+handTurn p d s = loop (many (inAir d) (s .words)) (λ j. hand p d) s
+
+abbrev pub handPhase : Plan → State → After State
+handPhase p s = loop (2 * p .links) (handTurn p) s
+
+-- "then lets each module in number order serve as many as its queue then held."
+unfoldable pub serveTurn : Plan → ℕ → State → After State
+serveTurn p v s = loop (many (inQueue p v) (s .words)) (λ j. serve p v) s
+
+abbrev pub servePhase : Plan → State → After State
+servePhase p s = loop (p .modules) (serveTurn p) s
+
+unfoldable pub round : Plan → State → After State
+round p s = then (handPhase p s) (servePhase p)
+
+-- "At rest means no word waits."
+abbrev pub atRest : State → Bool
+atRest s = eqb (length (s .words)) 0
+
+-- "A run of rounds gets a 16-bit limit, stops at rest, at the limit or at a refused step, and answers rounds completed and that refusal or none.
+-- A round is completed once its last module had its turn; rest ends a run only between rounds."
+abbrev pub roundsRun : Plan → ℕ → State → Ran State
+roundsRun p limit s = runs atRest limit (λ i. round p) s

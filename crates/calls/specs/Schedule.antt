@@ -1,0 +1,52 @@
+-- Schedules: the bytes, their refusals 51 to 54, a run.
+use Prim.Native.Nat.{ℕ, _+_, _-_, _*_, _/_, _%_}
+use mathlib.Core.Bool.{Bool, false, cond, not, _&&_, _||_}
+use mathlib.Core.List.{List}
+use lib.ListN.{length, getD}
+use lib.Dec.{eqb, ltb, leb}
+use Rattle.base.specs.Test.{every}
+use Rattle.base.specs.Loop.{After, Ran, runs}
+use Rattle.plan.specs.declared.Plan.{Plan}
+use Rattle.field.specs.State.{State}
+use Rattle.field.specs.Step.{step}
+
+-- "Integers are 16-bit big-endian."
+abbrev pub at16 : List ℕ → ℕ → ℕ
+at16 s i = getD s i 0 * 256 + getD s (i + 1) 0
+
+-- "A schedule is version byte 1, the length of what follows, and 3 bytes a step: kind (1 wake, 2 hand over, 3 serve) and a number."
+abbrev pub stepsIn : List ℕ → ℕ
+stepsIn bytes = (length bytes - 3) / 3
+
+abbrev pub kindOf : List ℕ → ℕ → ℕ
+kindOf bytes i = getD bytes (3 + 3 * i) 0
+
+abbrev pub numberOf : List ℕ → ℕ → ℕ
+numberOf bytes i = at16 bytes (4 + 3 * i)
+
+abbrev pub lengthFits : List ℕ → Bool
+lengthFits bytes = eqb (at16 bytes 1 + 3) (length bytes) && eqb (at16 bytes 1 % 3) 0
+
+abbrev pub kindListed : ℕ → Bool
+kindListed kind = leb 1 kind && leb kind 3
+
+-- the first that applies: "51 fewer than 3 bytes; 52 version; 53 length wrong or not a multiple of 3; 54 a kind not 1 to 3 (checked throughout
+-- before any step ..)"
+unfoldable pub scheduleRefusal : List ℕ → ℕ
+scheduleRefusal bytes =
+    cond (ltb (length bytes) 3) 51
+    (cond (not (eqb (getD bytes 0 0) 1)) 52
+    (cond (not (lengthFits bytes)) 53
+    (cond (not (every (stepsIn bytes) (λ i. kindListed (kindOf bytes i)))) 54 0)))
+
+-- step i of the schedule
+abbrev pub stepAt : Plan → List ℕ → ℕ → State → After State
+stepAt p bytes i s = step p (kindOf bytes i) (numberOf bytes i) s
+
+-- nothing but a refusal ends a schedule early
+abbrev pub never : State → Bool
+never s = false
+
+-- "A run answers with the steps done and the refusal that ended it, or none."
+abbrev pub scheduleRun : Plan → List ℕ → State → Ran State
+scheduleRun p bytes s = runs never (stepsIn bytes) (stepAt p bytes) s

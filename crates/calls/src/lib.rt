@@ -1,0 +1,1 @@
+// Schedules, rounds and lists of calls: definitions, and demand 3 stated over them.

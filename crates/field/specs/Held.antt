@@ -1,0 +1,61 @@
+-- A field and the words lent with it: what the host holds. Setup, and a step given alone.
+use Prim.Native.Nat.{ℕ, zero, suc, _-_}
+use mathlib.Core.Bool.{Bool, cond, not, _&&_}
+use mathlib.Core.List.{List, [], _++_}
+use lib.ListN.{length, replicate}
+use lib.Dec.{eqb, ltb}
+use Rattle.base.specs.Loop.{After, taken, refused}
+use Rattle.plan.specs.declared.Plan.{Plan}
+use Rattle.plan.specs.Refusal.{planRefusal}
+use Rattle.node.specs.Work.{setup}
+use Rattle.field.specs.declared.Field.{Field}
+use Rattle.field.specs.Edges.{ceilingOf}
+use Rattle.field.specs.State.{State, values}
+use Rattle.field.specs.Step.{step}
+use Rattle.field.specs.Valid.{waitingIn, zeroAfter, enough, fits}
+
+pub record Held : Type 0 where
+  pub field : Field
+  pub words : List ℕ
+
+-- the n lent words in which `words` wait: "from the front and without gaps, zero after the last"
+abbrev pub layout : ℕ → List ℕ → List ℕ
+layout n words = words ++ replicate (n - length words) 0
+
+-- what a step works on, and the same put back
+abbrev pub stateOf : Held → State
+stateOf h =
+    record { cells = h .field .cells; marks = h .field .marks; words = waitingIn (h .words); sent = h .field .sent }
+
+abbrev pub heldOf : Held → State → Held
+heldOf h s =
+    record {
+      field = record { plan = h .field .plan; cells = s .cells; marks = s .marks; sent = s .sent };
+      words = layout (length (h .words)) (s .words);
+    }
+
+-- 31 does not apply
+unfoldable pub valid : Held → Bool
+valid h =
+    eqb (planRefusal (h .field .plan)) 0 && enough (h .field .plan) (h .words) && zeroAfter (h .words) && fits (h .field .plan) (stateOf h)
+
+-- "Setup gives zeros and nones": the cells of n modules
+unfoldable pub freshCells : ℕ → List ℕ
+freshCells zero = []
+freshCells (suc n) = values setup ++ freshCells n
+
+abbrev pub fresh : Plan → Field
+fresh p = record { plan = p; cells = freshCells 192; marks = replicate 1200 0; sent = 0 }
+
+-- "Setup needs M words or more and zeroes all of them. The sent count starts at 0". "21 fewer words than M .. (.. after the plan's checks)"
+unfoldable pub setUp : Plan → List ℕ → After Held
+setUp p lent =
+    cond (not (eqb (planRefusal p) 0)) (refused (planRefusal p) (record { field = fresh p; words = lent }))
+    (cond (ltb (length lent) (ceilingOf p)) (refused 21 (record { field = fresh p; words = lent }))
+    (taken (record { field = fresh p; words = replicate (length lent) 0 })))
+
+-- A step given alone: 31 "before all else", then 54, 41 to 45, 32, 33.
+unfoldable pub stepAlone : ℕ → ℕ → Held → After Held
+stepAlone kind number h =
+    cond (not (valid h)) (refused 31 h)
+    (let a = step (h .field .plan) kind number (stateOf h) in record { answer = a .answer; state = heldOf h (a .state) })
