@@ -6,7 +6,7 @@ use mathlib.Core.Bool.{Bool, true, false, cond}
 use lib.Dec.{eqb}
 use Rattle.base.specs.Cond.{eqb-cases, by-eq}
 use Rattle.graph.specs.Graph.{Graph, Joins, Way, stop, go}
-use Rattle.graph.specs.Ways.{join, hop, back, wider, here, joins-lt, ends-two}
+use Rattle.graph.specs.Ways.{join, hop, back, wider, here, joins-lt, ends-alike}
 
 -- fr labels the nodes of D by the parts that the edges of S make
 pub record Labels (g : Graph) (D : ℕ → Type 0) (S : ℕ → Type 0) (fr : ℕ → ℕ) : Type 0 where
@@ -63,13 +63,17 @@ module _ {g : Graph} {D S : ℕ → Type 0} {fr : ℕ → ℕ} where
       both : rename (fr a) (fr b) (fr a) ≡ rename (fr a) (fr b) (fr b)
       both = rename-from (fr a) (fr b) ∙ sym (rename-to (fr a) (fr b))
 
-      at : (u v : ℕ) → ((u ≡ a) × (v ≡ b)) ⊎ ((u ≡ b) × (v ≡ a)) → rename (fr a) (fr b) (fr u) ≡ rename (fr a) (fr b) (fr v)
-      at u v (inl p) = rw (p .0, p .1) both
-      at u v (inr p) = rw (p .0, p .1) (sym both)
-
       whole : (e u v : ℕ) → Joins g e u v → With S m e → rename (fr a) (fr b) (fr u) ≡ rename (fr a) (fr b) (fr v)
       whole e u v k (inl s) = ap (rename (fr a) (fr b)) (l.whole e u v k s)
-      whole e u v k (inr q) = at u v (ends-two (subst (λ x. Joins g x u v) (sym q) k) j)
+      whole e u v k (inr q) = ends-alike (λ w. rename (fr a) (fr b) (fr w)) (subst (λ x. Joins g x u v) (sym q) k) j both
+
+  -- an edge m whose ends have one label already changes no label
+  pub labels-keep : (m a b : ℕ) → Joins g m a b → fr a ≡ fr b → Labels g D S fr → Labels g D (With S m) fr
+  labels-keep m a b j p l = record { sound = λ u v du dv e. wider (λ f lf s. inl s) (l.sound u v du dv e); whole = whole }
+    where
+      whole : (e u v : ℕ) → Joins g e u v → With S m e → fr u ≡ fr v
+      whole e u v k (inl s) = l.whole e u v k s
+      whole e u v k (inr q) = ends-alike fr (subst (λ x. Joins g x u v) (sym q) k) j p
 
 -- with no edge each node is a part
 pub labels-none : (g : Graph) (D : ℕ → Type 0) → Labels g D (λ e. ⊥) (λ w. w)

@@ -11,7 +11,7 @@ use Rattle.base.specs.Sum.{sum, sum-le, sum-change}
 use Rattle.base.specs.Search.{least, Least, lt-suc-cases}
 use Rattle.graph.specs.Graph.{Graph, Joins, up, Way}
 use Rattle.graph.specs.Order.{Order}
-use Rattle.graph.specs.Ways.{But, Uses, uses-wider, split, join, hop, back, wider, through, along, against, joins-lt}
+use Rattle.graph.specs.Ways.{But, Uses, uses-wider, around, split, hop, wider, through, along, joins-lt}
 use Rattle.graph.specs.Rank.{rank, rank-inj, rank-bound, rank-earlier, tree-rank}
 use Rattle.graph.specs.Decide.{Set, inTree, inTree-tree, tree-inTree}
 use Rattle.graph.specs.Span.{spans-edge}
@@ -81,18 +81,14 @@ module _ (g : Graph) (cost : ℕ → ℕ) where
       gone : upd s f false m ≡ false
       gone = upd-elim (λ b. b ≡ false) s f false m (λ e. refl) (λ n. sm)
 
-  -- the way between the ends of m that used f once: m and what is left of it join the ends of f
-  swap-spans : (s : ℕ → Bool) (f m : ℕ) → m < g.L → Uses g (Set s) f (g.lo m) (g.hi m) → Spanning g s → Spanning g (swap s f m)
-  swap-spans s f m lm x sp e u v j = through edge (sp e u v j)
-    where
-      keep : {a b : ℕ} → Way g (But (Set s) f) a b → Way g (Set (swap s f m)) b a
-      keep w = back (wider (λ k l t. swap-keeps s f m k (t .0) (t .1)) w)
-
-      ends : Way g (Set (swap s f m)) (g.lo f) (g.hi f)
-      ends = against (x.joins) (join (keep (x.before)) (join (hop (up lm refl refl) (upd-same (upd s f false) m true)) (keep (x.after))))
-
-      edge : (k a b : ℕ) → Joins g k a b → s k ≡ true → Way g (Set (swap s f m)) a b
-      edge k a b i t = by-eq f k (λ q. along (subst (λ y. Joins g y a b) (sym q) i) ends) (λ d. hop i (swap-keeps s f m k t d))
+-- where a way between the ends of m used f once, the new set joins what the old one did
+swap-spans : (g : Graph) (s : ℕ → Bool) (f m : ℕ) → m < g.L → Uses g (Set s) f (g.lo m) (g.hi m) → Spanning g s → Spanning g (swap s f m)
+swap-spans g s f m lm x sp e u v j = through edge (sp e u v j)
+  where
+    edge : (k a b : ℕ) → Joins g k a b → s k ≡ true → Way g (Set (swap s f m)) a b
+    edge k a b i t = by-eq f k
+        (λ q. along (subst (λ y. Joins g y a b) (sym q) i) (around x lm (upd-same (upd s f false) m true) (λ y l z. swap-keeps s f m y (z .0) (z .1))))
+        (λ d. hop i (swap-keeps s f m k t d))
 
 module _ (g : Graph) (o : Order (g.L)) (cost : ℕ → ℕ) (mono : (a b : ℕ) → o.earlier a b ≡ true → cost a ≤ cost b) where
   -- s has the tree edges of rank below r
@@ -114,7 +110,7 @@ module _ (g : Graph) (o : Order (g.L)) (cost : ℕ → ℕ) (mono : (a b : ℕ) 
   exchange : (s : ℕ → Bool) (r m f : ℕ) → Spanning g s → Has s r → m < g.L → Lacks s r m → ¬ (rank o f < rank o m) → Uses g (Set s) f (g.lo m) (g.hi m) → Better s r
   exchange s r m f sp h lm t n x = record {
     set = swap s f m;
-    spanning = swap-spans g cost s f m lm x sp;
+    spanning = swap-spans g s f m lm x sp;
     more = more;
     cheaper = swap-total g cost s f m lf lm (x.used) (t .1 .1) (mono m f (rank-earlier o m f lm lf later));
   }
@@ -157,6 +153,7 @@ module _ (g : Graph) (o : Order (g.L)) (cost : ℕ → ℕ) (mono : (a b : ℕ) 
       (λ e l. bool-cases (inTree g (o.earlier) e) (λ t. rw (t, h e l t (omega (arith, rank-bound o e l))) (omega arith)) (λ t. rw t zero-le))
   least-from (suc k) r q s sp h = let b = better s r sp h in omega (arith, b.cheaper, least-from k (suc r) (omega arith) (b.set) (b.spanning) (b.more))
 
+  -- LEAST TOTAL COST
   pub tree-least : (s : ℕ → Bool) → Spanning g s → total g cost (inTree g (o.earlier)) ≤ total g cost s
   tree-least s sp = least-from (g.L) 0 (omega arith) s sp (λ e l t z. absurd (not-suc-le-zero z))
 

@@ -10,3 +10,4 @@ pub mod Span
 pub mod Cycle
 pub mod Least
 pub mod Size
+pub mod Kruskal

@@ -1,6 +1,6 @@
 -- Ways joined, turned round and widened; where a way leaves a set of nodes; ways without one edge.
 use Prim.Native.Nat.{ℕ, _<_}
-use mathlib.Core.Path.{_≡_, refl, sym, subst, _∙_}
+use mathlib.Core.Path.{_≡_, refl, sym, ap, subst, _∙_}
 use mathlib.Core.Logic.{_≢_, _⊎_, inl, inr}
 use mathlib.Core.Bool.{Bool, true, false, true≢false}
 use Rattle.base.specs.Cond.{bool-cases, by-eq}
@@ -58,6 +58,14 @@ module _ {g : Graph} where
       settle : {u v w : ℕ} → ((u ≡ u) × (v ≡ w)) ⊎ ((u ≡ w) × (v ≡ u)) → v ≡ w
       settle (inl s) = s .1
       settle (inr s) = s .1 ∙ s .0
+
+  -- what f says alike of the two ends
+  pub ends-alike : (f : ℕ → ℕ) {e u v a b : ℕ} → Joins g e u v → Joins g e a b → f a ≡ f b → f u ≡ f v
+  ends-alike f j k q = alike (ends-two j k) q
+    where
+      alike : {u v a b : ℕ} → ((u ≡ a) × (v ≡ b)) ⊎ ((u ≡ b) × (v ≡ a)) → f a ≡ f b → f u ≡ f v
+      alike (inl p) q = ap f (p .0) ∙ q ∙ ap f (sym (p .1))
+      alike (inr p) q = ap f (p .0) ∙ sym q ∙ ap f (sym (p .1))
 
   -- no loop: the ends differ
   pub ends-diff : {e u v : ℕ} → g.lo e ≢ g.hi e → Joins g e u v → u ≢ v
@@ -128,6 +136,10 @@ module _ {g : Graph} where
       at : Joins g m u v → S m → Way g (But S m) v t ⊎ Uses g S m v t → Way g (But S m) u t ⊎ Uses g S m u t
       at jm sm (inl x) = inr (use-first jm sm x)
       at jm sm (inr x) = meet jm sm x (ends-two jm (x.joins))
+
+  -- a way between the ends of k uses m once: then k and the rest of that way join the ends of m
+  pub around : {S T : ℕ → Type 0} {m k : ℕ} → Uses g S m (g.lo k) (g.hi k) → k < g.L → T k → ((e : ℕ) → e < g.L → But S m e → T e) → Way g T (g.lo m) (g.hi m)
+  around x l t f = against (x.joins) (join (back (wider f (x.before))) (join (hop (up l refl refl) t) (back (wider f (x.after)))))
 
   pub uses-wider : {S T : ℕ → Type 0} {m u v : ℕ} → ((e : ℕ) → e < g.L → S e → T e) → Uses g S m u v → Uses g T m u v
   uses-wider {m} f x = record {
