@@ -1,11 +1,12 @@
 -- THE CUT PROPERTY: the earliest edge that leaves a set of nodes is in the tree.
-use Prim.Native.Nat.{ℕ, _≤_, _<_}
+use Prim.Native.Nat.{ℕ, _≤_}
 use native.Mathlib.Omega.{arith}
-use mathlib.Core.Path.{_≡_, refl, sym, _∙_}
+use mathlib.Core.Path.{_≡_, sym, _∙_}
+use mathlib.Core.Logic.{_≢_}
 use mathlib.Core.Bool.{Bool, true, false, true≢false}
 use Rattle.graph.specs.Graph.{Graph, Joins}
 use Rattle.graph.specs.Order.{Order, InTree}
-use Rattle.graph.specs.Ways.{along, cross}
+use Rattle.graph.specs.Ways.{along, cross, here}
 use Rattle.graph.specs.Rank.{rank, rank-tree}
 
 -- edge e leaves X, and no edge that leaves X is earlier
@@ -21,3 +22,7 @@ pub cut-rank : (g : Graph) (o : Order (g.L)) (X : ℕ → Bool) (e a b : ℕ) �
 cut-rank g o X e a b j xa xb first = rank-tree g o e (λ w.
     let c = cross X (along j w) xa xb in
     omega (arith, c.used, first (c.edge) (c.from) (c.to) (c.joins) (c.inside) (c.outside)))
+
+-- a loop is never in the tree
+pub tree-ends : (g : Graph) (earlier : ℕ → ℕ → Bool) (e : ℕ) → InTree g earlier e → g.lo e ≢ g.hi e
+tree-ends g earlier e t q = t (here q)

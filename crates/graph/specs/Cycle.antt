@@ -1,11 +1,10 @@
 -- The tree has no cycle: no tree edge can be spared.
-use Prim.Native.Nat.{ℕ, zero, suc, _≤_, _<_}
+use Prim.Native.Nat.{ℕ, zero, suc, _<_}
 use native.Mathlib.Omega.{arith}
 use native.Mathlib.Nat.{not-suc-le-zero}
 use native.Mathlib.Decide.{decLt, ℕ-discrete}
-use mathlib.Core.Path.{_≡_, refl, sym, ap, subst, _∙_}
+use mathlib.Core.Path.{_≡_, sym, _∙_}
 use mathlib.Core.Logic.{_≢_, _⊎_, inl, inr, by-cases, Dec·and, Dec·not}
-use mathlib.Core.Bool.{Bool, true, false}
 use Rattle.base.specs.Cond.{by-eq}
 use Rattle.base.specs.Search.{least, Least}
 use Rattle.graph.specs.Graph.{Graph, Way}

@@ -1,15 +1,15 @@
 -- Ways are decided: labels are merged edge by edge. So are the path rule and "connected".
-use Prim.Native.Nat.{ℕ, zero, suc, _<_, _≤_, zero-le}
+use Prim.Native.Nat.{ℕ, zero, suc, _<_, _≤_}
 use native.Mathlib.Omega.{arith}
-use native.Mathlib.Nat.{not-suc-le-zero, le-refl}
-use mathlib.Core.Path.{_≡_, refl, sym, ap, subst, _∙_}
-use mathlib.Core.Logic.{_≢_, _⊎_, inl, inr}
+use native.Mathlib.Nat.{not-suc-le-zero}
+use mathlib.Core.Path.{_≡_, refl, sym, ap, _∙_}
+use mathlib.Core.Logic.{_⊎_, inl, inr}
 use mathlib.Core.Bool.{Bool, true, false, not, cond, true≢false}
 use lib.Dec.{eqb}
-use Rattle.base.specs.Cond.{eqb-cases, eqb-same, by-eq, bool-cases}
+use Rattle.base.specs.Cond.{eqb-cases, eqb-same, bool-cases}
 use Rattle.base.specs.Test.{every, every-all, all-every, decided, decided-yes, yes-decided, dec-test}
 use Rattle.base.specs.Search.{lt-suc-cases}
-use Rattle.graph.specs.Graph.{Graph, Joins, up, Way}
+use Rattle.graph.specs.Graph.{Graph, up, Way}
 use Rattle.graph.specs.Order.{Earlier, InTree}
 use Rattle.graph.specs.Ways.{Any, join, back, wider}
 use Rattle.graph.specs.Labels.{Labels, With, rename, labels-way, labels-same, labels-add, labels-none}

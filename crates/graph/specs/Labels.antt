@@ -2,9 +2,9 @@
 use Prim.Native.Nat.{ℕ, _<_}
 use mathlib.Core.Path.{_≡_, refl, sym, ap, subst, _∙_}
 use mathlib.Core.Logic.{_≢_, _⊎_, inl, inr}
-use mathlib.Core.Bool.{Bool, true, false, cond}
+use mathlib.Core.Bool.{cond}
 use lib.Dec.{eqb}
-use Rattle.base.specs.Cond.{eqb-cases, by-eq}
+use Rattle.base.specs.Cond.{eqb-cases}
 use Rattle.graph.specs.Graph.{Graph, Joins, Way, stop, go}
 use Rattle.graph.specs.Ways.{join, hop, back, wider, here, joins-lt, ends-alike}
 

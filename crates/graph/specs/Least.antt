@@ -4,7 +4,7 @@ use native.Mathlib.Omega.{arith}
 use native.Mathlib.Nat.{not-suc-le-zero}
 use native.Mathlib.Decide.{decLt, ℕ-discrete}
 use mathlib.Core.Path.{_≡_, refl, sym, ap, subst, _∙_}
-use mathlib.Core.Logic.{_≢_, _⊎_, inl, inr, by-cases, Dec·and}
+use mathlib.Core.Logic.{_≢_, _⊎_, inl, inr, Dec·and}
 use mathlib.Core.Bool.{Bool, true, false, cond, true≢false, Bool-discrete}
 use Rattle.base.specs.Cond.{by-eq, bool-cases, upd, upd-same, upd-other, upd-elim}
 use Rattle.base.specs.Sum.{sum, sum-le, sum-change}

@@ -1,10 +1,9 @@
 -- Samples: the definitions compute.
-use Prim.Native.Nat.{ℕ, zero, suc, _+_}
 use mathlib.Core.Path.{_≡_, refl}
-use mathlib.Core.Bool.{Bool, true, false, cond}
-use mathlib.Core.List.{List, [], _∷_}
+use mathlib.Core.Bool.{true, false}
+use mathlib.Core.List.{[], _∷_}
 use lib.ListN.{getD}
-use lib.Dec.{ltb, eqb}
+use lib.Dec.{ltb}
 use Rattle.graph.specs.Graph.{Graph}
 use Rattle.graph.specs.Decide.{inTree, connected}
 
@@ -23,3 +22,7 @@ joined-3 = refl
 not-4 : connected triangle 4 ≡ false
 unfolding triangle connected
 not-4 = refl
+
+no-node : connected triangle 0 ≡ true
+unfolding triangle connected
+no-node = refl

@@ -3,7 +3,7 @@ use Prim.Native.Nat.{ℕ, _≤_, _<_}
 use native.Mathlib.Omega.{arith}
 use mathlib.Core.Path.{_≡_}
 use mathlib.Core.Logic.{_⊎_, inl, inr}
-use mathlib.Core.Bool.{Bool, true, false}
+use mathlib.Core.Bool.{true}
 use Rattle.base.specs.Search.{by-measure}
 use Rattle.graph.specs.Graph.{Graph, Joins, Way}
 use Rattle.graph.specs.Order.{Order, Earlier, InTree}
