@@ -1,0 +1,3 @@
+pub mod Plan
+pub mod State
+pub mod Step
