@@ -1,3 +1,12 @@
 pub mod Plan
 pub mod State
 pub mod Step
+pub mod Kind
+pub mod Chan
+pub mod Notion
+pub mod Fragments
+pub mod Decisions
+pub mod Search
+pub mod Traffic
+pub mod Inv
+pub mod Prelude

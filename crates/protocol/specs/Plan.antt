@@ -4,22 +4,22 @@ use native.Mathlib.Omega.{arith}
 use mathlib.Core.Path.{_≡_, refl, sym, ap, _∙_}
 use mathlib.Core.Logic.{_≢_, _⊎_, inl, inr}
 use mathlib.Core.Bool.{Bool, cond}
-use lib.Dec.{eqb, ltb}
+use lib.Dec.{eqb}
 use Rattle.base.specs.Cond.{eqb-cases}
-use Rattle.graph.specs.Graph.{Graph, Joins, up, down}
-use Rattle.graph.specs.Order.{InTree}
+use Rattle.graph.specs.Graph.{Graph, Joins}
+use Rattle.graph.specs.Order.{Order, InTree}
+use Rattle.graph.specs.Ways.{joins-lt, ends-diff}
+use Rattle.graph.specs.Rank as R
 use Rattle.message.specs.Msg.{none}
 
 pub record Plan : Type 0 where
   pub g : Graph
   -- number of nodes
   pub N : ℕ
-  -- place of an edge in the order: earlier is a smaller rank
-  pub rank : ℕ → ℕ
+  -- which of two edges is earlier
+  pub order : Order g.L
   pub ends-lt : (k : ℕ) → k < g.L → (g.lo k < N) × (g.hi k < N)
   pub no-loop : (k : ℕ) → k < g.L → g.lo k ≢ g.hi k
-  pub rank-lt : (k : ℕ) → k < g.L → rank k < g.L
-  pub rank-inj : (e f : ℕ) → e < g.L → f < g.L → rank e ≡ rank f → e ≡ f
   -- no edge number is `none`
   pub small : g.L ≤ 65535
 
@@ -27,24 +27,45 @@ pub record Plan : Type 0 where
 abbrev pub Ends : Plan → ℕ → ℕ → ℕ → Type 0
 Ends p k u v = Joins p.g k u v
 
-abbrev pub earlier : Plan → ℕ → ℕ → Bool
-earlier p a b = ltb (p.rank a) (p.rank b)
-
 -- edge k is in the tree
 abbrev pub Tree : Plan → ℕ → Type 0
-Tree p k = InTree p.g (earlier p) k
+Tree p k = InTree p.g (p.order.earlier) k
 
--- place of an edge or none in the order: none is later than all
+-- place of an edge in the order: smaller is earlier
+abbrev pub rank : Plan → ℕ → ℕ
+rank p k = R.rank p.order k
+
+-- the same for an edge or none: none is later than all
 unfoldable pub key : Plan → ℕ → ℕ
-key p k = cond (eqb k none) p.g.L (p.rank k)
+key p k = cond (eqb k none) p.g.L (rank p k)
 
-pub key-none : (p : Plan) → key p none ≡ p.g.L
-unfolding key
-key-none p = refl
+module _ (p : Plan) where
+  pub key-none : key p none ≡ p.g.L
+  unfolding key
+  key-none = refl
 
-pub key-some : (p : Plan) (k : ℕ) → k ≢ none → key p k ≡ p.rank k
-unfolding key
-key-some p k n = eqb-cases k none (λ b. cond b p.g.L (p.rank k) ≡ p.rank k) (λ e. absurd (n e)) (λ m. refl)
+  pub key-some : (k : ℕ) → k ≢ none → key p k ≡ rank p k
+  unfolding key
+  key-some k n = eqb-cases k none (λ b. cond b p.g.L (rank p k) ≡ rank p k) (λ e. absurd (n e)) (λ m. refl)
 
-pub key-edge : (p : Plan) (k : ℕ) → k < p.g.L → key p k ≡ p.rank k
-key-edge p k l = key-some p k (λ e. omega (arith, p.small))
+  pub key-edge : (k : ℕ) → k < p.g.L → key p k ≡ rank p k
+  key-edge k l = key-some k (λ e. omega (arith, p.small))
+
+  pub rank-lt : (k : ℕ) → k < p.g.L → rank p k < p.g.L
+  rank-lt k l = R.rank-bound p.order k l
+
+  pub rank-inj : (e f : ℕ) → e < p.g.L → f < p.g.L → rank p e ≡ rank p f → e ≡ f
+  rank-inj e f a b q = R.rank-inj p.order e f a b q
+
+  -- an edge of the graph is not none, and its ends differ
+  pub edge-some : {k u v : ℕ} → Ends p k u v → k ≢ none
+  edge-some e n = omega (arith, joins-lt e, p.small)
+
+  pub ends-irr : {k u v : ℕ} → Ends p k u v → u ≢ v
+  ends-irr {k} e = ends-diff (p.no-loop k (joins-lt e)) e
+
+  pub ends-key : {k u v : ℕ} → Ends p k u v → key p k ≡ rank p k
+  ends-key {k} e = key-edge k (joins-lt e)
+
+  pub ends-rank : {k u v : ℕ} → Ends p k u v → rank p k < p.g.L
+  ends-rank {k} e = rank-lt k (joins-lt e)

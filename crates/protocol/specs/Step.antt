@@ -9,10 +9,34 @@ use lib.Dec.{eqb}
 use Rattle.base.specs.Cond.{upd, upd2, bit}
 use Rattle.base.specs.Sum.{sum}
 use Rattle.message.specs.Msg.{Msg, none, connect, initiate, test, accept, reject, report, change}
-use Rattle.protocol.specs.Plan.{Plan, Ends, key}
+use Rattle.protocol.specs.Plan.{Plan, Ends, key, rank}
 use Rattle.protocol.specs.State.{
-  State, set-st, set-lev, set-id, set-bw, set-be, set-te, set-ib, set-fc, set-halt, set-mark, set-ch, set-fr, set-gl, set-gc, set-dk, set-dn, set-de,
-  set-due, set-dep, set-side, set-ub, set-owe, set-ot, set-op, set-oo,
+  State,
+  set-st,
+  set-lev,
+  set-id,
+  set-bw,
+  set-be,
+  set-te,
+  set-ib,
+  set-fc,
+  set-halt,
+  set-mark,
+  set-ch,
+  set-fr,
+  set-gl,
+  set-gc,
+  set-dk,
+  set-dn,
+  set-de,
+  set-due,
+  set-dep,
+  set-side,
+  set-ub,
+  set-owe,
+  set-ot,
+  set-op,
+  set-oo,
 }
 
 -- ---- guards
@@ -33,11 +57,11 @@ Blocked s v k change = ⊥
 
 -- k is the earliest own edge of v
 abbrev pub First : Plan → ℕ → ℕ → Type 0
-First p v k = (j w : ℕ) → Ends p j v w → p.rank k ≤ p.rank j
+First p v k = (j w : ℕ) → Ends p j v w → rank p k ≤ rank p j
 
 -- k is the earliest own edge of v with mark Basic
 abbrev pub FirstBasic : Plan → State → ℕ → ℕ → Type 0
-FirstBasic p s v k = (s.mark v k ≡ 0) × ((j w : ℕ) → Ends p j v w → s.mark v j ≡ 0 → p.rank k ≤ p.rank j)
+FirstBasic p s v k = (s.mark v k ≡ 0) × ((j w : ℕ) → Ends p j v w → s.mark v j ≡ 0 → rank p k ≤ rank p j)
 
 -- x is v's Find bit
 abbrev pub Flag : State → ℕ → ℕ → Type 0
@@ -195,7 +219,7 @@ pub data Step (p : Plan) (s : State) : State → Type 0 where
   absorb : {u v k l x : ℕ} {r : List Msg} → Idle s → Ends p k u v → s.st v ≢ 0 → s.ch u k ≡ connect l ∷ r → l < s.lev v → Flag s v x
       → Step p s (absorbed (pop s u k r) u v k x)
   core-reply : {u v k l : ℕ} {r : List Msg} → Idle s → Ends p k u v → s.st v ≢ 0 → s.ch u k ≡ connect l ∷ r → s.lev v ≤ l → s.mark v k ≢ 0
-      → Step p s (send (pop s u k r) v k (initiate (suc (s.lev v)) k 1))
+      → Step p s (send (pop s u k r) v k (initiate (s.lev v + 1) k 1))
   -- (4) Initiate
   tell : {u v k l f x a b d e : ℕ} {r : List Msg} → Idle s → Ends p k u v → s.ch u k ≡ initiate l f x ∷ r → Mode v x a b → Place s u v k d e
       → Step p s (informed p (pop s u k r) v k l f x a d e b)

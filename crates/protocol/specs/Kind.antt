@@ -1,0 +1,248 @@
+-- Kinds of messages: counters for sums over a channel, what may stand before what, the level at the far end of a channel.
+use Prim.Native.Nat.{ℕ, zero, suc, _+_, _≤_, _<_, zero-le}
+use native.Mathlib.Omega.{arith}
+use native.Mathlib.Nat.{le-refl}
+use mathlib.Core.Path.{_≡_, refl, sym, ap, subst, _∙_}
+use mathlib.Core.Logic.{_≢_, _⊎_, inl, inr}
+use mathlib.Core.List.{List, [], _∷_, _++_}
+use Rattle.message.specs.Msg.{Msg, none, connect, initiate, test, accept, reject, report, change}
+
+-- 1 for a Connect
+abbrev pub isC : Msg → ℕ
+isC (connect l) = 1
+isC (initiate l f x) = 0
+isC (test l f) = 0
+isC accept = 0
+isC reject = 0
+isC (report w) = 0
+isC change = 0
+
+-- 1 for an Initiate
+abbrev pub isI : Msg → ℕ
+isI (connect l) = 0
+isI (initiate l f x) = 1
+isI (test l f) = 0
+isI accept = 0
+isI reject = 0
+isI (report w) = 0
+isI change = 0
+
+-- 1 for a Connect or an Initiate
+abbrev pub isCI : Msg → ℕ
+isCI (connect l) = 1
+isCI (initiate l f x) = 1
+isCI (test l f) = 0
+isCI accept = 0
+isCI reject = 0
+isCI (report w) = 0
+isCI change = 0
+
+-- 1 for a Test
+abbrev pub isT : Msg → ℕ
+isT (connect l) = 0
+isT (initiate l f x) = 0
+isT (test l f) = 1
+isT accept = 0
+isT reject = 0
+isT (report w) = 0
+isT change = 0
+
+-- 1 for an answer: an Accept or a Reject
+abbrev pub isA : Msg → ℕ
+isA (connect l) = 0
+isA (initiate l f x) = 0
+isA (test l f) = 0
+isA accept = 1
+isA reject = 1
+isA (report w) = 0
+isA change = 0
+
+-- 1 for an Accept
+abbrev pub isY : Msg → ℕ
+isY (connect l) = 0
+isY (initiate l f x) = 0
+isY (test l f) = 0
+isY accept = 1
+isY reject = 0
+isY (report w) = 0
+isY change = 0
+
+-- 1 for a Report
+abbrev pub isR : Msg → ℕ
+isR (connect l) = 0
+isR (initiate l f x) = 0
+isR (test l f) = 0
+isR accept = 0
+isR reject = 0
+isR (report w) = 1
+isR change = 0
+
+-- 1 for a Change-root
+abbrev pub isK : Msg → ℕ
+isK (connect l) = 0
+isK (initiate l f x) = 0
+isK (test l f) = 0
+isK accept = 0
+isK reject = 0
+isK (report w) = 0
+isK change = 1
+
+-- the kind's number
+abbrev pub kind : Msg → ℕ
+kind (connect l) = 1
+kind (initiate l f x) = 2
+kind (test l f) = 3
+kind accept = 4
+kind reject = 5
+kind (report w) = 6
+kind change = 7
+
+-- first argument: a level, or the weight of a Report
+abbrev pub arg1 : Msg → ℕ
+arg1 (connect l) = l
+arg1 (initiate l f x) = l
+arg1 (test l f) = l
+arg1 accept = 0
+arg1 reject = 0
+arg1 (report w) = w
+arg1 change = 0
+
+-- second argument: an identity
+abbrev pub arg2 : Msg → ℕ
+arg2 (connect l) = 0
+arg2 (initiate l f x) = f
+arg2 (test l f) = f
+arg2 accept = 0
+arg2 reject = 0
+arg2 (report w) = 0
+arg2 change = 0
+
+-- third argument: the Find bit
+abbrev pub arg3 : Msg → ℕ
+arg3 (connect l) = 0
+arg3 (initiate l f x) = x
+arg3 (test l f) = 0
+arg3 accept = 0
+arg3 reject = 0
+arg3 (report w) = 0
+arg3 change = 0
+
+-- a Connect of level n, or an answer
+abbrev pub Only : ℕ → Msg → Type 0
+Only n (connect l) = l ≡ n
+Only n (initiate l f x) = ⊥
+Only n (test l f) = ⊥
+Only n accept = Unit {0}
+Only n reject = Unit {0}
+Only n (report w) = ⊥
+Only n change = ⊥
+
+-- what may be on its way to a sleeper
+abbrev pub Rouse : Msg → Type 0
+Rouse (connect l) = Unit {0}
+Rouse (initiate l f x) = ⊥
+Rouse (test l f) = Unit {0}
+Rouse accept = ⊥
+Rouse reject = ⊥
+Rouse (report w) = ⊥
+Rouse change = ⊥
+
+-- what may stand behind an Initiate of level n
+abbrev pub After : ℕ → Msg → Type 0
+After n (connect l) = ⊥
+After n (initiate l f x) = n < l
+After n (test l f) = Unit {0}
+After n accept = Unit {0}
+After n reject = Unit {0}
+After n (report w) = Unit {0}
+After n change = Unit {0}
+
+-- the first may stand before the second in a channel
+abbrev pub Fits : Msg → Msg → Type 0
+Fits (connect l) m = isC m ≡ 0
+Fits (initiate l f x) m = After l m
+Fits (test l f) m = isT m ≡ 0
+Fits accept m = isA m ≡ 0
+Fits reject m = isA m ≡ 0
+Fits (report w) m = isR m ≡ 0
+Fits change m = isK m ≡ 0
+
+-- the level that the receiver will have once it has served the Initiates of the channel; a is its level now
+abbrev pub top : ℕ → List Msg → ℕ
+top a [] = a
+top a ((connect l) ∷ r) = top a r
+top a ((initiate l f x) ∷ r) = top l r
+top a ((test l f) ∷ r) = top a r
+top a (accept ∷ r) = top a r
+top a (reject ∷ r) = top a r
+top a ((report w) ∷ r) = top a r
+top a (change ∷ r) = top a r
+
+pub kinds : {x y : Msg} → kind x ≢ kind y → x ≢ y
+kinds n e = n (ap kind e)
+
+-- ---- what may stand before a message that is sent
+
+pub fits-connect : (n : ℕ) (m : Msg) → isCI m ≡ 0 → Fits m (connect n)
+fits-connect n (connect l) h = absurd (omega arith)
+fits-connect n (initiate l f x) h = absurd (omega arith)
+fits-connect n (test l f) h = refl
+fits-connect n accept h = refl
+fits-connect n reject h = refl
+fits-connect n (report w) h = refl
+fits-connect n change h = refl
+
+pub fits-test : (n g : ℕ) (m : Msg) → isT m ≡ 0 → Fits m (test n g)
+fits-test n g (connect l) h = refl
+fits-test n g (initiate l f x) h = tt
+fits-test n g (test l f) h = absurd (omega arith)
+fits-test n g accept h = refl
+fits-test n g reject h = refl
+fits-test n g (report w) h = refl
+fits-test n g change h = refl
+
+pub fits-accept : (m : Msg) → isA m ≡ 0 → Fits m accept
+fits-accept (connect l) h = refl
+fits-accept (initiate l f x) h = tt
+fits-accept (test l f) h = refl
+fits-accept accept h = absurd (omega arith)
+fits-accept reject h = absurd (omega arith)
+fits-accept (report w) h = refl
+fits-accept change h = refl
+
+pub fits-reject : (m : Msg) → isA m ≡ 0 → Fits m reject
+fits-reject (connect l) h = refl
+fits-reject (initiate l f x) h = tt
+fits-reject (test l f) h = refl
+fits-reject accept h = absurd (omega arith)
+fits-reject reject h = absurd (omega arith)
+fits-reject (report w) h = refl
+fits-reject change h = refl
+
+pub fits-report : (n : ℕ) (m : Msg) → isR m ≡ 0 → Fits m (report n)
+fits-report n (connect l) h = refl
+fits-report n (initiate l f x) h = tt
+fits-report n (test l f) h = refl
+fits-report n accept h = refl
+fits-report n reject h = refl
+fits-report n (report w) h = absurd (omega arith)
+fits-report n change h = refl
+
+pub fits-change : (m : Msg) → isK m ≡ 0 → Fits m change
+fits-change (connect l) h = refl
+fits-change (initiate l f x) h = tt
+fits-change (test l f) h = refl
+fits-change accept h = refl
+fits-change reject h = refl
+fits-change (report w) h = refl
+fits-change change h = absurd (omega arith)
+
+-- an Initiate goes behind those of lower levels
+pub fits-initiate : (n g y : ℕ) (m : Msg) → ((l f x : ℕ) → m ≡ initiate l f x → l < n) → Fits m (initiate n g y)
+fits-initiate n g y (connect l) h = refl
+fits-initiate n g y (initiate l f x) h = h l f x refl
+fits-initiate n g y (test l f) h = refl
+fits-initiate n g y accept h = refl
+fits-initiate n g y reject h = refl
+fits-initiate n g y (report w) h = refl
+fits-initiate n g y change h = refl

@@ -1,0 +1,77 @@
+-- Clauses on the tree of informed nodes, the search, test edges and best weights that speak of tables, not of channels.
+use Prim.Native.Nat.{ℕ, suc, _+_, _^_, _≤_, _<_}
+use mathlib.Core.Path.{_≡_}
+use mathlib.Core.Logic.{_≢_, _⊎_}
+use Rattle.base.specs.Sum.{sum}
+use Rattle.message.specs.Msg.{none}
+use Rattle.protocol.specs.Plan.{Plan, Ends, rank}
+use Rattle.protocol.specs.Notion.{Informed, Both, Awaits}
+
+-- T1: the in-branch of an informed node v
+pub record Parents (p : Plan) (lev fr gl gc ib ub dep side dk : ℕ → ℕ) : Type 0 where
+  pub t1 : (v : ℕ) → Informed lev fr gl v → ib v ≢ none
+  -- it is the core, at depth 0,
+  pub t1d : (v : ℕ) → Informed lev fr gl v → ib v ≡ gc (fr v) → dep v ≡ 0
+  pub t1s : (v : ℕ) → Informed lev fr gl v → ib v ≡ gc (fr v) → side v ≡ v
+  -- or leads to an informed node u one less deep, of the same side
+  pub t1p : (k v u : ℕ) → Ends p k v u → Informed lev fr gl v → ib v ≡ k → gc (fr v) ≢ k → Informed lev fr gl u × (dep v ≡ suc (dep u)) × (side v ≡ side u)
+  -- the in-branch of a core end is the core
+  pub t1e : (k v u : ℕ) → Ends p k v u → Informed lev fr gl v → gc (fr v) ≡ k → ib v ≡ k
+  -- undecided: it is the inbound edge
+  pub t1u : (v : ℕ) → Informed lev fr gl v → dk (fr v) ≡ 0 → ub v ≡ ib v
+
+-- T2 to T4: those beyond a joined edge, those not informed yet
+pub record Kids (p : Plan) (lev fr gl gc ib ub due : ℕ → ℕ) (mark : ℕ → ℕ → ℕ) : Type 0 where
+  -- an informed node beyond a joined edge that is not the in-branch is a child
+  pub t2 : (k v c : ℕ) → Ends p k v c → Both mark k v c → Informed lev fr gl v → ib v ≢ k → Informed lev fr gl c → ib c ≡ k
+  -- joined nodes that are both uninformed are equally due
+  pub t3 : (k a b : ℕ) → Ends p k a b → Both mark k a b → lev a < gl (fr a) → lev b < gl (fr b) → due a ≡ due b
+  -- an uninformed core end is due, one level below, with the core inbound but not as in-branch
+  pub t4d : (k x y : ℕ) → Ends p k x y → Both mark k x y → gc (fr x) ≡ k → lev x < gl (fr x) → due x ≡ 1
+  pub t4l : (k x y : ℕ) → Ends p k x y → Both mark k x y → gc (fr x) ≡ k → lev x < gl (fr x) → lev x + 1 ≡ gl (fr x)
+  pub t4u : (k x y : ℕ) → Ends p k x y → Both mark k x y → gc (fr x) ≡ k → lev x < gl (fr x) → ub x ≡ k
+  pub t4b : (k x y : ℕ) → Ends p k x y → Both mark k x y → gc (fr x) ≡ k → lev x < gl (fr x) → ib x ≢ k
+
+-- F1: Find means informed, undecided and due
+pub record Finds (st lev fr gl dk due : ℕ → ℕ) : Type 0 where
+  pub f1i : (v : ℕ) → st v ≡ 1 → Informed lev fr gl v
+  pub f1k : (v : ℕ) → st v ≡ 1 → dk (fr v) ≡ 0
+  pub f1u : (v : ℕ) → st v ≡ 1 → due v ≡ 1
+  pub f1 : (v : ℕ) → Informed lev fr gl v → due v ≡ 1 → st v ≡ 1
+
+-- F2, F3, F5: what a node in Find waits for
+pub record Pending (st te fc : ℕ → ℕ) (ot op : ℕ) : Type 0 where
+  -- Find: a Report, an answer, or its response is under way
+  pub f2 : (v : ℕ) → st v ≡ 1 → (fc v ≢ 0) ⊎ ((te v ≢ none) ⊎ ((ot ≡ suc v) ⊎ (op ≡ suc v)))
+  -- else there is no test edge, and nothing to count
+  pub f3t : (v : ℕ) → st v ≢ 1 → te v ≡ none
+  pub f3c : (v : ℕ) → st v ≢ 1 → fc v ≡ 0
+  -- procedures test and report are executed in Find
+  pub f5t : (v : ℕ) → ot ≡ suc v → st v ≡ 1
+  pub f5p : (v : ℕ) → op ≡ suc v → st v ≡ 1
+
+-- F4: the find-count is the number of edges over which a Report is owed (what is owed: Traffic)
+pub record Counts (p : Plan) (fc : ℕ → ℕ) (owe : ℕ → ℕ → ℕ) : Type 0 where
+  pub f4 : (v : ℕ) → fc v ≡ sum p.g.L (owe v)
+  pub f4l : (v k : ℕ) → owe v k ≤ 1
+  pub f4o : (v k : ℕ) → owe v k ≢ 0 → (c : ℕ) × Ends p k v c
+
+-- E2: the test edge of v
+pub record Tests (p : Plan) (te ib : ℕ → ℕ) (mark : ℕ → ℕ → ℕ) (ot : ℕ) : Type 0 where
+  -- it is an own edge,
+  pub e2o : (v : ℕ) → te v ≢ none → (u : ℕ) × Ends p (te v) v u
+  -- and while v waits: earlier own edges are not Basic,
+  pub e2b : (k v u j w : ℕ) → Ends p k v u → Awaits te ot v k → Ends p j v w → mark v j ≡ 0 → rank p k ≤ rank p j
+  -- it is not Rejected; if joined, it is neither the in-branch nor the test edge of the other end
+  pub e2r : (k v : ℕ) → Awaits te ot v k → mark v k ≢ 2
+  pub e2i : (k v u : ℕ) → Ends p k v u → Awaits te ot v k → Both mark k v u → ib v ≢ k
+  pub e2t : (k v u : ℕ) → Ends p k v u → Awaits te ot v k → Both mark k v u → te u ≢ k
+
+-- B1: the best weight of an informed node v
+pub record Weights (p : Plan) (lev fr gl bw be side : ℕ → ℕ) : Type 0 where
+  -- best edge none exactly if best weight none
+  pub b1n : (v : ℕ) → Informed lev fr gl v → bw v ≡ none → be v ≡ none
+  pub b1m : (v : ℕ) → Informed lev fr gl v → be v ≡ none → bw v ≡ none
+  -- it leaves the fragment, from an informed node x of v's side to a node y of no lower level
+  pub b1 : (v : ℕ) → Informed lev fr gl v → bw v ≢ none
+      → (x : ℕ) × (y : ℕ) × Ends p (bw v) x y × (fr x ≡ fr v) × (fr y ≢ fr v) × (gl (fr v) ≤ lev y) × Informed lev fr gl x × (side x ≡ side v)
