@@ -1,0 +1,17 @@
+-- An integer and its two bytes determine each other.
+use Prim.Native.Nat.{ℕ, _+_, _*_, _/_, _%_, _<_}
+use mathlib.Core.Path.{_≡_}
+use mathlib.Core.List.{List, _∷_}
+use native.Mathlib.Omega.{arith}
+use lib.ListN.{getD}
+use Rattle.int16.specs.Int16.{at16}
+
+pub joined : (x : ℕ) → x / 256 * 256 + x % 256 ≡ x
+joined x = omega arith
+
+-- two bytes, of which the low one is a byte, are those of the integer they make
+pub high-byte : (a b : ℕ) → b < 256 → (a * 256 + b) / 256 ≡ a
+high-byte a b p = omega arith
+
+pub low-byte : (a b : ℕ) → b < 256 → (a * 256 + b) % 256 ≡ b
+low-byte a b p = omega arith

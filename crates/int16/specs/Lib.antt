@@ -1,0 +1,2 @@
+pub mod Int16
+pub mod Laws
