@@ -216,6 +216,13 @@ pub fn damaged(rng: &mut Rng) -> Vec<u8> {
     if rng.once_in(40) {
         return too_many(rng).encode();
     }
+    if rng.once_in(40) {
+        // the right length of too little, or of a few random bytes
+        let follow = rng.below(14) as u8;
+        let mut bytes = vec![1, 0, follow];
+        bytes.extend((0..follow).map(|_| rng.byte() & 3));
+        return bytes;
+    }
     let kind = rng.pick(&KINDS);
     let mut plan = good(rng, kind);
     for _ in 0..rng.below(3) {

@@ -1,0 +1,225 @@
+//! Compares the compiled plan check, plan reader and writer, tree builder, frame check, frame reader and writer and the
+//! ceiling with the oracle, input by input. Prints one line of counts, or panics at the first difference.
+
+mod library;
+
+use oracle::plan::{Link, Plan, NONE};
+use oracle::rng::Rng;
+use oracle::{frame, kruskal, plan, plans};
+use std::collections::BTreeMap;
+
+/// Counts of what was compared, and how often each refusal number came.
+#[derive(Default)]
+struct Tally {
+    good_plans: usize,
+    plans: usize,
+    frames: usize,
+    numbers: BTreeMap<u32, usize>,
+}
+
+impl Tally {
+    fn count(&mut self, number: u32) {
+        if number != 0 {
+            *self.numbers.entry(number).or_default() += 1;
+        }
+    }
+}
+
+const GUARD: usize = 16;
+
+/// Lends `len` bytes of a larger buffer of arbitrary bytes. The call must answer `number`, and leave `written` at the
+/// front of the lent bytes and every other byte as it was.
+fn lend(rng: &mut Rng, len: usize, number: u32, written: &[u8], call: impl Fn(&mut [u8]) -> u32) {
+    let before: Vec<u8> = (0..len + 2 * GUARD).map(|_| rng.byte()).collect();
+    let mut buffer = before.clone();
+    let answer = call(&mut buffer[GUARD..GUARD + len]);
+    assert_eq!(answer, number, "the answer");
+    let mut expected = before;
+    expected[GUARD..GUARD + written.len()].copy_from_slice(written);
+    assert_eq!(buffer, expected, "the lent bytes, or those beside them");
+}
+
+/// A call that is refused by `number` and leaves all bytes alone.
+fn refused(rng: &mut Rng, tally: &mut Tally, len: usize, number: u32, call: impl Fn(&mut [u8]) -> u32) {
+    tally.count(number);
+    lend(rng, len, number, &[], call);
+}
+
+/// Bytes that may be a plan: check, copy and tree, with buffers that fit, are longer and are shorter.
+fn compare_plan(rng: &mut Rng, tally: &mut Tally, bytes: &[u8]) {
+    tally.plans += 1;
+    let tree = |out: &mut [u8]| library::tree(bytes, out);
+    let copy = |out: &mut [u8]| library::plan_copy(bytes, out);
+    match plan::read(bytes) {
+        Err(number) => {
+            assert_eq!(library::plan_check(bytes), number, "the check");
+            let len = rng.pick(&[0, 1, bytes.len() / 8, bytes.len(), bytes.len() + 9]);
+            refused(rng, tally, len, number, tree);
+            lend(rng, len, number, &[], copy);
+        }
+        Ok(plan) => {
+            tally.good_plans += 1;
+            assert_eq!(library::plan_check(bytes), 0, "the check");
+            let l = plan.links.len();
+            lend(rng, l, 0, &kruskal::tree(&plan), tree);
+            for len in [l + 1, l + 600, rng.below(l.max(1)), l.saturating_sub(1)] {
+                if len != l {
+                    refused(rng, tally, len, 20, tree);
+                }
+            }
+            lend(rng, bytes.len(), 0, bytes, copy);
+            let longer = bytes.len() + rng.range(1, 40);
+            lend(rng, longer, 0, bytes, copy);
+            for len in [0, bytes.len() - 1, rng.below(bytes.len())] {
+                refused(rng, tally, len, 22, copy);
+            }
+        }
+    }
+}
+
+/// Bytes that may be a frame: check and copy, with a buffer that fits and others.
+fn compare_frame(rng: &mut Rng, tally: &mut Tally, bytes: &[u8]) {
+    tally.frames += 1;
+    let copy = |out: &mut [u8]| library::frame_copy(bytes, out);
+    let other = rng.pick(&[0, 1, 5, 7, 8, 12]);
+    match frame::read(bytes) {
+        Err(number) => {
+            assert_eq!(library::frame_check(bytes), number, "the check");
+            refused(rng, tally, 6, number, copy);
+            lend(rng, other, number, &[], copy);
+        }
+        Ok(_) => {
+            assert_eq!(library::frame_check(bytes), 0, "the check");
+            lend(rng, 6, 0, bytes, copy);
+            refused(rng, tally, other, 64, copy);
+        }
+    }
+}
+
+/// Every plan of 4 modules whose links each cost 0, 1 or 2 or are not there; the unconnected ones are refused.
+fn all_of_four(rng: &mut Rng, tally: &mut Tally) {
+    for code in 0..4u32.pow(6) {
+        let mut plan = Plan { modules: 4, links: Vec::new() };
+        for (i, (lower, higher)) in plans::complete(4).into_iter().enumerate() {
+            let cost = (code >> (2 * i) & 3) as u16;
+            if cost < 3 {
+                plan.links.push(Link { lower, higher, at_lower: cost.min(1), at_higher: cost.saturating_sub(1) });
+            }
+        }
+        compare_plan(rng, tally, &plan.encode());
+    }
+}
+
+/// Every header and carried number in a frame of the right version and length.
+fn all_frames(tally: &mut Tally) {
+    for header in 0..=255 {
+        for carried in 0..=65535u16 {
+            let c = carried.to_be_bytes();
+            let bytes = [1, 0, 3, header, c[0], c[1]];
+            let number = frame::read(&bytes).err().unwrap_or(0);
+            assert_eq!(library::frame_check(&bytes), number, "frame {bytes:02x?}");
+            tally.frames += 1;
+        }
+    }
+}
+
+fn all_ceilings() -> usize {
+    let mut compared = 0;
+    for n in 0..=192 {
+        for l in 0..=600 {
+            assert_eq!(library::ceiling(n, l), plan::ceiling(n, l), "the ceiling of {n}, {l}");
+            compared += 1;
+        }
+    }
+    compared
+}
+
+/// Document 01's samples for plans, tree, ceiling and frames, with the numbers written out here.
+fn samples(rng: &mut Rng) {
+    for (n, l, m) in [(1, 0, 0), (2, 1, 12), (3, 3, 21), (192, 600, 7920)] {
+        assert_eq!(library::ceiling(n, l), m);
+    }
+    let link = |lower, higher, at_lower, at_higher| Link { lower, higher, at_lower, at_higher };
+    let path = |n: u16| Plan { modules: n, links: (1..n).map(|v| link(v - 1, v, 2, 3)).collect() }.encode();
+    let pair = |reading| Plan { modules: 2, links: vec![link(0, 1, reading, 0)] }.encode();
+    let complete: Vec<Link> = plans::complete(60).into_iter().map(|(a, b)| link(a, b, 1, 1)).collect();
+    let many = |l: usize| Plan { modules: 60, links: complete[..l].to_vec() }.encode();
+    let no_link = Plan { modules: 2, links: vec![] }.encode();
+    let two = [1, 0, 0x0C, 0, 2, 0, 1, 0, 0, 0, 1, 0, 3, 0, 4];
+    let numbers: [(&[u8], u32); 10] = [
+        (&[], 11),
+        (&path(193), 14),
+        (&path(192), 0),
+        (&many(601), 15),
+        (&many(600), 0),
+        (&pair(2001), 18),
+        (&pair(2000), 0),
+        (&no_link, 19),
+        (&two, 0),
+        (&two[..14], 13),
+    ];
+    for (bytes, number) in numbers {
+        assert_eq!(library::plan_check(bytes), number);
+    }
+    let triangle = Plan { modules: 3, links: vec![link(0, 1, 2, 3), link(0, 2, 2, 3), link(1, 2, 2, 3)] };
+    lend(rng, 3, 0, &[1, 1, 0], |out| library::tree(&triangle.encode(), out));
+    for frame in [[1, 0, 3, 0x52, 0, 5], [1, 0, 3, 1, 0xFF, 0xFF]] {
+        assert_eq!(library::frame_check(&frame), 0);
+        lend(rng, 6, 0, &frame, |out| library::frame_copy(&frame, out));
+    }
+    assert_eq!(frame::read(&[1, 0, 3, 0x52, 0, 5]), Ok(frame::Message::initiate(2, 5, true)));
+    assert_eq!(frame::read(&[1, 0, 3, 1, 0xFF, 0xFF]), Ok(frame::Message::connect(0)));
+    assert_eq!(plan::be16(&[0xFF, 0xFF], 0), NONE);
+}
+
+/// The plans of samples/; a refused one has its number in its name.
+fn sample_files(rng: &mut Rng, tally: &mut Tally) {
+    for file in std::fs::read_dir("samples").expect("run at the top of the repository") {
+        let path = file.unwrap().path();
+        let name = path.file_stem().unwrap().to_str().unwrap();
+        if path.extension().is_some_and(|e| e == "plan") {
+            let number = name.strip_prefix("refused-").map_or(0, |rest| rest[..2].parse().unwrap());
+            let bytes = std::fs::read(&path).unwrap();
+            assert_eq!(library::plan_check(&bytes), number, "{name}");
+            compare_plan(rng, tally, &bytes);
+        }
+    }
+}
+
+fn main() {
+    let mut rng = Rng::new(20);
+    let mut tally = Tally::default();
+    samples(&mut rng);
+    let ceilings = all_ceilings();
+    for i in 0..450 {
+        let plan = plans::good(&mut rng, plans::KINDS[i % plans::KINDS.len()]);
+        compare_plan(&mut rng, &mut tally, &plan.encode());
+    }
+    assert_eq!(tally.good_plans, 450);
+    sample_files(&mut rng, &mut tally);
+    all_of_four(&mut rng, &mut tally);
+    for _ in 0..15000 {
+        let bytes = plans::damaged(&mut rng);
+        compare_plan(&mut rng, &mut tally, &bytes);
+    }
+    for _ in 0..15000 {
+        let bytes = plans::damaged_frame(&mut rng);
+        compare_frame(&mut rng, &mut tally, &bytes);
+    }
+    let drawn = tally.frames;
+    all_frames(&mut tally);
+
+    let listed = (11..=20).chain([22]).chain(61..=64);
+    for number in listed {
+        let times = tally.numbers.get(&number).copied().unwrap_or(0);
+        assert!(times >= 20, "refusal {number} came only {times} times: {:?}", tally.numbers);
+    }
+    let numbers: Vec<String> = tally.numbers.iter().map(|(number, times)| format!("{number}:{times}")).collect();
+    println!(
+        "ground: {} plans ({} good, tree as Kruskal's), {} frames ({drawn} drawn), {ceilings} ceilings agree; refusals {}",
+        tally.plans,
+        tally.good_plans,
+        tally.frames,
+        numbers.join(" ")
+    );
+}

@@ -1,0 +1,46 @@
+//! Writes the plans of samples/. `make_samples FOLDER`, by samples/make.
+
+use oracle::plan::{Link, Plan};
+use oracle::plans::{complete, connected, path, plan, ring, star, Readings};
+use oracle::report::report;
+use oracle::rng::Rng;
+
+fn two_modules() -> Plan {
+    Plan { modules: 2, links: vec![Link { lower: 0, higher: 1, at_lower: 3, at_higher: 4 }] }
+}
+
+fn triangle() -> Plan {
+    let link = |lower, higher| Link { lower, higher, at_lower: 2, at_higher: 3 };
+    Plan { modules: 3, links: vec![link(0, 1), link(0, 2), link(1, 2)] }
+}
+
+fn main() {
+    let folder = std::env::args().nth(1).expect("a folder to write to");
+    let rng = &mut Rng::new(1983);
+    let full = connected(rng, 192, 600);
+    let mut not_ascending = plan(rng, 5, ring(5), Readings::Wide);
+    not_ascending.links.swap(1, 2);
+    let mut reading_2001 = two_modules();
+    reading_2001.links[0].at_higher = 2001;
+    let plans = [
+        ("single", Plan { modules: 1, links: vec![] }),
+        ("two-modules", two_modules()),
+        ("triangle", triangle()),
+        ("path-8", plan(rng, 8, path(8), Readings::Wide)),
+        ("star-16", plan(rng, 16, star(16, 5), Readings::Few)),
+        ("ring-12", plan(rng, 12, ring(12), Readings::Same)),
+        ("complete-10", plan(rng, 10, complete(10), Readings::SameSum)),
+        ("full-192", plan(rng, 192, full, Readings::Wide)),
+        ("refused-17-not-ascending", not_ascending),
+        ("refused-18-reading-2001", reading_2001),
+        ("refused-19-two-parts", Plan { modules: 2, links: vec![] }),
+    ];
+    for (name, plan) in plans {
+        let bytes = plan.encode();
+        std::fs::write(format!("{folder}/{name}.plan"), &bytes).expect("the folder can be written to");
+        let lines = report(&bytes);
+        let branches = lines.lines().filter(|line| line.starts_with("branch")).count();
+        let rest: Vec<&str> = lines.lines().filter(|line| !line.starts_with("branch")).collect();
+        println!("{name}: {}; branches {branches}", rest.join("; "));
+    }
+}
