@@ -4,15 +4,12 @@ use mathlib.Core.Bool.{Bool, false, cond, not, _&&_, _||_}
 use mathlib.Core.List.{List}
 use lib.ListN.{length, getD}
 use lib.Dec.{eqb, ltb, leb}
+use Rattle.int16.specs.Int16.{at16}
 use Rattle.base.specs.Test.{every}
 use Rattle.base.specs.Loop.{After, Ran, runs}
 use Rattle.plan.specs.declared.Plan.{Plan}
 use Rattle.field.specs.State.{State}
 use Rattle.field.specs.Step.{step}
-
--- "Integers are 16-bit big-endian."
-abbrev pub at16 : List ℕ → ℕ → ℕ
-at16 s i = getD s i 0 * 256 + getD s (i + 1) 0
 
 -- "A schedule is version byte 1, the length of what follows, and 3 bytes a step: kind (1 wake, 2 hand over, 3 serve) and a number."
 abbrev pub stepsIn : List ℕ → ℕ
