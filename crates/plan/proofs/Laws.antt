@@ -12,6 +12,7 @@ use lib.Count.{leadingZeros, leading-top}
 use borrow.Author.Tests.{ltb-true, ltb-false, lt-ltb, le-ltb, eq-eqb, ne-eqb}
 use Rattle.base.specs.Cond.{bool-cases, ltb-cases, by-eq}
 use Rattle.base.specs.Log.{log2, log2-low, log2-high, level-le}
+use Rattle.base.specs.Test.{every}
 use Rattle.plan.specs.Weights.{costIn, earlierIn}
 
 -- THE ORDER OF THE LINKS, as it is tested
@@ -59,3 +60,19 @@ term-fits n t h e =
   where
     beyond : 16 ≤ log2 n → ⊥
     beyond g = omega (arith, pow-mono g, log2-low n (log2-pos n (omega arith)))
+
+-- A TEST OF ALL, from the last down
+
+module _ (p : ℕ → Bool) (v : ℕ) (l : 0 < v) where
+  pub every-goes-on : p (v - 1) ≡ true → every v p ≡ every (v - 1) p
+  unfolding every
+  every-goes-on e = (let s : v ≡ suc (v - 1) = omega arith in ap (λ n. every n p) s) ∙ rw e
+
+  pub every-stops : p (v - 1) ≡ false → every v p ≡ false
+  unfolding every
+  every-stops e = (let s : v ≡ suc (v - 1) = omega arith in ap (λ n. every n p) s) ∙ rw e
+
+pub every-of-none : (p : ℕ → Bool) (v : ℕ) → v ≤ 0 → every v p ≡ true
+unfolding every
+every-of-none p zero l = refl
+every-of-none p (suc v) l = absurd (omega arith)

@@ -22,6 +22,9 @@ readHigh p k = getD (p .far) k 0
 abbrev pub planOf : ℕ → ℕ → List ℕ → List ℕ → List ℕ → List ℕ → Plan
 planOf n l lower higher near far = record { modules = n; links = l; lower = lower; higher = higher; near = near; far = far }
 
--- its modules are the nodes, its links the edges
+-- modules are the nodes, links the edges
+abbrev pub edges : ℕ → List ℕ → List ℕ → Graph
+edges l lower higher = record { L = l; lo = λ k. getD lower k 0; hi = λ k. getD higher k 0 }
+
 abbrev pub graphOf : Plan → Graph
-graphOf p = record { L = p .links; lo = low p; hi = high p }
+graphOf p = edges (p .links) (p .lower) (p .higher)

@@ -1,10 +1,14 @@
 // Plans: the plan value, the order of its links, its check, the ceiling.
 ghost use mathlib.Core.Path.{_≡_};
 ghost use mathlib.Core.Logic.{_⊎_};
-ghost use Prim.Native.Nat.{_+_, _<_};
+ghost use Prim.Native.Nat.{_+_, _<_, _≤_};
 ghost use Rattle.base.specs.Log.{log2};
 ghost use Rattle.plan.specs.Ceiling.{ceiling};
+ghost use Rattle.plan.specs.Links.{planOf};
+ghost use Rattle.plan.specs.Refusal.{ascends, inOrder, linkVerdict, linksRefusal, planRefusal};
 ghost use Rattle.plan.specs.Weights.{earlierIn, beforeIn};
+
+mod parts;
 
 // N modules, L links; of link k the lower and the higher module, and the reading (path loss) at each of the two.
 pub struct Plan {
@@ -70,4 +74,110 @@ pub fn before<'a>(near: &'a [u16; 600], far: &'a [u16; 600], a: u16, b: u16) -> 
         return true;
     }
     earlier(near, far, a, b)
+}
+
+// Whether link (lo2, hi2) stands after link (lo, hi).
+fn ascends(lo: u16, hi: u16, lo2: u16, hi2: u16) -> bool
+    ensures { λ r. ⌜ r ≡ ascends lo hi lo2 hi2 ⌝ }
+{
+    if lo == lo2 {
+        return hi < hi2;
+    }
+    lo < lo2
+}
+
+// Whether link k stands after the link before, if there is one.
+fn in_order<'a>(lower: &'a [u16; 600], higher: &'a [u16; 600], k: usize) -> bool
+    requires { ⌜ k < 600 ⌝ }
+    ensures { λ r. ⌜ r ≡ inOrder (now (lower .entry)) (now (higher .entry)) k ⌝ }
+{
+    if k == 0 {
+        return true;
+    }
+    let j = k - 1;
+    ascends(lower[j], higher[j], lower[k], higher[k])
+}
+
+// 16, 17, 18 or 0 for one link: its ends, whether it is in order, its readings.
+fn link_verdict(n: u16, lo: u16, hi: u16, ordered: bool, near: u16, far: u16) -> u32
+    ensures { λ r. ⌜ r ≡ linkVerdict n lo hi ordered near far ⌝ }
+{
+    if hi <= lo {
+        return 16;
+    }
+    if n <= hi {
+        return 16;
+    }
+    if !ordered {
+        return 17;
+    }
+    if 2000 < near {
+        return 18;
+    }
+    if 2000 < far {
+        return 18;
+    }
+    0
+}
+
+// The first refusal of the first l links.
+fn links_check<'a>(
+    n: u16,
+    l: u16,
+    lower: &'a [u16; 600],
+    higher: &'a [u16; 600],
+    near: &'a [u16; 600],
+    far: &'a [u16; 600],
+) -> u32
+    requires { ⌜ l ≤ 600 ⌝ }
+    ensures { λ r. ⌜ r ≡ linksRefusal (planOf n l (now (lower .entry)) (now (higher .entry)) (now (near .entry)) (now (far .entry))) l 0 ⌝ }
+{
+    let end = l as usize;
+    let mut k: usize = 0;
+    while k < end {
+        let ordered = in_order(lower, higher, k);
+        let r = link_verdict(n, lower[k], higher[k], ordered, near[k], far[k]);
+        if r != 0 {
+            return r;
+        }
+        k += 1;
+    }
+    0
+}
+
+// The check of a plan in lent columns: 14 to 19, or 0.
+pub fn check_columns<'a>(
+    n: u16,
+    l: u16,
+    lower: &'a [u16; 600],
+    higher: &'a [u16; 600],
+    near: &'a [u16; 600],
+    far: &'a [u16; 600],
+) -> u32
+    ensures { λ r. ⌜ r ≡ planRefusal (planOf n l (now (lower .entry)) (now (higher .entry)) (now (near .entry)) (now (far .entry))) ⌝ }
+{
+    if n == 0 {
+        return 14;
+    }
+    if 192 < n {
+        return 14;
+    }
+    if 600 < l {
+        return 15;
+    }
+    let r = links_check(n, l, lower, higher, near, far);
+    if r != 0 {
+        return r;
+    }
+    if parts::connected(n as usize, l as usize, lower, higher) {
+        return 0;
+    }
+    19
+}
+
+// The check of a plan value: the first of 14 to 19 that applies, or 0.
+pub fn check(p: Plan) -> u32
+    ensures { λ r. ⌜ r ≡ planRefusal p ⌝ }
+{
+    check_columns(p.modules, p.links, &p.lower, &p.higher, &p.near, &p.far)
 }
