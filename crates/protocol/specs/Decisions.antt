@@ -6,61 +6,71 @@ use Rattle.message.specs.Msg.{none}
 use Rattle.protocol.specs.Plan.{Plan, Ends, key, rank}
 use Rattle.protocol.specs.Notion.{Informed, Both, Bounding, Decision, Rooting}
 
--- D1, M2: dk 3, node z has sent Connect over k
+-- D1: dk 3, node z has sent Connect over k, whose other end is y
+pub record HalfOk (p : Plan) (fr gl lev ub : ℕ → ℕ) (mark : ℕ → ℕ → ℕ) (k z y : ℕ) : Type 0 where
+  -- Branch here, Basic at the other end, which lies outside and is of no lower level
+  pub d1m : mark z k ≡ 1
+  pub d1y : mark y k ≡ 0
+  pub d1o : fr y ≢ fr z
+  pub d1g : gl (fr z) ≤ lev y
+  -- z has its fragment's level, and the edge is inbound for it
+  pub d1l : lev z ≡ gl (fr z)
+  pub d1u : ub z ≡ k
+  -- the edge is not later than any edge that is Basic in the fragment
+  pub d1b : Bounding p fr mark (rank p k) z
+
+-- D1, M2
 pub record Halves (p : Plan) (dk dn de fr gl lev ub : ℕ → ℕ) (mark : ℕ → ℕ → ℕ) : Type 0 where
   -- an edge that is Branch at one end only is that end's decision
   pub m2 : (k v u : ℕ) → Ends p k v u → mark v k ≡ 1 → mark u k ≢ 1 → Decision 3 dk dn de fr v k
   -- the node of the decision lies in the fragment, the edge is its own
   pub d1f : (v : ℕ) → dk (fr v) ≡ 3 → fr (dn (fr v)) ≡ fr v
   pub d1e : (v : ℕ) → dk (fr v) ≡ 3 → (y : ℕ) × Ends p (de (fr v)) (dn (fr v)) y
-  -- Branch here, Basic at the other end, which lies outside and is of no lower level
-  pub d1m : (z k : ℕ) → Decision 3 dk dn de fr z k → mark z k ≡ 1
-  pub d1y : (k z y : ℕ) → Ends p k z y → Decision 3 dk dn de fr z k → mark y k ≡ 0
-  pub d1o : (k z y : ℕ) → Ends p k z y → Decision 3 dk dn de fr z k → fr y ≢ fr z
-  pub d1g : (k z y : ℕ) → Ends p k z y → Decision 3 dk dn de fr z k → gl (fr z) ≤ lev y
-  -- z has its fragment's level, and the edge is inbound for it
-  pub d1l : (z k : ℕ) → Decision 3 dk dn de fr z k → lev z ≡ gl (fr z)
-  pub d1u : (z k : ℕ) → Decision 3 dk dn de fr z k → ub z ≡ k
-  -- the edge is not later than any edge that is Basic in the fragment
-  pub d1b : (z k : ℕ) → Decision 3 dk dn de fr z k → Bounding p fr mark (rank p k) z
+  pub d1 : (k z y : ℕ) → Ends p k z y → Decision 3 dk dn de fr z k → HalfOk p fr gl lev ub mark k z y
 
 -- D2: dk 2, node u has sent Change-root over k to x
+pub record ToldOk (p : Plan) (fr gl gc lev ib ub bw : ℕ → ℕ) (mark : ℕ → ℕ → ℕ) (k u x : ℕ) : Type 0 where
+  -- the edge is joined, and not the core
+  pub d2j : Both mark k u x
+  pub d2g : gc (fr u) ≢ k
+  -- both ends are informed; it is the receiver's in-branch, and inbound for both
+  pub d2i : Informed lev fr gl u
+  pub d2x : Informed lev fr gl x
+  pub d2b : ib x ≡ k
+  pub d2u : ub u ≡ k
+  pub d2v : ub x ≡ k
+  -- the receiver's best weight is not later than any edge that is Basic in the fragment
+  pub d2w : bw x ≢ none
+  pub d2n : Bounding p fr mark (key p (bw x)) x
+
 pub record Tellings (p : Plan) (dk dn de fr gl gc lev ib ub bw : ℕ → ℕ) (mark : ℕ → ℕ → ℕ) : Type 0 where
   pub d2f : (v : ℕ) → dk (fr v) ≡ 2 → fr (dn (fr v)) ≡ fr v
   pub d2e : (v : ℕ) → dk (fr v) ≡ 2 → (x : ℕ) × Ends p (de (fr v)) (dn (fr v)) x
-  -- the edge is joined, and not the core
-  pub d2j : (k u x : ℕ) → Ends p k u x → Decision 2 dk dn de fr u k → Both mark k u x
-  pub d2g : (u k : ℕ) → Decision 2 dk dn de fr u k → gc (fr u) ≢ k
-  -- both ends are informed; it is the receiver's in-branch, and inbound for both
-  pub d2i : (u k : ℕ) → Decision 2 dk dn de fr u k → Informed lev fr gl u
-  pub d2x : (k u x : ℕ) → Ends p k u x → Decision 2 dk dn de fr u k → Informed lev fr gl x
-  pub d2b : (k u x : ℕ) → Ends p k u x → Decision 2 dk dn de fr u k → ib x ≡ k
-  pub d2u : (u k : ℕ) → Decision 2 dk dn de fr u k → ub u ≡ k
-  pub d2v : (k u x : ℕ) → Ends p k u x → Decision 2 dk dn de fr u k → ub x ≡ k
-  -- the receiver's best weight is not later than any edge that is Basic in the fragment
-  pub d2w : (k u x : ℕ) → Ends p k u x → Decision 2 dk dn de fr u k → bw x ≢ none
-  pub d2n : (k u x : ℕ) → Ends p k u x → Decision 2 dk dn de fr u k → Bounding p fr mark (key p (bw x)) x
+  pub d2 : (k u x : ℕ) → Ends p k u x → Decision 2 dk dn de fr u k → ToldOk p fr gl gc lev ib ub bw mark k u x
 
--- D3, F5: dk 1, node x is about to execute procedure change-root
+-- D3: dk 1, node x is about to execute procedure change-root
+pub record RootOk (p : Plan) (fr gl lev ib ub bw : ℕ → ℕ) (mark : ℕ → ℕ → ℕ) (x : ℕ) : Type 0 where
+  -- it is informed, and its best weight is not later than any edge that is Basic in the fragment
+  pub d3i : Informed lev fr gl x
+  pub d3w : bw x ≢ none
+  pub d3b : Bounding p fr mark (key p (bw x)) x
+  -- its in-branch is inbound for both ends
+  pub d3u : ub x ≡ ib x
+  pub d3v : (k y : ℕ) → Ends p k x y → ib x ≡ k → ub y ≡ k
+
+-- D3, F5
 pub record Rootings (p : Plan) (dk dn fr gl lev ib ub bw : ℕ → ℕ) (mark : ℕ → ℕ → ℕ) (oo : ℕ) : Type 0 where
   pub d3f : (v : ℕ) → dk (fr v) ≡ 1 → fr (dn (fr v)) ≡ fr v
   pub d3o : (v : ℕ) → dk (fr v) ≡ 1 → oo ≡ suc (dn (fr v))
   pub f5r : (v : ℕ) → oo ≡ suc v → Rooting dk dn fr v
-  -- it is informed, and its best weight is not later than any edge that is Basic in the fragment
-  pub d3i : (x : ℕ) → Rooting dk dn fr x → Informed lev fr gl x
-  pub d3w : (x : ℕ) → Rooting dk dn fr x → bw x ≢ none
-  pub d3b : (x : ℕ) → Rooting dk dn fr x → Bounding p fr mark (key p (bw x)) x
-  -- its in-branch is inbound for both ends
-  pub d3u : (x : ℕ) → Rooting dk dn fr x → ub x ≡ ib x
-  pub d3v : (k x y : ℕ) → Ends p k x y → Rooting dk dn fr x → ib x ≡ k → ub y ≡ k
+  pub d3 : (x : ℕ) → Rooting dk dn fr x → RootOk p fr gl lev ib ub bw mark x
 
 -- D4 to D6: dk 4, the fragment is finished
 pub record Finishes (p : Plan) (dk fr gl gc lev bw halt due : ℕ → ℕ) (mark : ℕ → ℕ → ℕ) : Type 0 where
   -- nothing is Basic in the fragment
   pub d4 : (k v u : ℕ) → Ends p k v u → dk (fr v) ≡ 4 → mark v k ≢ 0
   -- above level 0 both core ends are informed and found nothing
-  pub d4i : (k x y : ℕ) → Ends p k x y → gc (fr x) ≡ k → dk (fr x) ≡ 4 → 1 ≤ gl (fr x) → Informed lev fr gl x
-  pub d4w : (k x y : ℕ) → Ends p k x y → gc (fr x) ≡ k → dk (fr x) ≡ 4 → 1 ≤ gl (fr x) → bw x ≡ none
+  pub d4i : (k x y : ℕ) → Ends p k x y → gc (fr x) ≡ k → dk (fr x) ≡ 4 → 1 ≤ gl (fr x) → Informed lev fr gl x × (bw x ≡ none)
   -- once decided, nobody is due
   pub d5 : (v : ℕ) → dk (fr v) ≢ 0 → due v ≡ 0
   -- who has halted is a core end, or has no edge, of a finished fragment

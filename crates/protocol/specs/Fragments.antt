@@ -45,17 +45,19 @@ pub record Sizes (p : Plan) (fr gl : ℕ → ℕ) : Type 0 where
 -- G5: above level 0 the core is a joined edge of the fragment
 pub record Cores (p : Plan) (fr gl gc : ℕ → ℕ) (mark : ℕ → ℕ → ℕ) : Type 0 where
   pub g5r : (v : ℕ) → 1 ≤ gl (fr v) → gc (fr v) < p.g.L
-  pub g5j : (v x y : ℕ) → 1 ≤ gl (fr v) → Ends p (gc (fr v)) x y → Both mark (gc (fr v)) x y
-  pub g5 : (v x y : ℕ) → 1 ≤ gl (fr v) → Ends p (gc (fr v)) x y → fr x ≡ fr v
+  pub g5 : (v x y : ℕ) → 1 ≤ gl (fr v) → Ends p (gc (fr v)) x y → Both mark (gc (fr v)) x y × (fr x ≡ fr v)
+
+-- G6: a sleeper is as at setup. (Level, identity, test edge, in-branch, inbound edge, find-count, halted follow: `sleep-lev` .. in Facts)
+pub record AsleepOk (fr gl dk due bw be : ℕ → ℕ) (v : ℕ) : Type 0 where
+  pub g6g : gl (fr v) ≡ 0
+  pub g6d : dk (fr v) ≡ 0
+  pub g6u : due v ≡ 0
+  pub g6w : bw v ≡ none
+  pub g6e : be v ≡ none
 
 -- G6, G7: sleepers and single nodes
 pub record Sleepers (p : Plan) (st fr gl dk due bw be ub halt : ℕ → ℕ) (mark : ℕ → ℕ → ℕ) : Type 0 where
-  -- a sleeper is as at setup (level, identity, test edge, in-branch, find-count, halted: see `asleep` in Facts)
-  pub g6g : (v : ℕ) → st v ≡ 0 → gl (fr v) ≡ 0
-  pub g6d : (v : ℕ) → st v ≡ 0 → dk (fr v) ≡ 0
-  pub g6u : (v : ℕ) → st v ≡ 0 → due v ≡ 0
-  pub g6w : (v : ℕ) → st v ≡ 0 → bw v ≡ none
-  pub g6e : (v : ℕ) → st v ≡ 0 → be v ≡ none
+  pub g6 : (v : ℕ) → st v ≡ 0 → AsleepOk fr gl dk due bw be v
   pub g6m : (v k : ℕ) → st v ≡ 0 → mark v k ≡ 0
   -- an awake node with edges has an inbound edge
   pub u1a : (k v u : ℕ) → Ends p k v u → st v ≢ 0 → ub v ≢ none
@@ -68,8 +70,7 @@ pub record Marks (p : Plan) (fr : ℕ → ℕ) (mark : ℕ → ℕ → ℕ) : Ty
   -- only own edges are marked
   pub own : (v k : ℕ) → mark v k ≢ 0 → (u : ℕ) × Ends p k v u
   -- Rejected: inside the fragment, and not Branch at the other end
-  pub m1 : (k v u : ℕ) → Ends p k v u → mark v k ≡ 2 → fr v ≡ fr u
-  pub m1n : (k v u : ℕ) → Ends p k v u → mark v k ≡ 2 → mark u k ≢ 1
+  pub m1 : (k v u : ℕ) → Ends p k v u → mark v k ≡ 2 → (fr v ≡ fr u) × (mark u k ≢ 1)
   -- joined: inside the fragment
   pub m3 : (k v u : ℕ) → Ends p k v u → Both mark k v u → fr v ≡ fr u
   -- the joined edges connect each fragment

@@ -9,4 +9,7 @@ pub mod Decisions
 pub mod Search
 pub mod Traffic
 pub mod Inv
+pub mod Lemmas
+pub mod Facts
+pub mod Setup
 pub mod Prelude

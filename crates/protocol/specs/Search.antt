@@ -11,8 +11,7 @@ use Rattle.protocol.specs.Notion.{Informed, Both, Awaits}
 pub record Parents (p : Plan) (lev fr gl gc ib ub dep side dk : ℕ → ℕ) : Type 0 where
   pub t1 : (v : ℕ) → Informed lev fr gl v → ib v ≢ none
   -- it is the core, at depth 0,
-  pub t1d : (v : ℕ) → Informed lev fr gl v → ib v ≡ gc (fr v) → dep v ≡ 0
-  pub t1s : (v : ℕ) → Informed lev fr gl v → ib v ≡ gc (fr v) → side v ≡ v
+  pub t1d : (v : ℕ) → Informed lev fr gl v → ib v ≡ gc (fr v) → (dep v ≡ 0) × (side v ≡ v)
   -- or leads to an informed node u one less deep, of the same side
   pub t1p : (k v u : ℕ) → Ends p k v u → Informed lev fr gl v → ib v ≡ k → gc (fr v) ≢ k → Informed lev fr gl u × (dep v ≡ suc (dep u)) × (side v ≡ side u)
   -- the in-branch of a core end is the core
@@ -20,24 +19,30 @@ pub record Parents (p : Plan) (lev fr gl gc ib ub dep side dk : ℕ → ℕ) : T
   -- undecided: it is the inbound edge
   pub t1u : (v : ℕ) → Informed lev fr gl v → dk (fr v) ≡ 0 → ub v ≡ ib v
 
+-- T4: an uninformed core end is due, one level below, with the core inbound but not as in-branch
+pub record LowOk (lev fr gl ib ub due : ℕ → ℕ) (k x : ℕ) : Type 0 where
+  pub t4d : due x ≡ 1
+  pub t4l : lev x + 1 ≡ gl (fr x)
+  pub t4b : ub x ≡ k
+  pub t4i : ib x ≢ k
+
 -- T2 to T4: those beyond a joined edge, those not informed yet
 pub record Kids (p : Plan) (lev fr gl gc ib ub due : ℕ → ℕ) (mark : ℕ → ℕ → ℕ) : Type 0 where
   -- an informed node beyond a joined edge that is not the in-branch is a child
   pub t2 : (k v c : ℕ) → Ends p k v c → Both mark k v c → Informed lev fr gl v → ib v ≢ k → Informed lev fr gl c → ib c ≡ k
   -- joined nodes that are both uninformed are equally due
   pub t3 : (k a b : ℕ) → Ends p k a b → Both mark k a b → lev a < gl (fr a) → lev b < gl (fr b) → due a ≡ due b
-  -- an uninformed core end is due, one level below, with the core inbound but not as in-branch
-  pub t4d : (k x y : ℕ) → Ends p k x y → Both mark k x y → gc (fr x) ≡ k → lev x < gl (fr x) → due x ≡ 1
-  pub t4l : (k x y : ℕ) → Ends p k x y → Both mark k x y → gc (fr x) ≡ k → lev x < gl (fr x) → lev x + 1 ≡ gl (fr x)
-  pub t4u : (k x y : ℕ) → Ends p k x y → Both mark k x y → gc (fr x) ≡ k → lev x < gl (fr x) → ub x ≡ k
-  pub t4b : (k x y : ℕ) → Ends p k x y → Both mark k x y → gc (fr x) ≡ k → lev x < gl (fr x) → ib x ≢ k
+  pub t4u : (k x y : ℕ) → Ends p k x y → Both mark k x y → gc (fr x) ≡ k → lev x < gl (fr x) → LowOk lev fr gl ib ub due k x
 
 -- F1: Find means informed, undecided and due
+pub record FindOk (lev fr gl dk due : ℕ → ℕ) (v : ℕ) : Type 0 where
+  pub f1i : Informed lev fr gl v
+  pub f1k : dk (fr v) ≡ 0
+  pub f1u : due v ≡ 1
+
 pub record Finds (st lev fr gl dk due : ℕ → ℕ) : Type 0 where
-  pub f1i : (v : ℕ) → st v ≡ 1 → Informed lev fr gl v
-  pub f1k : (v : ℕ) → st v ≡ 1 → dk (fr v) ≡ 0
-  pub f1u : (v : ℕ) → st v ≡ 1 → due v ≡ 1
-  pub f1 : (v : ℕ) → Informed lev fr gl v → due v ≡ 1 → st v ≡ 1
+  pub f1 : (v : ℕ) → st v ≡ 1 → FindOk lev fr gl dk due v
+  pub f1d : (v : ℕ) → Informed lev fr gl v → due v ≡ 1 → st v ≡ 1
 
 -- F2, F3, F5: what a node in Find waits for
 pub record Pending (st te fc : ℕ → ℕ) (ot op : ℕ) : Type 0 where
@@ -63,9 +68,10 @@ pub record Tests (p : Plan) (te ib : ℕ → ℕ) (mark : ℕ → ℕ → ℕ) (
   -- and while v waits: earlier own edges are not Basic,
   pub e2b : (k v u j w : ℕ) → Ends p k v u → Awaits te ot v k → Ends p j v w → mark v j ≡ 0 → rank p k ≤ rank p j
   -- it is not Rejected; if joined, it is neither the in-branch nor the test edge of the other end
-  pub e2r : (k v : ℕ) → Awaits te ot v k → mark v k ≢ 2
-  pub e2i : (k v u : ℕ) → Ends p k v u → Awaits te ot v k → Both mark k v u → ib v ≢ k
-  pub e2t : (k v u : ℕ) → Ends p k v u → Awaits te ot v k → Both mark k v u → te u ≢ k
+  pub e2r : (k v u : ℕ) → Ends p k v u → Awaits te ot v k → mark v k ≢ 2
+  pub e2i : (k v u : ℕ) → Ends p k v u → Awaits te ot v k → Both mark k v u → (ib v ≢ k) × (te u ≢ k)
+  -- M6: Rejected at v and Basic at u: u waits for the answer
+  pub m6 : (k v u : ℕ) → Ends p k v u → mark v k ≡ 2 → mark u k ≡ 0 → Awaits te ot u k
 
 -- B1: the best weight of an informed node v
 pub record Weights (p : Plan) (lev fr gl bw be side : ℕ → ℕ) : Type 0 where

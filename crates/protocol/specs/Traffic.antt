@@ -9,7 +9,7 @@ use Rattle.protocol.specs.Plan.{Plan, Ends, key, rank}
 use Rattle.protocol.specs.State.{State}
 use Rattle.protocol.specs.Kind.{isC, isT, isA, isR, isK, Only, Rouse, Fits, top}
 use Rattle.protocol.specs.Chan.{In, Bef}
-use Rattle.protocol.specs.Notion.{GL, GC, DK, Inf, Jn, Half, Told, Root, Waits, Outst, Covered, Child, CoreEnds, Spent}
+use Rattle.protocol.specs.Notion.{Informed, Both, Awaits, GL, GC, DK, Inf, Jn, Half, Told, Root, Waits, Outst, Covered, Child, CoreEnds, Spent}
 
 -- G6: a sleeper has sent nothing, and only Connect and Test are on their way to it
 pub record Hush (p : Plan) (s : State) : Type 0 where
@@ -37,26 +37,27 @@ pub record Tokens (p : Plan) (s : State) : Type 0 where
 pub record Connects (p : Plan) (s : State) : Type 0 where
   pub c1m : (k u v l : ℕ) → Ends p k u v → In (connect l) (s.ch u k) → s.mark u k ≡ 1
   -- on a joined edge: the core, one level below, to an end of that level
-  pub c1c : (k u v l : ℕ) → Ends p k u v → In (connect l) (s.ch u k) → s.mark v k ≡ 1 → GC s u ≡ k
-  pub c1g : (k u v l : ℕ) → Ends p k u v → In (connect l) (s.ch u k) → s.mark v k ≡ 1 → l + 1 ≡ GL s u
-  pub c1l : (k u v l : ℕ) → Ends p k u v → In (connect l) (s.ch u k) → s.mark v k ≡ 1 → s.lev v ≡ l
+  pub c1 : (k u v l : ℕ) → Ends p k u v → In (connect l) (s.ch u k) → s.mark v k ≡ 1 → (GC s u ≡ k) × (l + 1 ≡ GL s u) × (s.lev v ≡ l)
 
 -- I1: an Initiate (l, f, x) from u to v over k
-pub record Initiates (p : Plan) (s : State) : Type 0 where
+pub record InitOk (p : Plan) (lev fr gl gc ub due : ℕ → ℕ) (mark : ℕ → ℕ → ℕ) (k u v l f x : ℕ) : Type 0 where
   -- on a joined edge that is inbound for its receiver, whose level it raises, to at most the fragment's
-  pub i1j : (k u v l f x : ℕ) → Ends p k u v → In (initiate l f x) (s.ch u k) → Jn s k u v
-  pub i1u : (k u v l f x : ℕ) → Ends p k u v → In (initiate l f x) (s.ch u k) → s.ub v ≡ k
-  pub i1l : (k u v l f x : ℕ) → Ends p k u v → In (initiate l f x) (s.ch u k) → s.lev v < l
-  pub i1g : (k u v l f x : ℕ) → Ends p k u v → In (initiate l f x) (s.ch u k) → l ≤ GL s v
+  pub i1j : Both mark k u v
+  pub i1u : ub v ≡ k
+  pub i1l : lev v < l
+  pub i1g : l ≤ gl (fr v)
   -- its identity is an edge inside the fragment
-  pub i1f : (k u v l f x : ℕ) → Ends p k u v → In (initiate l f x) (s.ch u k) → f < p.g.L
-  pub i1i : (k u v l f x a b : ℕ) → Ends p k u v → In (initiate l f x) (s.ch u k) → Ends p f a b → s.fr a ≡ s.fr v
+  pub i1f : f < p.g.L
+  pub i1i : (a b : ℕ) → Ends p f a b → fr a ≡ fr v
   -- at the fragment's level: the core, Find exactly if due, the sender informed or the edge the core
-  pub i1c : (k u v l f x : ℕ) → Ends p k u v → In (initiate l f x) (s.ch u k) → l ≡ GL s v → f ≡ GC s v
-  pub i1d : (k u v l f x : ℕ) → Ends p k u v → In (initiate l f x) (s.ch u k) → l ≡ GL s v → x ≡ s.due v
-  pub i1s : (k u v l f x : ℕ) → Ends p k u v → In (initiate l f x) (s.ch u k) → l ≡ GL s v → GC s v ≢ k → Inf s u
+  pub i1c : l ≡ gl (fr v) → f ≡ gc (fr v)
+  pub i1d : l ≡ gl (fr v) → x ≡ due v
+  pub i1s : l ≡ gl (fr v) → gc (fr v) ≢ k → Informed lev fr gl u
   -- below it: Found
-  pub i1z : (k u v l f x : ℕ) → Ends p k u v → In (initiate l f x) (s.ch u k) → l < GL s v → x ≡ 0
+  pub i1z : l < gl (fr v) → x ≡ 0
+
+pub record Initiates (p : Plan) (s : State) : Type 0 where
+  pub i1 : (k u v l f x : ℕ) → Ends p k u v → In (initiate l f x) (s.ch u k) → InitOk p s.lev s.fr s.gl s.gc s.ub s.due s.mark k u v l f x
 
 -- T2, T4, U2: Initiates to come
 pub record Telling (p : Plan) (s : State) : Type 0 where
@@ -67,15 +68,12 @@ pub record Telling (p : Plan) (s : State) : Type 0 where
   -- a core end: its Connect is on the core, or its Initiate, or it is informed
   pub t4 : (k x y : ℕ) → Ends p k x y → Jn s k x y → GC s x ≡ k → (1 ≤ sumL isC (s.ch x k)) ⊎ (In (initiate (GL s x) k 1) (s.ch y k) ⊎ Inf s x)
   -- while its Connect is there it is not informed, and its Initiate is not there
-  pub t4c : (k x y : ℕ) → Ends p k x y → Jn s k x y → GC s x ≡ k → 1 ≤ sumL isC (s.ch x k) → s.lev x < GL s x
-  pub t4n : (k x y : ℕ) → Ends p k x y → Jn s k x y → GC s x ≡ k → 1 ≤ sumL isC (s.ch x k) → ¬ In (initiate (GL s x) k 1) (s.ch y k)
+  pub t4n : (k x y : ℕ) → Ends p k x y → Jn s k x y → GC s x ≡ k → 1 ≤ sumL isC (s.ch x k) → (s.lev x < GL s x) × (¬ In (initiate (GL s x) k 1) (s.ch y k))
 
 -- E1, E2, M6: a Test, and what the owner of a test edge waits for
 pub record Testing (p : Plan) (s : State) : Type 0 where
   -- it carries level and identity of its informed sender
-  pub e1l : (k u v l f : ℕ) → Ends p k u v → In (test l f) (s.ch u k) → s.lev u ≡ l
-  pub e1f : (k u v l f : ℕ) → Ends p k u v → In (test l f) (s.ch u k) → s.id u ≡ f
-  pub e1i : (k u v l f : ℕ) → Ends p k u v → In (test l f) (s.ch u k) → Inf s u
+  pub e1 : (k u v l f : ℕ) → Ends p k u v → In (test l f) (s.ch u k) → (s.lev u ≡ l) × (s.id u ≡ f) × Inf s u
   -- its sender waits for the answer, or it crossed: Rejected at the sender, and the receiver waits
   pub e1w : (k u v l f : ℕ) → Ends p k u v → In (test l f) (s.ch u k)
       → (Waits s u k × (s.mark u k ≢ 2) × (s.mark u k ≡ 1 → s.mark v k ≡ 1))
@@ -83,21 +81,26 @@ pub record Testing (p : Plan) (s : State) : Type 0 where
   -- who waits has exactly one of: its Test, an answer, a Test of the other end that crossed
   pub e2w : (k v u : ℕ) → Ends p k v u → Waits s v k → Waits s u k → sumL isT (s.ch v k) + sumL isA (s.ch u k) ≡ 1
   pub e2c : (k v u : ℕ) → Ends p k v u → Waits s v k → (s.te u ≢ k) ⊎ (s.ot ≡ suc u) → sumL isT (s.ch v k) + sumL isA (s.ch u k) + sumL isT (s.ch u k) ≡ 1
-  -- Rejected at v and Basic at u: u waits for the answer, and its Test has been served
-  pub m6w : (k v u : ℕ) → Ends p k v u → s.mark v k ≡ 2 → s.mark u k ≡ 0 → Waits s u k
+  -- Rejected at v and Basic at u: u's Test has been served
   pub m6t : (k v u : ℕ) → Ends p k v u → s.mark v k ≡ 2 → s.mark u k ≡ 0 → sumL isT (s.ch u k) ≡ 0
 
--- A1, J1: an answer from u to v over k
+-- A1: an Accept from u to v over k: v waits, the edge is Basic, u is of another fragment and of no lower level
+pub record AcceptOk (te fr lev : ℕ → ℕ) (mark : ℕ → ℕ → ℕ) (ot k u v : ℕ) : Type 0 where
+  pub a1w : Awaits te ot v k
+  pub a1m : mark v k ≡ 0
+  pub a1f : fr u ≢ fr v
+  pub a1l : lev v ≤ lev u
+
+-- J1: a Reject from u to v over k: v waits, u is of the same fragment, and where v is Basic u is Rejected
+pub record RejectOk (te fr : ℕ → ℕ) (mark : ℕ → ℕ → ℕ) (ot k u v : ℕ) : Type 0 where
+  pub j1w : Awaits te ot v k
+  pub j1f : fr u ≡ fr v
+  pub j1m : mark v k ≡ 0 → mark u k ≡ 2
+
+-- A1, J1
 pub record Answers (p : Plan) (s : State) : Type 0 where
-  -- Accept: v waits, the edge is Basic, u is of another fragment and of no lower level
-  pub a1w : (k u v : ℕ) → Ends p k u v → In accept (s.ch u k) → Waits s v k
-  pub a1m : (k u v : ℕ) → Ends p k u v → In accept (s.ch u k) → s.mark v k ≡ 0
-  pub a1f : (k u v : ℕ) → Ends p k u v → In accept (s.ch u k) → s.fr u ≢ s.fr v
-  pub a1l : (k u v : ℕ) → Ends p k u v → In accept (s.ch u k) → s.lev v ≤ s.lev u
-  -- Reject: v waits, u is of the same fragment, and where v is Basic u is Rejected
-  pub j1w : (k u v : ℕ) → Ends p k u v → In reject (s.ch u k) → Waits s v k
-  pub j1f : (k u v : ℕ) → Ends p k u v → In reject (s.ch u k) → s.fr u ≡ s.fr v
-  pub j1m : (k u v : ℕ) → Ends p k u v → In reject (s.ch u k) → s.mark v k ≡ 0 → s.mark u k ≡ 2
+  pub a1 : (k u v : ℕ) → Ends p k u v → In accept (s.ch u k) → AcceptOk s.te s.fr s.lev s.mark s.ot k u v
+  pub j1 : (k u v : ℕ) → Ends p k u v → In reject (s.ch u k) → RejectOk s.te s.fr s.mark s.ot k u v
 
 -- R1: a Report w from u to v over k
 pub record Reports (p : Plan) (s : State) : Type 0 where

@@ -1,0 +1,342 @@
+-- Laws of the relabelling, of the copies of an Initiate, of levels at the far end, and from counts to messages.
+use Prim.Native.Nat.{ℕ, zero, suc, _+_, _*_, _≤_, _<_, zero-le}
+use native.Mathlib.Omega.{arith}
+use native.Mathlib.Nat.{le-refl}
+use mathlib.Core.Path.{_≡_, refl, sym, ap, subst, _∙_}
+use mathlib.Core.Logic.{_≢_, _⊎_, inl, inr, ⊎-elim}
+use mathlib.Core.Bool.{Bool, true, false, not, cond, _&&_}
+use mathlib.Core.List.{List, [], _∷_, _++_}
+use lib.Dec.{eqb}
+use Rattle.base.specs.Cond.{eqb-cases, eqb-same, eqb-diff, by-eq, bit, upd, upd-same, upd-other, upd2}
+use Rattle.base.specs.Pool.{All, nil, con, sumL, sumL-app}
+use Rattle.base.specs.Sum.{sum, sum-change, sum-eq, le-sum}
+use Rattle.graph.specs.Graph.{Joins, up, down}
+use Rattle.message.specs.Msg.{Msg, none, connect, initiate, test, accept, reject, report, change}
+use Rattle.protocol.specs.Plan.{Plan, Ends}
+use Rattle.protocol.specs.State.{State}
+use Rattle.protocol.specs.Step.{bulk, fan, fill, copy}
+use Rattle.protocol.specs.Kind.{isC, isI, isCI, isT, isA, isR, isK, arg1, kinds, Fits, top}
+use Rattle.protocol.specs.Chan.{In, first, next, Bef, heads, tails, in-nil, in-cons, in-snoc, bef-snoc, in-left, in-right, in-sum, some-of}
+use Rattle.protocol.specs.Notion.{Both, Joined}
+
+-- ---- labels: those of label a get x
+
+pub bulk-elim {κ} : {A : Type 0} (P : A → Type κ) (fr : ℕ → ℕ) (a : ℕ) (x : A) (f : ℕ → A) (w : ℕ) → (fr w ≡ a → P x) → (fr w ≢ a → P (f w)) → P (bulk fr a x f w)
+unfolding bulk
+bulk-elim P fr a x f w y n = eqb-cases (fr w) a (λ b. P (cond b x (f w))) y n
+
+pub bulk-in : {A : Type 0} (fr : ℕ → ℕ) (a : ℕ) (x : A) (f : ℕ → A) (w : ℕ) → fr w ≡ a → bulk fr a x f w ≡ x
+bulk-in fr a x f w e = bulk-elim (λ y. y ≡ x) fr a x f w (λ q. refl) (λ n. absurd (n e))
+
+pub bulk-out : {A : Type 0} (fr : ℕ → ℕ) (a : ℕ) (x : A) (f : ℕ → A) (w : ℕ) → fr w ≢ a → bulk fr a x f w ≡ f w
+bulk-out fr a x f w n = bulk-elim (λ y. y ≡ f w) fr a x f w (λ q. absurd (n q)) (λ m. refl)
+
+-- equal labels stay equal
+pub relabel-keep : (fr : ℕ → ℕ) (a c x y : ℕ) → fr x ≡ fr y → bulk fr a c fr x ≡ bulk fr a c fr y
+unfolding bulk
+relabel-keep fr a c x y e = ap (λ z. cond (eqb z a) c z) e
+
+-- equal labels after it: they were equal, or one was a and the other c
+pub relabel-cases {κ} : {C : Type κ} (fr : ℕ → ℕ) (a c x y : ℕ) → bulk fr a c fr x ≡ bulk fr a c fr y
+    → (fr x ≡ fr y → C) → (fr x ≡ a → fr y ≡ c → C) → (fr x ≡ c → fr y ≡ a → C) → C
+relabel-cases {C} fr a c x y = bulk-elim (λ z. z ≡ bulk fr a c fr y → (fr x ≡ fr y → C) → (fr x ≡ a → fr y ≡ c → C) → (fr x ≡ c → fr y ≡ a → C) → C) fr a c fr x
+    (λ p. bulk-elim (λ z. c ≡ z → (fr x ≡ fr y → C) → (fr x ≡ a → fr y ≡ c → C) → (fr x ≡ c → fr y ≡ a → C) → C) fr a c fr y
+    (λ q e f g h. f (p ∙ sym q)) (λ q e f g h. g p (sym e)))
+    (λ p. bulk-elim (λ z. fr x ≡ z → (fr x ≡ fr y → C) → (fr x ≡ a → fr y ≡ c → C) → (fr x ≡ c → fr y ≡ a → C) → C) fr a c fr y
+    (λ q e f g h. h e q) (λ q e f g h. f e))
+
+-- ---- copies of an Initiate
+
+pub both-true : (a b : Bool) → (a && b) ≡ true → (a ≡ true) × (b ≡ true)
+both-true true b e = (refl, e)
+both-true false b e = absurd (mathlib-false e)
+  where
+    mathlib-false : false ≡ true → ⊥
+    mathlib-false q = let z : _≡_ {A = ℕ} 0 1 = cc in omega arith
+
+pub eqb-true : (a b : ℕ) → eqb a b ≡ true → a ≡ b
+eqb-true a b = eqb-cases a b (λ x. x ≡ true → a ≡ b) (λ e h. e) (λ n h. absurd (let z : _≡_ {A = ℕ} 0 1 = cc in omega arith))
+
+-- who gets a copy from v, told over k
+pub copy-yes : (s : State) (v k j : ℕ) → copy s v k j ≡ true → (j ≢ k) × (s.mark v j ≡ 1)
+unfolding copy
+copy-yes s v k j e = let t = both-true (not (eqb j k)) (eqb (s.mark v j) 1) e in (λ q. no-true (rw (q, eqb-same) at (t .0)), eqb-true (s.mark v j) 1 (t .1))
+  where
+    no-true : not true ≡ true → ⊥
+    no-true q = let z : _≡_ {A = ℕ} 0 1 = cc in omega arith
+
+pub copy-on : (s : State) (v k j : ℕ) → j ≢ k → s.mark v j ≡ 1 → copy s v k j ≡ true
+unfolding copy
+copy-on s v k j n e = rw (eqb-diff j k n, e) refl
+
+-- a channel after the copies have been sent
+pub fan-elim {κ} : (P : List Msg → Type κ) (c : ℕ → ℕ → List Msg) (v : ℕ) (f : ℕ → Bool) (m : Msg) (w j : ℕ)
+    → (v ≡ w → f j ≡ true → P (c w j ++ (m ∷ []))) → ((v ≢ w) ⊎ (f j ≡ false) → P (c w j)) → P (fan c v f m w j)
+unfolding fan
+fan-elim P c v f m w j y n = eqb-cases v w (λ b. P (cond (b && f j) (c w j ++ (m ∷ [])) (c w j)))
+    (λ e. go (f j) (λ h. y e h) (λ h. n (inr h))) (λ d. n (inl d))
+  where
+    go : (b : Bool) → (b ≡ true → P (c w j ++ (m ∷ []))) → (b ≡ false → P (c w j)) → P (cond (true && b) (c w j ++ (m ∷ [])) (c w j))
+    go true h g = h refl
+    go false h g = g refl
+
+pub fill-elim {κ} : (P : ℕ → Type κ) (t : ℕ → ℕ → ℕ) (v : ℕ) (f : ℕ → Bool) (x w j : ℕ)
+    → (v ≡ w → f j ≡ true → P x) → ((v ≢ w) ⊎ (f j ≡ false) → P (t w j)) → P (fill t v f x w j)
+unfolding fill
+fill-elim P t v f x w j y n = eqb-cases v w (λ b. P (cond (b && f j) x (t w j)))
+    (λ e. go (f j) (λ h. y e h) (λ h. n (inr h))) (λ d. n (inl d))
+  where
+    go : (b : Bool) → (b ≡ true → P x) → (b ≡ false → P (t w j)) → P (cond (true && b) x (t w j))
+    go true h g = h refl
+    go false h g = g refl
+
+module _ (c : ℕ → ℕ → List Msg) (v : ℕ) (f : ℕ → Bool) (m : Msg) where
+  pub fan-in : {x : Msg} (w j : ℕ) → In x (fan c v f m w j) → In x (c w j) ⊎ ((v ≡ w) × (f j ≡ true) × (x ≡ m))
+  fan-in {x} w j = fan-elim (λ l. In x l → In x (c w j) ⊎ ((v ≡ w) × (f j ≡ true) × (x ≡ m))) c v f m w j
+      (λ a b h. ⊎-elim (λ t. inl t) (λ e. inr (a, b, e)) (in-snoc (c w j) h)) (λ n h. inl h)
+
+  pub in-fan : {x : Msg} (w j : ℕ) → In x (c w j) → In x (fan c v f m w j)
+  in-fan {x} w j h = fan-elim (λ l. In x l) c v f m w j (λ a b. in-left (m ∷ []) h) (λ n. h)
+
+  pub fan-new : (j : ℕ) → f j ≡ true → In m (fan c v f m v j)
+  fan-new j e = fan-elim (λ l. In m l) c v f m v j (λ a b. in-right (c v j) first)
+      (λ n. absurd (⊎-elim (λ h. h refl) (λ h. let z : _≡_ {A = ℕ} 0 1 = clash (sym e ∙ h) in omega arith) n))
+    where
+      clash : true ≡ false → _≡_ {A = ℕ} 0 1
+      clash q = cc
+
+  pub fan-bef : {x y : Msg} (w j : ℕ) → Bef x y (fan c v f m w j) → Bef x y (c w j) ⊎ ((v ≡ w) × (f j ≡ true) × (y ≡ m) × In x (c w j))
+  fan-bef {x} {y} w j = fan-elim (λ l. Bef x y l → Bef x y (c w j) ⊎ ((v ≡ w) × (f j ≡ true) × (y ≡ m) × In x (c w j))) c v f m w j
+      (λ a b h. ⊎-elim (λ t. inl t) (λ e. inr (a, b, e .0, e .1)) (bef-snoc (c w j) h)) (λ n h. inl h)
+
+  pub fan-sum : (g : Msg → ℕ) → g m ≡ 0 → (w j : ℕ) → sumL g (fan c v f m w j) ≡ sumL g (c w j)
+  fan-sum g z w j = fan-elim (λ l. sumL g l ≡ sumL g (c w j)) c v f m w j (λ a b. omega (arith, sumL-app g (c w j) (m ∷ []))) (λ n. refl)
+
+  pub fan-else : (w j : ℕ) → (v ≢ w) ⊎ (f j ≡ false) → fan c v f m w j ≡ c w j
+  fan-else w j n = fan-elim (λ l. l ≡ c w j) c v f m w j
+      (λ a b. absurd (⊎-elim (λ h. h a) (λ h. let z : _≡_ {A = ℕ} 0 1 = clash (sym b ∙ h) in omega arith) n)) (λ q. refl)
+    where
+      clash : true ≡ false → _≡_ {A = ℕ} 0 1
+      clash q = cc
+
+-- ---- the level at the far end
+
+pub top-app : (a l f x : ℕ) (c : List Msg) → top a (c ++ (initiate l f x ∷ [])) ≡ l
+top-app a l f x [] = refl
+top-app a l f x ((connect n) ∷ r) = top-app a l f x r
+top-app a l f x ((initiate n g y) ∷ r) = top-app n l f x r
+top-app a l f x ((test n g) ∷ r) = top-app a l f x r
+top-app a l f x (accept ∷ r) = top-app a l f x r
+top-app a l f x (reject ∷ r) = top-app a l f x r
+top-app a l f x ((report w) ∷ r) = top-app a l f x r
+top-app a l f x (change ∷ r) = top-app a l f x r
+
+-- another kind at the end, or at the head, changes nothing
+pub top-snoc : (a : ℕ) (m : Msg) (c : List Msg) → isI m ≡ 0 → top a (c ++ (m ∷ [])) ≡ top a c
+top-snoc a (connect l) [] h = refl
+top-snoc a (initiate l f x) [] h = absurd (omega arith)
+top-snoc a (test l f) [] h = refl
+top-snoc a accept [] h = refl
+top-snoc a reject [] h = refl
+top-snoc a (report w) [] h = refl
+top-snoc a change [] h = refl
+top-snoc a m ((connect n) ∷ r) h = top-snoc a m r h
+top-snoc a m ((initiate n g y) ∷ r) h = top-snoc n m r h
+top-snoc a m ((test n g) ∷ r) h = top-snoc a m r h
+top-snoc a m (accept ∷ r) h = top-snoc a m r h
+top-snoc a m (reject ∷ r) h = top-snoc a m r h
+top-snoc a m ((report w) ∷ r) h = top-snoc a m r h
+top-snoc a m (change ∷ r) h = top-snoc a m r h
+
+pub top-cons : (a : ℕ) (m : Msg) (c : List Msg) → isI m ≡ 0 → top a (m ∷ c) ≡ top a c
+top-cons a (connect l) c h = refl
+top-cons a (initiate l f x) c h = absurd (omega arith)
+top-cons a (test l f) c h = refl
+top-cons a accept c h = refl
+top-cons a reject c h = refl
+top-cons a (report w) c h = refl
+top-cons a change c h = refl
+
+-- m put from the head to the middle
+pub top-mid : (a : ℕ) (m : Msg) (b c : List Msg) → isI m ≡ 0 → top a (b ++ (m ∷ c)) ≡ top a (b ++ c)
+top-mid a m [] c h = top-cons a m c h
+top-mid a m ((connect n) ∷ r) c h = top-mid a m r c h
+top-mid a m ((initiate n g y) ∷ r) c h = top-mid n m r c h
+top-mid a m ((test n g) ∷ r) c h = top-mid a m r c h
+top-mid a m (accept ∷ r) c h = top-mid a m r c h
+top-mid a m (reject ∷ r) c h = top-mid a m r c h
+top-mid a m ((report w) ∷ r) c h = top-mid a m r c h
+top-mid a m (change ∷ r) c h = top-mid a m r c h
+
+-- no Initiate there
+pub top-none : (a : ℕ) (c : List Msg) → ((l f x : ℕ) → ¬ In (initiate l f x) c) → top a c ≡ a
+top-none a [] h = refl
+top-none a ((connect l) ∷ r) h = top-none a r (λ n g y i. h n g y (next i))
+top-none a ((initiate l f x) ∷ r) h = absurd (h l f x first)
+top-none a ((test l f) ∷ r) h = top-none a r (λ n g y i. h n g y (next i))
+top-none a (accept ∷ r) h = top-none a r (λ n g y i. h n g y (next i))
+top-none a (reject ∷ r) h = top-none a r (λ n g y i. h n g y (next i))
+top-none a ((report w) ∷ r) h = top-none a r (λ n g y i. h n g y (next i))
+top-none a (change ∷ r) h = top-none a r (λ n g y i. h n g y (next i))
+
+-- where levels rise, the last is not below the first, nor below any
+
+-- it is a, or the level of an Initiate that is there
+pub top-in : (a : ℕ) (c : List Msg) → (top a c ≡ a) ⊎ ((f : ℕ) × (x : ℕ) × In (initiate (top a c) f x) c)
+top-in a [] = inl refl
+top-in a ((connect l) ∷ r) = ⊎-elim (λ e. inl e) (λ h. inr (h .0, h .1, next (h .2))) (top-in a r)
+top-in a (initiate l f x ∷ r) = ⊎-elim (λ e. inr (f, x, subst (λ n. In (initiate n f x) (initiate l f x ∷ r)) (sym e) first)) (λ h. inr (h .0, h .1, next (h .2))) (top-in l r)
+top-in a ((test l f) ∷ r) = ⊎-elim (λ e. inl e) (λ h. inr (h .0, h .1, next (h .2))) (top-in a r)
+top-in a (accept ∷ r) = ⊎-elim (λ e. inl e) (λ h. inr (h .0, h .1, next (h .2))) (top-in a r)
+top-in a (reject ∷ r) = ⊎-elim (λ e. inl e) (λ h. inr (h .0, h .1, next (h .2))) (top-in a r)
+top-in a ((report w) ∷ r) = ⊎-elim (λ e. inl e) (λ h. inr (h .0, h .1, next (h .2))) (top-in a r)
+top-in a (change ∷ r) = ⊎-elim (λ e. inl e) (λ h. inr (h .0, h .1, next (h .2))) (top-in a r)
+
+-- where levels rise along the channel it is the highest
+pub top-max : (a : ℕ) (c : List Msg) → ((m n : Msg) → Bef m n c → Fits m n) → (l f x : ℕ) → In (initiate l f x) c → l ≤ top a c
+top-max a [] q l f x h = absurd (in-nil h)
+top-max a ((connect n) ∷ r) q l f x h = top-max a r (λ m m′ b. q m m′ (tails b)) l f x (⊎-elim (λ e. absurd (kinds (λ z. omega arith) e)) (λ t. t) (in-cons h))
+top-max a (initiate n g y ∷ r) q l f x h = ⊎-elim
+    (λ e. ⊎-elim (λ z. omega (arith, ap arg1 e)) (λ z. omega (arith, ap arg1 e, q (initiate n g y) (initiate (top n r) (z .0) (z .1)) (heads (z .2)))) (top-in n r))
+    (λ t. top-max n r (λ m m′ b. q m m′ (tails b)) l f x t)
+    (in-cons h)
+top-max a ((test n g) ∷ r) q l f x h = top-max a r (λ m m′ b. q m m′ (tails b)) l f x (⊎-elim (λ e. absurd (kinds (λ z. omega arith) e)) (λ t. t) (in-cons h))
+top-max a (accept ∷ r) q l f x h = top-max a r (λ m m′ b. q m m′ (tails b)) l f x (⊎-elim (λ e. absurd (kinds (λ z. omega arith) e)) (λ t. t) (in-cons h))
+top-max a (reject ∷ r) q l f x h = top-max a r (λ m m′ b. q m m′ (tails b)) l f x (⊎-elim (λ e. absurd (kinds (λ z. omega arith) e)) (λ t. t) (in-cons h))
+top-max a ((report w) ∷ r) q l f x h = top-max a r (λ m m′ b. q m m′ (tails b)) l f x (⊎-elim (λ e. absurd (kinds (λ z. omega arith) e)) (λ t. t) (in-cons h))
+top-max a (change ∷ r) q l f x h = top-max a r (λ m m′ b. q m m′ (tails b)) l f x (⊎-elim (λ e. absurd (kinds (λ z. omega arith) e)) (λ t. t) (in-cons h))
+
+-- ---- from counts to messages
+
+pub some-connect : (c : List Msg) → 1 ≤ sumL isC c → (l : ℕ) × In (connect l) c
+some-connect c h = let t = some-of isC c h in which (t .0) (t .1) (t .2)
+  where
+    which : (m : Msg) → In m c → 1 ≤ isC m → (l : ℕ) × In (connect l) c
+    which (connect l) i o = (l, i)
+    which (initiate l f x) i o = absurd (omega arith)
+    which (test l f) i o = absurd (omega arith)
+    which accept i o = absurd (omega arith)
+    which reject i o = absurd (omega arith)
+    which (report w) i o = absurd (omega arith)
+    which change i o = absurd (omega arith)
+
+pub some-test : (c : List Msg) → 1 ≤ sumL isT c → (l : ℕ) × (f : ℕ) × In (test l f) c
+some-test c h = let t = some-of isT c h in which (t .0) (t .1) (t .2)
+  where
+    which : (m : Msg) → In m c → 1 ≤ isT m → (l : ℕ) × (f : ℕ) × In (test l f) c
+    which (connect l) i o = absurd (omega arith)
+    which (initiate l f x) i o = absurd (omega arith)
+    which (test l f) i o = (l, f, i)
+    which accept i o = absurd (omega arith)
+    which reject i o = absurd (omega arith)
+    which (report w) i o = absurd (omega arith)
+    which change i o = absurd (omega arith)
+
+pub some-report : (c : List Msg) → 1 ≤ sumL isR c → (w : ℕ) × In (report w) c
+some-report c h = let t = some-of isR c h in which (t .0) (t .1) (t .2)
+  where
+    which : (m : Msg) → In m c → 1 ≤ isR m → (w : ℕ) × In (report w) c
+    which (connect l) i o = absurd (omega arith)
+    which (initiate l f x) i o = absurd (omega arith)
+    which (test l f) i o = absurd (omega arith)
+    which accept i o = absurd (omega arith)
+    which reject i o = absurd (omega arith)
+    which (report w) i o = (w, i)
+    which change i o = absurd (omega arith)
+
+pub some-change : (c : List Msg) → 1 ≤ sumL isK c → In change c
+some-change c h = let t = some-of isK c h in which (t .0) (t .1) (t .2)
+  where
+    which : (m : Msg) → In m c → 1 ≤ isK m → In change c
+    which (connect l) i o = absurd (omega arith)
+    which (initiate l f x) i o = absurd (omega arith)
+    which (test l f) i o = absurd (omega arith)
+    which accept i o = absurd (omega arith)
+    which reject i o = absurd (omega arith)
+    which (report w) i o = absurd (omega arith)
+    which change i o = i
+
+pub some-answer : (c : List Msg) → 1 ≤ sumL isA c → In accept c ⊎ In reject c
+some-answer c h = let t = some-of isA c h in which (t .0) (t .1) (t .2)
+  where
+    which : (m : Msg) → In m c → 1 ≤ isA m → In accept c ⊎ In reject c
+    which (connect l) i o = absurd (omega arith)
+    which (initiate l f x) i o = absurd (omega arith)
+    which (test l f) i o = absurd (omega arith)
+    which accept i o = inl i
+    which reject i o = inr i
+    which (report w) i o = absurd (omega arith)
+    which change i o = absurd (omega arith)
+
+pub some-call : (c : List Msg) → 1 ≤ sumL isCI c → ((l : ℕ) × In (connect l) c) ⊎ ((l : ℕ) × (f : ℕ) × (x : ℕ) × In (initiate l f x) c)
+some-call c h = let t = some-of isCI c h in which (t .0) (t .1) (t .2)
+  where
+    which : (m : Msg) → In m c → 1 ≤ isCI m → ((l : ℕ) × In (connect l) c) ⊎ ((l : ℕ) × (f : ℕ) × (x : ℕ) × In (initiate l f x) c)
+    which (connect l) i o = inl (l, i)
+    which (initiate l f x) i o = inr (l, f, x, i)
+    which (test l f) i o = absurd (omega arith)
+    which accept i o = absurd (omega arith)
+    which reject i o = absurd (omega arith)
+    which (report w) i o = absurd (omega arith)
+    which change i o = absurd (omega arith)
+
+pub no-connects : (c : List Msg) → ((l : ℕ) → ¬ In (connect l) c) → sumL isC c ≡ 0
+no-connects c h = by-eq (sumL isC c) 0 (λ e. e) (λ n. let t = some-connect c (omega arith) in absurd (h (t .0) (t .1)))
+
+pub no-tests : (c : List Msg) → ((l f : ℕ) → ¬ In (test l f) c) → sumL isT c ≡ 0
+no-tests c h = by-eq (sumL isT c) 0 (λ e. e) (λ n. let t = some-test c (omega arith) in absurd (h (t .0) (t .1) (t .2)))
+
+pub no-reports : (c : List Msg) → ((w : ℕ) → ¬ In (report w) c) → sumL isR c ≡ 0
+no-reports c h = by-eq (sumL isR c) 0 (λ e. e) (λ n. let t = some-report c (omega arith) in absurd (h (t .0) (t .1)))
+
+pub no-answers : (c : List Msg) → ¬ In accept c → ¬ In reject c → sumL isA c ≡ 0
+no-answers c h g = by-eq (sumL isA c) 0 (λ e. e) (λ n. absurd (⊎-elim h g (some-answer c (omega arith))))
+
+pub no-calls : (c : List Msg) → ((l : ℕ) → ¬ In (connect l) c) → ((l f x : ℕ) → ¬ In (initiate l f x) c) → sumL isCI c ≡ 0
+no-calls c h g = by-eq (sumL isCI c) 0 (λ e. e)
+    (λ n. absurd (⊎-elim (λ t. h (t .0) (t .1)) (λ t. g (t .0) (t .1) (t .2) (t .3)) (some-call c (omega arith))))
+
+-- a count that is 0 has none of its kind
+pub none-in : (f : Msg → ℕ) {m : Msg} {c : List Msg} → sumL f c ≡ 0 → In m c → f m ≡ 0
+none-in f z i = omega (arith, in-sum f i)
+
+-- ---- joined, of an edge and of its ends
+
+pub joined-both : (p : Plan) (mark : ℕ → ℕ → ℕ) {k a b : ℕ} → Ends p k a b → Joined p mark k → Both mark k a b
+joined-both p mark {k} (up l e f) j = (sym (ap (λ x. mark x k) e) ∙ j .0, sym (ap (λ x. mark x k) f) ∙ j .1)
+joined-both p mark {k} (down l e f) j = (sym (ap (λ x. mark x k) e) ∙ j .1, sym (ap (λ x. mark x k) f) ∙ j .0)
+
+pub both-joined : (p : Plan) (mark : ℕ → ℕ → ℕ) {k a b : ℕ} → Ends p k a b → Both mark k a b → Joined p mark k
+both-joined p mark {k} (up l e f) j = (ap (λ x. mark x k) e ∙ j .0, ap (λ x. mark x k) f ∙ j .1)
+both-joined p mark {k} (down l e f) j = (ap (λ x. mark x k) f ∙ j .1, ap (λ x. mark x k) e ∙ j .0)
+
+-- ---- sums over a row
+
+pub sum-upd : (n v a : ℕ) (f : ℕ → ℕ) → v < n → sum n (upd f v a) + f v ≡ sum n f + a
+sum-upd n v a f l = omega (arith, sum-change n v (upd f v a) f l (λ k d. upd-other f v a k d), upd-same f v a)
+
+-- one entry of v's row changes
+pub sum-row : (n v k x : ℕ) (t : ℕ → ℕ → ℕ) → k < n → sum n (upd2 t v k x v) + t v k ≡ sum n (t v) + x
+unfolding upd2
+sum-row n v k x t l = subst (λ r. sum n r + t v k ≡ sum n (t v) + x) (sym (upd-same t v (upd (t v) k x))) (sum-upd n k x (t v) l)
+
+-- another row is as it was
+pub row-else : (v k x : ℕ) (t : ℕ → ℕ → ℕ) (w : ℕ) → v ≢ w → upd2 t v k x w ≡ t w
+unfolding upd2
+row-else v k x t w n = upd-other t v (upd (t v) k x) w n
+
+-- an empty row is filled
+pub sum-fill : (n v x : ℕ) (t : ℕ → ℕ → ℕ) (f : ℕ → Bool) → sum n (t v) ≡ 0 → sum n (fill t v f x v) ≡ x * sum n (λ j. bit (f j))
+sum-fill n v x t f z = sum-eq n (fill t v f x v) (λ j. x * bit (f j)) each ∙ times n
+  where
+    each : (j : ℕ) → j < n → fill t v f x v j ≡ x * bit (f j)
+    each j l = fill-elim (λ y. y ≡ x * bit (f j)) t v f x v j
+        (λ a b. rw b (omega arith))
+        (λ d. ⊎-elim (λ q. absurd (q refl)) (λ q. rw q (omega (arith, le-sum n j (t v) l))) d)
+
+    times : (m : ℕ) → sum m (λ j. x * bit (f j)) ≡ x * sum m (λ j. bit (f j))
+    times zero = omega arith
+    times (suc m) = omega (arith, times m)
+
+pub fill-else : (t : ℕ → ℕ → ℕ) (v : ℕ) (f : ℕ → Bool) (x w j : ℕ) → v ≢ w → fill t v f x w j ≡ t w j
+fill-else t v f x w j n = fill-elim (λ y. y ≡ t w j) t v f x w j (λ a b. absurd (n a)) (λ d. refl)
