@@ -4,7 +4,7 @@ RUSTC=${RUSTC:-$(command -v rustc || echo "$HOME/.cargo/bin/rustc")}
 built=target/rust
 mkdir -p "$built" || exit 2
 
-rust() { "$RUSTC" -O --edition 2021 -D warnings "$@"; }
+rust() { "$RUSTC" -O --edition 2021 "$@"; }
 
 # The oracle as a library, for the programs that compare with it.
 oracle() { rust --crate-type rlib --crate-name oracle tests/oracle/lib.rs -o "$built/liboracle.rlib"; }

@@ -1,0 +1,153 @@
+//! Counts what the schedules reach: the corners that document 01 and its traps name, and every refusal.
+
+use oracle::field::{setup, waiting, Field, Word, SERVE};
+use oracle::frame::*;
+use oracle::rules::{ASLEEP, BASIC, BRANCH, FIND, FOUND};
+use oracle::schedule::{self, Step};
+use oracle::trace::split;
+use oracle::{plan, rules};
+use std::collections::BTreeMap;
+
+#[derive(Default)]
+pub struct Events(BTreeMap<String, usize>);
+
+/// What must be reached by a good set of inputs.
+pub const WANTED: [&str; 31] = [
+    "put back Connect",
+    "put back Test",
+    "put back Report",
+    "put back Test at a sleeper",
+    "woken by Connect",
+    "woken by Test",
+    "crossing Tests",
+    "Test of the own fragment on a branch link",
+    "Reject on a branch link",
+    "absorbed while Find",
+    "absorbed while Found",
+    "absorbed while Found, 5 modules or more",
+    "several Initiates on one directed link",
+    "Connect against Connect: a new level",
+    "Report against a worse one: change-root",
+    "Change-root passed on",
+    "Change-root to Connect",
+    "halted",
+    "at rest",
+    "level 3",
+    "refused 41",
+    "refused 42",
+    "refused 43",
+    "refused 44",
+    "refused 45",
+    "refused 51",
+    "refused 52",
+    "refused 53",
+    "refused 54",
+    "refused 11",
+    "refused 13",
+];
+
+impl Events {
+    fn count(&mut self, event: &str) {
+        *self.0.entry(event.to_string()).or_default() += 1;
+    }
+
+    fn count_if(&mut self, holds: bool, event: &str) {
+        if holds {
+            self.count(event);
+        }
+    }
+
+    pub fn of(&self, event: &str) -> usize {
+        self.0.get(event).copied().unwrap_or(0)
+    }
+
+    pub fn print(&self) {
+        for (event, times) in &self.0 {
+            println!("{times:>9}  {event}");
+        }
+    }
+
+    /// Runs one input and counts.
+    pub fn observe(&mut self, input: &[u8]) {
+        let (plan_bytes, schedule_bytes) = split(input);
+        let ceiling = match plan::read(plan_bytes) {
+            Ok(plan) => plan.ceiling() as usize,
+            Err(refusal) => return self.count(&format!("refused {refusal}")),
+        };
+        let mut words = vec![0; ceiling];
+        let mut field = setup(plan_bytes, &mut words).expect("the plan was taken");
+        let steps = match schedule::read(schedule_bytes) {
+            Ok(steps) => steps,
+            Err(refusal) => return self.count(&format!("refused {refusal}")),
+        };
+        for step in steps {
+            if let Err(refusal) = self.step(&mut field, &mut words, step) {
+                return self.count(&format!("refused {refusal}"));
+            }
+        }
+        let rest = waiting(&words) == 0 && field.modules.iter().any(|m| m.status != ASLEEP);
+        self.count_if(rest, "at rest");
+    }
+
+    fn step(&mut self, field: &mut Field, words: &mut [u64], step: Step) -> Result<(), u32> {
+        if step.kind == SERVE && step.number < field.plan.modules {
+            if let Some(word) = field.next_in_queue(words, step.number) {
+                self.serve(field, step.number, word);
+            }
+        }
+        let halted = field.modules.iter().filter(|m| m.halted == 1).count();
+        let done = field.take(words, step.kind, step.number)?;
+        self.count("steps taken");
+        self.count_if(field.modules.iter().filter(|m| m.halted == 1).count() > halted, "halted");
+        if let Some(word) = done.served {
+            let name = NAMES[word.message.kind as usize];
+            self.count_if(done.put_back, &format!("put back {name}"));
+            self.count_if(done.woke, &format!("woken by {name}"));
+            self.count_if(done.woke && done.put_back, &format!("put back {name} at a sleeper"));
+            self.count_if(!done.put_back && word.message.level == 3, "level 3");
+        }
+        self.count_if(several_initiates(words), "several Initiates on one directed link");
+        Ok(())
+    }
+
+    /// What the service of this word meets, by the module's values before it.
+    fn serve(&mut self, field: &Field, v: u16, word: Word) {
+        let module = field.modules[v as usize];
+        let j = word.directed / 2;
+        let mark = field.own_marks(v).iter().find(|m| m.0 == j).map(|m| m.1);
+        let (message, branch) = (word.message, mark == Some(BRANCH));
+        match message.kind {
+            CONNECT if message.level < module.level => {
+                self.count_if(module.status == FIND, "absorbed while Find");
+                self.count_if(module.status == FOUND, "absorbed while Found");
+                let large = field.plan.modules >= 5;
+                self.count_if(module.status == FOUND && large, "absorbed while Found, 5 modules or more");
+            }
+            CONNECT => self.count_if(mark != Some(BASIC), "Connect against Connect: a new level"),
+            TEST if message.level <= module.level && message.carried == module.identity => {
+                self.count_if(module.test_edge == j, "crossing Tests");
+                self.count_if(branch, "Test of the own fragment on a branch link");
+            }
+            REJECT => self.count_if(branch, "Reject on a branch link"),
+            REPORT if j == module.in_branch && module.status == FOUND => {
+                let worse = field.plan.earlier(module.best_weight, message.carried);
+                self.count_if(worse, "Report against a worse one: change-root");
+            }
+            CHANGE_ROOT => {
+                let best = field.own_marks(v).iter().find(|m| m.0 == module.best_edge).map(|m| m.1);
+                let passed = best == Some(rules::BRANCH);
+                self.count(if passed { "Change-root passed on" } else { "Change-root to Connect" });
+            }
+            _ => {}
+        }
+    }
+}
+
+const NAMES: [&str; 8] = ["", "Connect", "Initiate", "Test", "Accept", "Reject", "Report", "Change-root"];
+
+fn several_initiates(words: &[u64]) -> bool {
+    let initiates = |w: &&u64| (**w & 7) as u8 == INITIATE;
+    let mut links: Vec<u64> = words[..waiting(words)].iter().filter(initiates).map(|w| w >> 24 & 65535).collect();
+    links.sort();
+    links.windows(2).any(|pair| pair[0] == pair[1])
+}
