@@ -95,6 +95,7 @@ impl Events {
                 self.serve(field, step.number, word);
             }
         }
+        let several = several_initiates(words);
         let halted = field.modules.iter().filter(|m| m.halted == 1).count();
         let done = field.take(words, step.kind, step.number)?;
         self.count("steps taken");
@@ -106,7 +107,7 @@ impl Events {
             self.count_if(done.woke && done.put_back, &format!("put back {name} at a sleeper"));
             self.count_if(!done.put_back && word.message.level == 3, "level 3");
         }
-        self.count_if(several_initiates(words), "several Initiates on one directed link");
+        self.count_if(!several && several_initiates(words), "several Initiates on one directed link");
         Ok(())
     }
 

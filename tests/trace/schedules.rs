@@ -228,6 +228,9 @@ fn damage_schedule(rng: &mut Rng, bytes: &mut Vec<u8>) {
 
 /// One input of `trace`.
 pub fn input(rng: &mut Rng) -> Vec<u8> {
+    if rng.once_in(200) {
+        return (0..rng.below(3)).map(|_| rng.below(2) as u8).collect();
+    }
     if rng.once_in(20) {
         // the damaged plan's own length decides where the schedule begins
         let mut bytes = plans::damaged(rng);

@@ -1,0 +1,93 @@
+//! The other side of the benchmark: the same work as one would write it in plain safe Rust.
+
+/// The parts that links have joined so far, by their roots, with path halving.
+struct Parts([u8; 192]);
+
+impl Parts {
+    fn new() -> Parts {
+        Parts(std::array::from_fn(|v| v as u8))
+    }
+
+    fn root(&mut self, mut v: usize) -> usize {
+        while self.0[v] as usize != v {
+            self.0[v] = self.0[self.0[v] as usize];
+            v = self.0[v] as usize;
+        }
+        v
+    }
+
+    fn join(&mut self, a: usize, b: usize) -> bool {
+        let (a, b) = (self.root(a), self.root(b));
+        self.0[a] = b as u8;
+        a != b
+    }
+}
+
+fn be16(bytes: &[u8], at: usize) -> u16 {
+    u16::from_be_bytes([bytes[at], bytes[at + 1]])
+}
+
+/// The plan's refusals 11 to 19 in one pass over the bytes, connectedness by union-find; 0 for a plan that is taken.
+pub fn check(bytes: &[u8]) -> u32 {
+    if bytes.len() < 3 {
+        return 11;
+    }
+    if bytes[0] != 1 {
+        return 12;
+    }
+    let length = be16(bytes, 1) as usize;
+    if length != bytes.len() - 3 || length < 4 {
+        return 13;
+    }
+    let (n, l) = (be16(bytes, 3), be16(bytes, 5) as usize);
+    if n == 0 || n > 192 {
+        return 14;
+    }
+    if l > 600 || length != 4 + 8 * l {
+        return 15;
+    }
+    let mut parts = Parts::new();
+    let mut left = n;
+    let mut before = None;
+    for link in bytes[7..].chunks_exact(8) {
+        let ends = (be16(link, 0), be16(link, 2));
+        if ends.0 >= ends.1 || ends.1 >= n {
+            return 16;
+        }
+        if before >= Some(ends) {
+            return 17;
+        }
+        if be16(link, 4) > 2000 || be16(link, 6) > 2000 {
+            return 18;
+        }
+        before = Some(ends);
+        if parts.join(ends.0 as usize, ends.1 as usize) {
+            left -= 1;
+        }
+    }
+    if left > 1 {
+        return 19;
+    }
+    0
+}
+
+/// The check, then Kruskal with the standard sort and union-find; 20 for a buffer that is not L bytes.
+pub fn tree(bytes: &[u8], out: &mut [u8]) -> u32 {
+    let refusal = check(bytes);
+    if refusal != 0 {
+        return refusal;
+    }
+    let links = &bytes[7..];
+    if out.len() != links.len() / 8 {
+        return 20;
+    }
+    let cost = |k: usize| be16(links, 8 * k + 4) + be16(links, 8 * k + 6);
+    let mut order: Vec<(u16, u16)> = (0..out.len()).map(|k| (cost(k), k as u16)).collect();
+    order.sort();
+    let mut parts = Parts::new();
+    for (_, k) in order {
+        let at = 8 * k as usize;
+        out[k as usize] = parts.join(be16(links, at) as usize, be16(links, at + 2) as usize) as u8;
+    }
+    0
+}
