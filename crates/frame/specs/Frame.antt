@@ -1,19 +1,16 @@
 -- Radio frames: the bytes of a message, and which bytes are refused.
-use Prim.Native.Nat.{ℕ, _+_, _*_, _/_, _%_}
-use mathlib.Core.List.{List, [], _∷_}
+use Prim.Native.Nat.{ℕ}
+use mathlib.Core.List.{List, _∷_}
 use mathlib.Core.Bool.{Bool, not, cond, _&&_}
 use lib.ListN.{length, getD}
 use lib.Dec.{eqb}
+use Rattle.int16.specs.Int16.{at16, bytes16}
 use Rattle.message.specs.Listed.{listed}
 use Rattle.frame.specs.declared.Frame.{Frame}
 
--- "Integers are 16-bit big-endian."
-abbrev pub at16 : List ℕ → ℕ → ℕ
-at16 s i = getD s i 0 * 256 + getD s (i + 1) 0
-
 -- "A frame is version byte 1, length 3, header, carried number: 6 bytes."
 abbrev pub frameBytes : ℕ → ℕ → List ℕ
-frameBytes header carried = 1 ∷ 0 ∷ 3 ∷ header ∷ carried / 256 ∷ carried % 256 ∷ []
+frameBytes header carried = 1 ∷ 0 ∷ 3 ∷ header ∷ bytes16 carried
 
 -- the first that applies: "61 not 6 bytes; 62 version or length; 63 header or carried number not listed"
 unfoldable pub frameRefusal : List ℕ → ℕ

@@ -1,0 +1,87 @@
+-- What each test of a frame settles, for the check, the reader and the writer.
+use Prim.Native.Nat.{ℕ, _/_, _%_}
+use mathlib.Core.Path.{_≡_, refl}
+use mathlib.Core.List.{List}
+use mathlib.Core.Bool.{true, false}
+use native.Mathlib.Omega.{arith}
+use lib.ListN.{length, getD, set}
+use borrow.Author.Tests.{eq-eqb, ne-eqb}
+use Rattle.base.specs.Cond.{bool-cases, by-eq}
+use Rattle.int16.specs.Int16.{at16}
+use Rattle.message.specs.Listed.{listed}
+use Rattle.frame.specs.Frame.{frameBytes, frameRefusal, frameRead, Written, frameWritten}
+use Rattle.frame.proofs.Six.{six}
+
+-- the refusal, test by test
+module _ (s : List ℕ) where
+  pub by-size : (length s ≡ 6 → ⊥) → frameRefusal s ≡ 61
+  unfolding frameRefusal
+  by-size n = simp (ne-eqb (length s) 6 n)
+
+  module _ (p : length s ≡ 6) where
+    pub by-version : (getD s 0 0 ≡ 1 → ⊥) → frameRefusal s ≡ 62
+    unfolding frameRefusal
+    by-version n = simp (eq-eqb (length s) 6 p, ne-eqb (getD s 0 0) 1 n)
+
+    module _ (v : getD s 0 0 ≡ 1) where
+      pub by-length : (at16 s 1 ≡ 3 → ⊥) → frameRefusal s ≡ 62
+      unfolding frameRefusal
+      by-length n = simp (eq-eqb (length s) 6 p, eq-eqb (getD s 0 0) 1 v, ne-eqb (at16 s 1) 3 n)
+
+      module _ (l : at16 s 1 ≡ 3) where
+        pub by-list : listed (getD s 3 0) (at16 s 4) ≡ false → frameRefusal s ≡ 63
+        unfolding frameRefusal
+        by-list e = simp (eq-eqb (length s) 6 p, eq-eqb (getD s 0 0) 1 v, eq-eqb (at16 s 1) 3 l, e)
+
+        pub taken : listed (getD s 3 0) (at16 s 4) ≡ true → frameRefusal s ≡ 0
+        unfolding frameRefusal
+        taken e = simp (eq-eqb (length s) 6 p, eq-eqb (getD s 0 0) 1 v, eq-eqb (at16 s 1) 3 l, e)
+
+-- what a taken frame is
+pub record Taken (s : List ℕ) : Type 0 where
+  pub size : length s ≡ 6
+  pub version : getD s 0 0 ≡ 1
+  pub rest : at16 s 1 ≡ 3
+  pub holds : listed (getD s 3 0) (at16 s 4) ≡ true
+
+pub accepted : (s : List ℕ) → frameRefusal s ≡ 0 → Taken s
+accepted s e =
+    by-eq (length s) 6
+    (λ p. by-eq (getD s 0 0) 1
+    (λ v. by-eq (at16 s 1) 3
+    (λ l. bool-cases (listed (getD s 3 0) (at16 s 4))
+    (λ b. record { size = p; version = v; rest = l; holds = b })
+    (λ b. absurd (omega (arith, by-list s p v l b))))
+    (λ n. absurd (omega (arith, by-length s p v n))))
+    (λ n. absurd (omega (arith, by-version s p n))))
+    (λ n. absurd (omega (arith, by-size s n)))
+
+-- the reader's two answers
+module _ (s : List ℕ) where
+  pub read-refused : (frameRefusal s ≡ 0 → ⊥) → frameRead s ≡ record { refusal = frameRefusal s; header = 0; carried = 0 }
+  unfolding frameRead
+  read-refused n = simp (ne-eqb (frameRefusal s) 0 n)
+
+  pub read-taken : frameRefusal s ≡ 0 → frameRead s ≡ record { refusal = 0; header = getD s 3 0; carried = at16 s 4 }
+  unfolding frameRead
+  read-taken e = simp (eq-eqb (frameRefusal s) 0 e)
+
+-- the writer's three answers
+module _ (h c : ℕ) (out : List ℕ) where
+  pub write-unlisted : listed h c ≡ false → frameWritten h c out ≡ record { answer = 63; bytes = out }
+  unfolding frameWritten
+  write-unlisted e = simp e
+
+  module _ (l : listed h c ≡ true) where
+    pub write-short : (length out ≡ 6 → ⊥) → frameWritten h c out ≡ record { answer = 64; bytes = out }
+    unfolding frameWritten
+    write-short n = simp (l, ne-eqb (length out) 6 n)
+
+    pub write-done : length out ≡ 6 → frameWritten h c out ≡ record { answer = 0; bytes = frameBytes h c }
+    unfolding frameWritten
+    write-done p = simp (l, eq-eqb (length out) 6 p)
+
+-- six bytes, overwritten one after the other
+pub filled : (h c : ℕ) (s : List ℕ) → length s ≡ 6 → set (set (set (set (set (set s 0 1) 1 0) 2 3) 3 h) 4 (c / 256)) 5 (c % 256) ≡ frameBytes h c
+filled h c =
+    six (λ s. set (set (set (set (set (set s 0 1) 1 0) 2 3) 3 h) 4 (c / 256)) 5 (c % 256) ≡ frameBytes h c) (λ x₀ x₁ x₂ x₃ x₄ x₅. refl)

@@ -1,0 +1,3 @@
+pub mod Six
+pub mod Laws
+pub mod RoundTrip
