@@ -5,6 +5,7 @@ use mathlib.Core.List.{List, [], _∷_, _++_}
 use lib.ListN.{length, getD, take, drop}
 use lib.Dec.{eqb, ltb, leb}
 use Rattle.base.specs.Loop.{After, taken, refused}
+pub use Rattle.base.specs.Keep.{place}
 use Rattle.word.specs.Word.{linkIn, handedIn, handOver}
 use Rattle.plan.specs.declared.Plan.{Plan}
 use Rattle.node.specs.Work.{Work, ASLEEP, BACK, REFUSED}
@@ -20,11 +21,7 @@ inAir d w = not (handedIn w) && eqb (linkIn w) d
 abbrev pub inQueue : Plan → ℕ → ℕ → Bool
 inQueue p v w = handedIn w && eqb (dest p (linkIn w)) v
 
--- the place of "the first word" that passes the test; the length where there is none
-unfoldable pub place : (ℕ → Bool) → List ℕ → ℕ
-place q [] = 0
-place q (x ∷ l) = cond (q x) 0 (suc (place q l))
-
+-- no word passes the test; `place` is where "the first word" that does stands
 abbrev pub absent : (ℕ → Bool) → List ℕ → Bool
 absent q l = leb (length l) (place q l)
 

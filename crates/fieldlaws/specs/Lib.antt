@@ -1,0 +1,3 @@
+pub mod Chan
+pub mod Sends
+pub mod Cases

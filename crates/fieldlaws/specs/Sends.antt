@@ -1,0 +1,63 @@
+-- All sends of a response at once, in the words and in the channels.
+use Prim.Native.Nat.{ℕ, zero, suc, _+_, _*_, _≤_, _<_}
+use native.Mathlib.Omega.{arith}
+use mathlib.Core.Path.{_≡_, refl, sym, ap, ap₂, subst, _∙_}
+use mathlib.Core.Logic.{_≢_}
+use mathlib.Core.Bool.{Bool, true, false, not, cond}
+use mathlib.Core.List.{List, [], _∷_, _++_, map, append-assoc, append-nil}
+use lib.ListN.{length, getD}
+use lib.Dec.{eqb}
+use borrow.Author.Tests.{eq-eqb}
+use Rattle.base.specs.Cond.{bit, eqb-cases, eqb-diff}
+use Rattle.base.specs.Pool.{All, nil, con}
+use Rattle.message.specs.Msg.{Msg}
+use Rattle.message.specs.Listed.{Listed}
+use Rattle.word.specs.Word.{Waiting, linkIn, handedIn, waitingOf, packWaiting}
+use Rattle.word.proofs.Laws.{waiting-back}
+use Rattle.plan.specs.declared.Plan.{Plan}
+use Rattle.node.specs.Work.{Send}
+use Rattle.field.specs.Edges.{over}
+use Rattle.field.specs.State.{msgIn, wordOf, posted}
+use Rattle.fieldlaws.specs.Chan.{chan, chan-skip, chan-down}
+
+bit-low : (b : Bool) → bit b ≤ 1
+bit-low true = omega arith
+bit-low false = omega arith
+
+-- a send that a word can hold
+pub record Packs (x : Send) : Type 0 where
+  pub listed : Listed (x .msg)
+  pub small : x .edge < 600
+
+module _ (p : Plan) (v : ℕ) where
+  -- what a send's word says
+  pub record Reads (x : Send) : Type 0 where
+    pub msg : msgIn (wordOf p v x) ≡ x .msg
+    pub link : linkIn (wordOf p v x) ≡ over p v (x .edge)
+    pub handed : handedIn (wordOf p v x) ≡ false
+
+  pub reads : (x : Send) → Packs x → Reads x
+  reads x h =
+      let e = waiting-back (x .msg) (over p v (x .edge)) false (h .listed) (omega (arith, h .small, bit-low (not (eqb (getD (p .lower) (x .edge) 0) v)))) in
+      record { msg = ap (λ (w : Waiting). w .msg) e; link = ap (λ (w : Waiting). w .link) e; handed = ap (λ (w : Waiting). w .handed) e }
+
+  -- the messages of these sends that go by directed link d
+  unfoldable pub onto : ℕ → List Send → List Msg
+  onto d [] = []
+  onto d (x ∷ l) = cond (eqb (over p v (x .edge)) d) (x .msg ∷ onto d l) (onto d l)
+
+  -- LAW 1 for all sends of a response: each goes to the end of its channel, in their order
+  pub post-chan : (d : ℕ) (s : List ℕ) {l : List Send} → All Packs l → chan d (s ++ posted p v l) ≡ chan d s ++ onto d l
+  unfolding onto
+  post-chan d s nil = ap (chan d) (append-nil s) ∙ sym (append-nil (chan d s))
+  post-chan d s (con {x} {xs} h t) =
+      let r = reads x h in
+      let w = wordOf p v x in
+      ap (chan d) (sym (append-assoc s (w ∷ []) (posted p v xs))) ∙ post-chan d (s ++ (w ∷ [])) t
+      ∙ eqb-cases (over p v (x .edge)) d (λ b. chan d (s ++ (w ∷ [])) ++ onto d xs ≡ chan d s ++ cond b (x .msg ∷ onto d xs) (onto d xs))
+      (λ e. ap (λ c. c ++ onto d xs) (chan-down d w (r .link ∙ e) (r .handed) s ∙ ap (λ m. chan d s ++ (m ∷ [])) (r .msg)) ∙ append-assoc (chan d s) (x .msg ∷ []) (onto d xs))
+      (λ n. ap (λ c. c ++ onto d xs) (chan-skip d w (λ q. n (sym (r .link) ∙ q)) s))
+
+  pub length-posted : (l : List Send) → length (posted p v l) ≡ length l
+  length-posted [] = refl
+  length-posted (x ∷ l) = ap suc (length-posted l)

@@ -1,0 +1,1 @@
+// Theorems about the field, its steps, runs and rounds.
