@@ -1,31 +1,22 @@
 -- The plan's links as one node sees them, and the directed links.
-use Prim.Native.Nat.{ℕ, _+_, _*_, _/_, _%_}
-use mathlib.Core.Bool.{Bool, cond, not, _&&_, _||_}
-use lib.Dec.{eqb, ltb}
-use Rattle.base.specs.Cond.{bit}
+use Prim.Native.Nat.{ℕ, _/_, _%_}
+use mathlib.Core.Bool.{Bool, cond}
+use lib.Dec.{eqb}
 use Rattle.base.specs.Log.{log2}
 use Rattle.plan.specs.declared.Plan.{Plan}
 use Rattle.plan.specs.Links.{low, high}
-use Rattle.plan.specs.Weights.{earlier}
 use Rattle.plan.specs.Ceiling.{ceiling}
-use Rattle.node.specs.Work.{Own}
+use Rattle.search.specs.Own as O
+use Rattle.search.specs.Own.{endIn}
+pub use Rattle.search.specs.Own.{ownOf}
 
--- link k ends at module v
-abbrev pub ends : Plan → ℕ → ℕ → Bool
-ends p v k = eqb (low p k) v || eqb (high p k) v
-
--- module v's own links
+-- module v's own links, the same as the rules of one node see them, and v's directed link over its own link k: "Directed link 2 × k runs from
+-- lower to higher over link k, 2 × k + 1 back." v's mark for k has the same place.
 abbrev pub isOwn : Plan → ℕ → ℕ → Bool
-isOwn p v k = ltb k (p .links) && ends p v k
+isOwn p v k = O.isOwn (p .links) (p .lower) (p .higher) v k
 
--- what the rules of one node ask of the plan
-abbrev pub ownOf : Plan → ℕ → Own
-ownOf p v = record { edges = p .links; own = isOwn p v; earlier = earlier p }
-
--- "Directed link 2 × k runs from lower to higher over link k, 2 × k + 1 back."
--- the directed link from v over its own link k; v's mark for k has the same place
 abbrev pub over : Plan → ℕ → ℕ → ℕ
-over p v k = 2 * k + bit (not (eqb (low p k) v))
+over p v k = endIn (p .lower) v k
 
 -- the link that a directed link goes over
 abbrev pub linkOf : ℕ → ℕ

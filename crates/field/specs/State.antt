@@ -12,7 +12,8 @@ use Rattle.word.specs.Word.{packed, headerIn, carriedIn}
 use Rattle.plan.specs.declared.Plan.{Plan}
 use Rattle.node.specs.declared.Node.{Node}
 use Rattle.node.specs.Work.{Work, Send}
-use Rattle.field.specs.Edges.{isOwn, over, from, linkOf}
+use Rattle.search.specs.Own.{marksIn}
+use Rattle.field.specs.Edges.{over, from, linkOf}
 
 pub record State : Type 0 where
   pub cells : List ℕ
@@ -47,8 +48,8 @@ abbrev pub putNode : List ℕ → ℕ → Node → List ℕ
 putNode cells v n = sets cells (v * 9) (values n)
 
 -- "and a mark for each own link": v's mark of link k, 0 where k is no link of v
-unfoldable pub markAt : Plan → State → ℕ → ℕ → ℕ
-markAt p s v k = cond (isOwn p v k) (getD (s .marks) (over p v k) 0) 0
+abbrev pub markAt : Plan → State → ℕ → ℕ → ℕ
+markAt p s v k = marksIn (p .links) (p .lower) (p .higher) (s .marks) v k
 
 -- the mark of directed end d, x before it, where module v's marks become m
 abbrev pub newMark : Plan → ℕ → (ℕ → ℕ) → ℕ → ℕ → ℕ

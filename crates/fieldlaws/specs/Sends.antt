@@ -5,10 +5,10 @@ use mathlib.Core.Path.{_≡_, refl, sym, ap, ap₂, subst, _∙_}
 use mathlib.Core.Logic.{_≢_}
 use mathlib.Core.Bool.{Bool, true, false, not, cond}
 use mathlib.Core.List.{List, [], _∷_, _++_, map, append-assoc, append-nil}
-use lib.ListN.{length, getD}
+use lib.ListN.{length}
 use lib.Dec.{eqb}
 use borrow.Author.Tests.{eq-eqb}
-use Rattle.base.specs.Cond.{bit, eqb-cases, eqb-diff}
+use Rattle.base.specs.Cond.{eqb-cases}
 use Rattle.base.specs.Pool.{All, nil, con}
 use Rattle.message.specs.Msg.{Msg}
 use Rattle.message.specs.Listed.{Listed}
@@ -16,13 +16,10 @@ use Rattle.word.specs.Word.{Waiting, linkIn, handedIn, waitingOf, packWaiting}
 use Rattle.word.proofs.Laws.{waiting-back}
 use Rattle.plan.specs.declared.Plan.{Plan}
 use Rattle.node.specs.Work.{Send}
+use Rattle.search.specs.Laws.{end-small}
 use Rattle.field.specs.Edges.{over}
 use Rattle.field.specs.State.{msgIn, wordOf, posted}
 use Rattle.fieldlaws.specs.Chan.{chan, chan-skip, chan-down}
-
-bit-low : (b : Bool) → bit b ≤ 1
-bit-low true = omega arith
-bit-low false = omega arith
 
 -- a send that a word can hold
 pub record Packs (x : Send) : Type 0 where
@@ -38,7 +35,7 @@ module _ (p : Plan) (v : ℕ) where
 
   pub reads : (x : Send) → Packs x → Reads x
   reads x h =
-      let e = waiting-back (x .msg) (over p v (x .edge)) false (h .listed) (omega (arith, h .small, bit-low (not (eqb (getD (p .lower) (x .edge) 0) v)))) in
+      let e = waiting-back (x .msg) (over p v (x .edge)) false (h .listed) (omega (arith, end-small (p .lower) v (x .edge) (h .small))) in
       record { msg = ap (λ (w : Waiting). w .msg) e; link = ap (λ (w : Waiting). w .link) e; handed = ap (λ (w : Waiting). w .handed) e }
 
   -- the messages of these sends that go by directed link d
