@@ -3,11 +3,11 @@
 //! brings put-backs, crossing and late Tests, absorption after a report, and Initiates behind one another.
 
 use oracle::field::{setup, waiting, Field, Word, HAND_OVER, SERVE, WAKE};
-use oracle::frame::{CONNECT, REPORT, TEST};
-use oracle::plan::Plan;
-use oracle::plans::{self, Readings};
+use oracle::frame::{Message, CONNECT, INITIATE, REPORT, TEST};
+use oracle::plan::{Link, Plan};
+use oracle::plans;
 use oracle::rng::Rng;
-use oracle::rules::{ASLEEP, BASIC, FIND};
+use oracle::rules::{ASLEEP, BASIC, FIND, FOUND};
 use oracle::schedule::{encode, Step};
 
 const WEIGHTS: [u64; 4] = [1, 8, 64, 512];
@@ -18,6 +18,10 @@ struct Weights {
     kind: Vec<u64>,
     link: Vec<u64>,
     module: Vec<u64>,
+    /// Keep a Connect of level 0 for a module that has reported, unless the two begin a fragment.
+    late_connect: bool,
+    /// Keep an Initiate of Found in the air, so that the next one comes up behind it.
+    late_found: bool,
     /// One step in so many wakes a sleeper, or serves a message that will be put back; 0: none does.
     wake: usize,
     put_back: usize,
@@ -29,7 +33,28 @@ impl Weights {
         let range = rng.pick(&[1, 3, 4, 4]);
         let mut list = |len: usize| (0..len).map(|_| rng.pick(&WEIGHTS[..range])).collect();
         let (kind, link, module) = (list(8), list(2 * plan.links.len()), list(plan.modules as usize));
-        Weights { kind, link, module, wake: rng.pick(&[0, 1, 2, 10, 50]), put_back: rng.pick(&[2, 5, 20]) }
+        Weights {
+            kind,
+            link,
+            module,
+            late_connect: rng.once_in(4),
+            late_found: rng.once_in(2),
+            wake: rng.pick(&[0, 1, 2, 10, 50]),
+            put_back: rng.pick(&[2, 5, 20]),
+        }
+    }
+
+    /// The weight of handing over or serving this message.
+    fn of(&self, field: &Field, word: Word) -> u64 {
+        let (message, target) = (word.message, field.target(word.directed) as usize);
+        let lowest = message == Message::connect(0);
+        let reported = field.modules[target].status == FOUND && field.modules[target].level > 0;
+        let own = field.plan.own_links(target as u16).into_iter();
+        let mutual = own.min_by_key(|k| field.plan.key(*k)) == Some(word.directed / 2);
+        let found = message.kind == INITIATE && !message.find;
+        let kept = self.late_connect && lowest && !mutual && !reported || self.late_found && found;
+        let kind = self.kind[if lowest { 0 } else { message.kind as usize }];
+        kind * self.link[word.directed as usize] * if kept { 1 } else { 10_000 }
     }
 }
 
@@ -40,14 +65,6 @@ struct Choices {
     /// Services that will put their message back.
     put_backs: Vec<(u64, Step)>,
     others: Vec<(u64, Step)>,
-}
-
-fn kind_of(header: u8) -> usize {
-    if header == CONNECT {
-        0
-    } else {
-        header as usize & 7
-    }
 }
 
 impl Choices {
@@ -62,18 +79,16 @@ impl Choices {
                 if blocked(field, v, word) {
                     out.put_backs.push((1, step));
                 } else {
-                    let weight = weights.kind[kind_of(word.message.header())] * weights.module[v as usize];
-                    out.others.push((weight * weights.link[word.directed as usize], step));
+                    out.others.push((weights.of(field, word) * weights.module[v as usize], step));
                 }
             }
         }
         let mut seen = vec![false; 2 * field.plan.links.len()];
         for word in &words[..waiting(words)] {
-            let directed = (*word >> 24) as u16;
-            if *word >> 40 & 1 == 0 && !seen[directed as usize] {
-                seen[directed as usize] = true;
-                let weight = weights.kind[kind_of(*word as u8)] * weights.link[directed as usize];
-                out.others.push((weight * 20, Step { kind: HAND_OVER, number: directed }));
+            let word = Word::unpack(*word, field.plan.links.len() as u16).expect("a field from setup");
+            if !word.handed && !seen[word.directed as usize] {
+                seen[word.directed as usize] = true;
+                out.others.push((weights.of(field, word) * 20, Step { kind: HAND_OVER, number: word.directed }));
             }
         }
         out
@@ -172,22 +187,26 @@ fn steps(rng: &mut Rng, plan: &Plan) -> Vec<Step> {
     out
 }
 
-/// A tree or ring of cheap links, and a module at the end of a dear link here and there: its Connect finds a module
-/// that already reported a cheaper way.
+/// Pairs over cheap links, a tree of dearer links between the pairs, and single modules at the ends of the dearest: a
+/// single module's Connect finds one that already reported a cheaper way.
 fn pendants(rng: &mut Rng) -> Plan {
-    let inner = rng.range(4, 12) as u16;
-    let n = inner + rng.range(1, 4) as u16;
-    let cheap = rng.range(inner as usize - 1, inner as usize + 3);
-    let mut pairs = plans::connected(rng, inner, cheap);
-    pairs.extend((inner..n).map(|v| (rng.below(inner as usize) as u16, v)));
-    let mut plan = plans::plan(rng, n, pairs, Readings::Wide);
-    for link in &mut plan.links {
-        (link.at_lower, link.at_higher) = (link.at_lower / 2, link.at_higher / 2);
-        if link.higher >= inner {
-            (link.at_lower, link.at_higher) = (link.at_lower + 1000, link.at_higher + 1000);
-        }
+    let inner = 2 * rng.range(2, 6);
+    let n = inner + rng.range(1, 4);
+    let mut names: Vec<u16> = (0..n as u16).collect();
+    rng.shuffle(&mut names);
+    let mut links = Vec::new();
+    for v in 1..n {
+        let (grade, other) = match v {
+            _ if v >= inner => (2, rng.below(inner)),
+            _ if v % 2 == 1 => (0, v - 1),
+            _ => (1, rng.below(v)),
+        };
+        let (a, b) = (names[v].min(names[other]), names[v].max(names[other]));
+        let mut reading = || (600 * grade + rng.below(600)) as u16;
+        links.push(Link { lower: a, higher: b, at_lower: reading(), at_higher: reading() });
     }
-    plan
+    links.sort_by_key(|link| (link.lower, link.higher));
+    Plan { modules: n as u16, links }
 }
 
 fn drawn_plan(rng: &mut Rng) -> Plan {
