@@ -11,5 +11,6 @@ pub mod Traffic
 pub mod Inv
 pub mod Lemmas
 pub mod Facts
+pub mod Same
 pub mod Setup
 pub mod Prelude
