@@ -5,6 +5,7 @@
 //! Standard terms: a module is a node, a link an edge, a plan a weighted graph in a file format, a field the state of
 //! the network, the waiting words its channels and queues.
 
+pub mod compare;
 pub mod field;
 pub mod frame;
 pub mod kruskal;

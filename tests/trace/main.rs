@@ -8,39 +8,10 @@ mod events;
 mod schedules;
 
 use events::{Events, WANTED};
+use oracle::compare::same_output;
 use oracle::rng::Rng;
 use oracle::trace::trace;
-use std::io::{Read, Write};
-use std::process::{Command, Stdio};
-
-/// What a program writes for an input. A thread feeds it, so that neither side waits for the other for ever.
-fn output_of(command: &[String], input: &[u8]) -> String {
-    let mut child = Command::new(&command[0])
-        .args(&command[1..])
-        .stdin(Stdio::piped())
-        .stdout(Stdio::piped())
-        .spawn()
-        .expect("the program starts");
-    let mut stdin = child.stdin.take().unwrap();
-    let bytes = input.to_vec();
-    let feed = std::thread::spawn(move || stdin.write_all(&bytes));
-    let mut text = String::new();
-    child.stdout.take().unwrap().read_to_string(&mut text).expect("the program writes text");
-    assert!(child.wait().unwrap().success(), "the program fails");
-    // a program that refuses a plan need not read the rest
-    let _ = feed.join();
-    text
-}
-
-fn compare(command: &[String], input: &[u8], name: &str) {
-    let (ours, theirs) = (trace(input), output_of(command, input));
-    if ours != theirs {
-        let kept = std::env::temp_dir().join("muruapy-trace-input");
-        std::fs::write(&kept, input).unwrap();
-        let line = ours.lines().zip(theirs.lines()).position(|(a, b)| a != b);
-        panic!("{name}: the outputs differ, first in line {line:?} (from 0); the input is in {}", kept.display());
-    }
-}
+use std::io::Read;
 
 fn main() {
     let args: Vec<String> = std::env::args().skip(1).collect();
@@ -58,7 +29,7 @@ fn main() {
         let input = schedules::input(&mut rng);
         events.observe(&input);
         if args[0] == "compare" {
-            compare(&args[3..], &input, &format!("input {i} of seed {seed}"));
+            same_output(&args[3..], &input, &trace(&input), &format!("input {i} of seed {seed}"));
         }
     }
     if args[0] == "compare" {
