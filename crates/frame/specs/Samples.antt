@@ -5,7 +5,7 @@ use mathlib.Core.List.{List, [], _∷_}
 use mathlib.Core.Bool.{Bool, true, false, _&&_}
 use lib.Dec.{eqb}
 use Rattle.message.specs.Msg.{Msg, none, connect, initiate, test, report}
-use Rattle.message.specs.Header.{headerOf, carriedOf, kindOf, levelOf, findOf}
+use Rattle.message.specs.Header.{partsOf, headerOf, carriedOf}
 use Rattle.message.specs.Listed.{bare, listedAs, listed}
 use Rattle.frame.specs.Frame.{frameBytes, frameRefusal}
 
@@ -49,5 +49,5 @@ rows =
     ∷ []
 
 pub all-hold : allHold rows ≡ true
-unfolding holds sameBytes frameRefusal listed listedAs bare kindOf levelOf findOf carriedOf allHold
+unfolding holds sameBytes frameRefusal listed listedAs bare partsOf allHold
 all-hold = refl

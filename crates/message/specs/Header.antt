@@ -17,47 +17,31 @@ levelAt h = h / 2 ^ 3 % 2 ^ 3
 abbrev pub findAt : ℕ → ℕ
 findAt h = h / 2 ^ 6 % 2
 
--- "Kinds: 1 Connect, 2 Initiate, 3 Test, 4 Accept, 5 Reject, 6 Report, 7 Change-root."
-unfoldable pub kindOf : Msg → ℕ
-kindOf (connect l) = 1
-kindOf (initiate l i f) = 2
-kindOf (test l i) = 3
-kindOf accept = 4
-kindOf reject = 5
-kindOf (report w) = 6
-kindOf change = 7
+-- what a message is made of, in numbers
+pub record Parts : Type 0 where
+  pub kind : ℕ
+  pub level : ℕ
+  pub carried : ℕ
+  pub find : ℕ
 
--- "unused parts are 0"
-unfoldable pub levelOf : Msg → ℕ
-levelOf (connect l) = l
-levelOf (initiate l i f) = l
-levelOf (test l i) = l
-levelOf accept = 0
-levelOf reject = 0
-levelOf (report w) = 0
-levelOf change = 0
+abbrev pub parts : ℕ → ℕ → ℕ → ℕ → Parts
+parts kind level carried find = record { kind = kind; level = level; carried = carried; find = find }
 
-unfoldable pub findOf : Msg → ℕ
-findOf (connect l) = 0
-findOf (initiate l i f) = f
-findOf (test l i) = 0
-findOf accept = 0
-findOf reject = 0
-findOf (report w) = 0
-findOf change = 0
-
--- "an unused carried number none"
-unfoldable pub carriedOf : Msg → ℕ
-carriedOf (connect l) = none
-carriedOf (initiate l i f) = i
-carriedOf (test l i) = i
-carriedOf accept = none
-carriedOf reject = none
-carriedOf (report w) = w
-carriedOf change = none
+-- "Kinds: 1 Connect, 2 Initiate, 3 Test, 4 Accept, 5 Reject, 6 Report, 7 Change-root"; "unused parts are 0, an unused carried number none"
+unfoldable pub partsOf : Msg → Parts
+partsOf (connect l) = parts 1 l none 0
+partsOf (initiate l i f) = parts 2 l i f
+partsOf (test l i) = parts 3 l i 0
+partsOf accept = parts 4 0 none 0
+partsOf reject = parts 5 0 none 0
+partsOf (report w) = parts 6 0 w 0
+partsOf change = parts 7 0 none 0
 
 abbrev pub headerOf : Msg → ℕ
-headerOf m = headerByte (kindOf m) (levelOf m) (findOf m)
+headerOf m = headerByte (partsOf m .kind) (partsOf m .level) (partsOf m .find)
+
+abbrev pub carriedOf : Msg → ℕ
+carriedOf m = partsOf m .carried
 
 -- the message of a kind, level, carried number and Find bit (what is no kind is taken for the last: no listed message has it)
 unfoldable pub msgOf : ℕ → ℕ → ℕ → ℕ → Msg

@@ -9,10 +9,9 @@ use lib.Pow.{split, shr-shr}
 use borrow.Author.Tests.{eqb-true, eq-eqb}
 use Rattle.base.specs.Cond.{bit, eqb-cases}
 use Rattle.message.specs.Msg.{Msg}
-use Rattle.message.specs.Header.{headerOf, carriedOf, kindOf, levelOf, findOf, meant}
+use Rattle.message.specs.Header.{headerOf, carriedOf, meant}
 use Rattle.message.specs.Listed.{listed, Listed}
-use Rattle.message.proofs.Byte.{byte-lt}
-use Rattle.message.proofs.Listed.{InBits, in-bits, means, has-listed, means-back}
+use Rattle.message.proofs.Listed.{in-bits, header-lt, means, has-listed, means-back}
 use Rattle.word.specs.Word.{packed, headerIn, carriedIn, linkIn, handedIn, shaped, laidOut, handOver, Waiting, waitingOf, packWaiting}
 
 -- unpacked from a packed word
@@ -66,8 +65,7 @@ same p q r = cc
 module _ (m : Msg) (d : ℕ) (b : Bool) (l : Listed m) (p : d < 65536) where
   packed-parts : Unpacked (headerOf m) (carriedOf m) d (bit b) (packed (headerOf m) (carriedOf m) d (bit b))
   packed-parts =
-      let i = in-bits m l in
-      unpacked _ _ _ _ (omega (arith, byte-lt (kindOf m) (levelOf m) (findOf m) (i .kind) (i .level) (i .find))) (i .carried) p (bit-lt b)
+      unpacked _ _ _ _ (omega (arith, header-lt m l)) (in-bits m l .carried) p (bit-lt b)
 
   -- it is read back ..
   pub waiting-back : waitingOf (packWaiting (record { msg = m; link = d; handed = b })) ≡ record { msg = m; link = d; handed = b }
