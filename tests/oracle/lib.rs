@@ -7,6 +7,7 @@
 
 pub mod compare;
 pub mod field;
+pub mod fields;
 pub mod frame;
 pub mod kruskal;
 pub mod plan;

@@ -1,6 +1,7 @@
 //! The oracle against document 01's samples, and against what demand 3 says of every plan.
 
 use crate::field::{setup, waiting, Field, Word, HAND_OVER, SERVE, WAKE};
+use crate::fields;
 use crate::frame::{self, Message};
 use crate::kruskal;
 use crate::plan::{self, ceiling, Link, Plan, NONE};
@@ -189,7 +190,7 @@ fn at_rest(field: &Field, words: &[u64]) {
 #[test]
 fn rounds_end_with_the_tree() {
     let mut rng = Rng::new(1);
-    for i in 0..360 {
+    for i in 0..180 {
         let kind = plans::KINDS[i % plans::KINDS.len()];
         let plan = plans::good(&mut rng, kind);
         let (mut field, mut words) = set_up(&plan.encode());
@@ -208,7 +209,7 @@ fn rounds_end_with_the_tree() {
 #[test]
 fn random_orders_end_with_the_tree() {
     let mut rng = Rng::new(2);
-    for _ in 0..300 {
+    for _ in 0..200 {
         let kind = rng.pick(&["path", "ring", "complete", "tree", "small", "medium"]);
         let plan = plans::good(&mut rng, kind);
         if plan.modules > 40 {
@@ -231,6 +232,38 @@ fn random_orders_end_with_the_tree() {
             }
         }
         at_rest(&field, &words);
+    }
+}
+
+/// Of any valid field a step makes a valid field, or leaves it as it was; every refusal of a step occurs.
+#[test]
+fn steps_of_any_valid_field() {
+    let mut rng = Rng::new(5);
+    let mut refusals = [0; 64];
+    for i in 0..30000 {
+        let plan = plans::good(&mut rng, if i % 20 == 0 { "single" } else { "small" });
+        let (mut field, mut words) = fields::drawn(&mut rng, &plan);
+        assert_eq!(field.check(&words), Ok(()));
+        if i % 3 == 0 {
+            fields::spoil(&mut rng, &mut field, &mut words);
+        }
+        let before = (field.clone(), words.clone());
+        let bound = rng.pick(&[2 * plan.links.len() + 2, plan.modules as usize, plan.modules as usize + 1]);
+        let number = rng.below(bound);
+        match field.step(&mut words, rng.pick(&[0, 1, 2, 3, 3, 3, 3, 4]), number as u16) {
+            Ok(done) => {
+                assert_eq!(field.check(&words), Ok(()));
+                let left = done.served.is_some() && !done.put_back;
+                assert_eq!(waiting(&words) + left as usize, waiting(&before.1) + done.sends);
+            }
+            Err(refusal) => {
+                assert_eq!((&field, &words), (&before.0, &before.1));
+                refusals[refusal as usize] += 1;
+            }
+        }
+    }
+    for refusal in [31, 32, 33, 41, 42, 43, 44, 45, 54] {
+        assert!(refusals[refusal] >= 100, "{refusal} came {} times", refusals[refusal]);
     }
 }
 

@@ -1,0 +1,100 @@
+//! Generators of field records as a host may supply them: valid in the sense of 31, though most of them no run from
+//! setup can reach, and spoilt ones.
+
+use crate::field::{Field, Word};
+use crate::frame::{Message, CONNECT, INITIATE, TEST};
+use crate::plan::{Plan, NONE};
+use crate::rng::Rng;
+use crate::rules::Module;
+
+/// One of the numbers, or none.
+fn or_none(rng: &mut Rng, numbers: &[u16]) -> u16 {
+    if numbers.is_empty() || rng.once_in(3) {
+        NONE
+    } else {
+        rng.pick(numbers)
+    }
+}
+
+fn module(rng: &mut Rng, plan: &Plan, v: u16) -> Module {
+    let links: Vec<u16> = (0..plan.links.len() as u16).collect();
+    let own = plan.own_links(v);
+    let some = rng.range(0, own.len());
+    let level = rng.range(0, plan.top_level() as usize) as u16;
+    Module {
+        status: rng.below(3) as u16,
+        level,
+        identity: if level == 0 { NONE } else { rng.pick(&links) },
+        best_weight: or_none(rng, &links),
+        best_edge: or_none(rng, &own),
+        test_edge: or_none(rng, &own),
+        in_branch: or_none(rng, &own),
+        find_count: rng.pick(&[0, some, own.len()]) as u16,
+        halted: rng.below(2) as u16,
+    }
+}
+
+/// A listed message with a level up to the top one and carried numbers below L, on some directed link.
+fn word(rng: &mut Rng, plan: &Plan) -> u64 {
+    let (links, top) = (plan.links.len(), plan.top_level() as usize);
+    let kind = rng.range(1, 7) as u8;
+    let carried = rng.below(links) as u16;
+    let message = match kind {
+        CONNECT => Message::connect(rng.range(0, top) as u16),
+        INITIATE => Message::initiate(rng.range(1, top) as u16, carried, rng.once_in(2)),
+        TEST => Message::test(rng.range(1, top) as u16, carried),
+        6 => Message::report(if rng.once_in(3) { NONE } else { carried }),
+        _ => Message::bare(kind),
+    };
+    Word { message, directed: rng.below(2 * links) as u16, handed: !rng.once_in(3) }.pack()
+}
+
+/// A valid field over a good plan, with its words.
+pub fn drawn(rng: &mut Rng, plan: &Plan) -> (Field, Vec<u64>) {
+    let most = plan.ceiling() as usize;
+    let waiting = if plan.links.is_empty() { 0 } else { rng.below(most.min(12) + 1) };
+    let mut words: Vec<u64> = (0..waiting).map(|_| word(rng, plan)).collect();
+    words.resize(most + rng.pick(&[0, 0, 1, 5]), 0);
+    // a sent count near M brings 33
+    let sent = if rng.once_in(4) { most - rng.below(3.min(most - waiting + 1)) } else { rng.range(waiting, most) };
+    let marks = plan.links.iter().map(|_| [rng.below(3) as u8, rng.below(3) as u8]).collect();
+    let modules = (0..plan.modules).map(|v| module(rng, plan, v)).collect();
+    (Field { plan: plan.clone(), modules, marks, sent: sent as u32 }, words)
+}
+
+/// Changes one value of a field or its words. Most changes bring 31, some leave the field valid.
+pub fn spoil(rng: &mut Rng, field: &mut Field, words: &mut Vec<u64>) {
+    let v = rng.below(field.modules.len());
+    let odd = rng.pick(&[0, 1, 2, 3, 8, field.plan.links.len() as u16, 600, NONE]);
+    let module = &mut field.modules[v];
+    match rng.below(15) {
+        0 => module.status = odd,
+        1 => module.level = odd,
+        2 => module.identity = odd,
+        3 => module.best_weight = odd,
+        4 => module.best_edge = odd,
+        5 => module.test_edge = odd,
+        6 => module.in_branch = odd,
+        7 => module.find_count = odd,
+        8 => module.halted = odd,
+        9 if !field.marks.is_empty() => {
+            let k = rng.below(field.marks.len());
+            field.marks[k][rng.below(2)] = odd as u8;
+        }
+        10 => field.sent = odd as u32 + rng.pick(&[0, field.plan.ceiling()]),
+        11 => words.truncate(words.len().saturating_sub(rng.range(1, 3))),
+        12 if !words.is_empty() => {
+            let at = rng.below(words.len());
+            words[at] ^= 1 << rng.below(64);
+        }
+        13 if words.len() > 1 => {
+            let (a, b) = (rng.below(words.len()), rng.below(words.len()));
+            words.swap(a, b);
+        }
+        _ if !field.plan.links.is_empty() => {
+            let k = rng.below(field.plan.links.len());
+            field.plan.links[k].at_lower = rng.pick(&[2001, NONE]);
+        }
+        _ => field.plan.modules += 1,
+    }
+}
