@@ -12,5 +12,8 @@ pub mod Inv
 pub mod Lemmas
 pub mod Facts
 pub mod Same
+pub mod Reopen
+pub mod Take
+pub mod Post
 pub mod Setup
 pub mod Prelude

@@ -44,3 +44,6 @@ pub use Rattle.protocol.specs.Facts.{joined-level, out-joined, half-of, 
 pub use Rattle.protocol.specs.Facts.{no-initiate, no-connect, no-connect-decided, decided-initiate, decided-report, decided-test, rest-none}
 pub use Rattle.protocol.specs.Same.{outst-to, outst-from, live-to, covered-to, owing-same, bests-same, connects-same, initiates-same, answers-same}
 pub use Rattle.protocol.specs.Same.{Alike, child-same, core-same, spent-same, reports-same}
+pub use Rattle.protocol.specs.Reopen.{reopened, hush-open, tokens-open, connects-open, initiates-open, telling-open, reports-open, owing-open, ordered-open}
+pub use Rattle.protocol.specs.Take.{Plain, kept, take-alike, take-top, take-hush, take-tokens, take-telling, take-ordered}
+pub use Rattle.protocol.specs.Post.{before, post-alike, post-top, post-hush, post-tokens, post-telling, post-ordered}

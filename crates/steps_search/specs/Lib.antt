@@ -1,1 +1,4 @@
 pub mod Back
+pub mod TestNone
+pub mod ReportLater
+pub mod TestNext

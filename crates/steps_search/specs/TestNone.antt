@@ -1,0 +1,115 @@
+-- Procedure test with no edge in the state Basic: test edge none, procedure report comes next.
+use Rattle.protocol.specs.Prelude.{ℕ, zero, suc, _+_, _≤_, _<_, arith, _≡_, refl, sym, ap, subst, _∙_, _≢_, _⊎_, inl, inr, ⊎-elim}
+use Rattle.protocol.specs.Prelude.{List, [], _∷_, _++_, upd, upd-elim, upd-same, upd-other, by-eq, sumL}
+use Rattle.protocol.specs.Prelude.{Msg, none, connect, initiate, test, accept, reject, report, change}
+use Rattle.protocol.specs.Prelude.{Plan, Ends, key, rank, joins-lt, flip, edge-some, State, Idle, set-te, set-ot, set-op}
+use Rattle.protocol.specs.Prelude.{isT, isA, isR, In, GL, GC, DK, Inf, Jn, Waits, Inv, no-answer}
+use Rattle.protocol.specs.Prelude.{hush-open, tokens-open, connects-open, initiates-open, telling-open, reports-open, owing-open, ordered-open}
+use Rattle.protocol.specs.Search.{Pending, Tests}
+use Rattle.protocol.specs.Traffic.{Testing, Answers, Bests}
+
+module _ {p : Plan} {s : State} (i : Inv p s) {v : ℕ} (ot : s.ot ≡ suc v) (op : s.op ≡ 0) (oo : s.oo ≡ 0)
+    (none-basic : (k u : ℕ) → Ends p k v u → s.mark v k ≢ 0) where
+  abbrev S′ : State
+  S′ = set-op (set-ot (set-te s (upd s.te v none)) 0) (suc v)
+
+  pub find : s.st v ≡ 1
+  find = i.F2.f5t v ot
+
+  -- who waits now waited before, and is not v
+  pub waits : (k w u : ℕ) → Ends p k w u → Waits S′ w k → (v ≢ w) × Waits s w k
+  waits k w u e h = upd-elim (λ x. x ≡ k → (v ≢ w) × Waits s w k) s.te v none w
+      (λ q z. absurd (edge-some p e (sym z)))
+      (λ n z. (n, (z, λ o. n (omega arith)))) (h .0)
+
+  -- who waited waits
+  pub still : (k w : ℕ) → Waits s w k → Waits S′ w k
+  still k w h = (upd-other s.te v none w (λ q. h .1 (ot ∙ ap suc q)) ∙ h .0, λ z. omega arith)
+
+  -- a test edge of one who did not wait, or is open: the same as before
+  pub idle-te : (k w : ℕ) → (S′.te w ≢ k) ⊎ (S′.ot ≡ suc w) → (s.te w ≢ k) ⊎ (s.ot ≡ suc w)
+  idle-te k w (inr z) = absurd (omega arith)
+  idle-te k w (inl n) = by-eq v w (λ q. inr (ot ∙ ap suc q)) (λ d. inl (λ z. n (upd-other s.te v none w d ∙ z)))
+
+  pub te-idle : (k w u : ℕ) → Ends p k w u → (s.te w ≢ k) ⊎ (s.ot ≡ suc w) → (S′.te w ≢ k) ⊎ (S′.ot ≡ suc w)
+  te-idle k w u e h = inl (upd-elim (λ x. x ≢ k) s.te v none w (λ q z. edge-some p e (sym z))
+      (λ n. ⊎-elim (λ d. d) (λ o. absurd (n (omega arith))) h))
+
+  F2′ : Pending s.st S′.te s.fc 0 (suc v)
+  F2′ = record {
+    f2 = λ w h. by-eq v w (λ q. inr (inr (inr (ap suc q))))
+        (λ n. ⊎-elim (λ c. inl c) (⊎-elim (λ c. inr (inl (λ z. c (sym (upd-other s.te v none w n) ∙ z)))) (⊎-elim (λ c. absurd (n (omega arith))) (λ c. absurd (omega arith)))) (i.F2.f2 w h));
+    f3t = λ w n. upd-elim (λ x. x ≡ none) s.te v none w (λ q. refl) (λ d. i.F2.f3t w n);
+    f3c = i.F2.f3c;
+    f5t = λ w h. absurd (omega arith);
+    f5p = λ w h. subst (λ x. s.st x ≡ 1) (omega arith) find;
+  }
+
+  E2′ : Tests p S′.te s.ib s.mark 0
+  E2′ = record {
+    e2o = λ w. upd-elim (λ x. x ≢ none → (u : ℕ) × Ends p x w u) s.te v none w (λ q n. absurd (n refl)) (λ d n. i.E2.e2o w n);
+    e2b = λ k w u j x e h. i.E2.e2b k w u j x e (waits k w u e h .1);
+    e2r = λ k w u e h. i.E2.e2r k w u e (waits k w u e h .1);
+    e2i = λ k w u e h b. let t = i.E2.e2i k w u e (waits k w u e h .1) b in
+        (t .0, upd-elim (λ x. x ≢ k) s.te v none u (λ q z. edge-some p e (sym z)) (λ d. t .1));
+    m6 = λ k w u e h z. still k u (i.E2.m6 k w u e h z);
+  }
+
+  E1′ : Testing p S′
+  E1′ = record {
+    e1 = i.E1.e1;
+    e1w = λ k u w l f e h. ⊎-elim (λ t. inl (still k u (t .0), t .1, t .2)) (λ t. inr (te-idle k u w e (t .0), t .1, still k w (t .2), t .3)) (i.E1.e1w k u w l f e h);
+    e2w = λ k w u e y z. i.E1.e2w k w u e (waits k w u e y .1) (waits k u w (flip e) z .1);
+    e2c = λ k w u e y z. i.E1.e2c k w u e (waits k w u e y .1) (idle-te k u z);
+    m6t = i.E1.m6t;
+  }
+
+  A1′ : Answers p S′
+  A1′ = record {
+    a1 = λ k u w e h. let t = i.A1.a1 k u w e h in record { a1w = still k w (t.a1w); a1m = t.a1m; a1f = t.a1f; a1l = t.a1l };
+    j1 = λ k u w e h. let t = i.A1.j1 k u w e h in record { j1w = still k w (t.j1w); j1f = t.j1f; j1m = t.j1m };
+  }
+
+  B2′ : Bests p S′
+  B2′ = record {
+    b1e = i.B2.b1e;
+    b2 = λ k u w e m d g. by-eq v u (λ q. absurd (none-basic k w (subst (λ x. Ends p k x w) (sym q) e) (subst (λ x. s.mark x k ≡ 0) (sym q) m)))
+        (λ n. ⊎-elim (λ t. inl t)
+        (⊎-elim (λ o. absurd (n (omega arith)))
+        (⊎-elim (λ t. inr (inr (inl (subst (λ x. (x ≢ none) × (key p x ≤ rank p k)) (sym (upd-other s.te v none u n)) t)))) (λ t. inr (inr (inr t)))))
+        (i.B2.b2 k u w e m d g));
+  }
+
+  pub inv-test-none : Inv p S′
+  inv-test-none = record {
+    W0 = i.W0;
+    W1 = i.W1;
+    G2 = i.G2;
+    G4 = i.G4;
+    G5 = i.G5;
+    G6 = i.G6;
+    M1 = i.M1;
+    U1 = i.U1;
+    D1 = i.D1;
+    D2 = i.D2;
+    D3 = i.D3;
+    D4 = i.D4;
+    T1 = i.T1;
+    T2 = i.T2;
+    F1 = i.F1;
+    F2 = F2′;
+    F4 = i.F4;
+    E2 = E2′;
+    B1 = i.B1;
+    G6c = hush-open p s S′.te s.be s.fc 0 (suc v) s.oo i.G6c;
+    Dc = tokens-open p s S′.te s.be s.fc 0 (suc v) s.oo i.Dc;
+    C1 = connects-open p s S′.te s.be s.fc 0 (suc v) s.oo i.C1;
+    I1 = initiates-open p s S′.te s.be s.fc 0 (suc v) s.oo i.I1;
+    T4 = telling-open p s S′.te s.be s.fc 0 (suc v) s.oo i.T4;
+    E1 = E1′;
+    A1 = A1′;
+    R1 = reports-open p s S′.te s.be s.fc 0 (suc v) s.oo i.R1;
+    F4c = owing-open p s S′.te s.be s.fc 0 (suc v) s.oo i.F4c;
+    B2 = B2′;
+    Q1 = ordered-open p s S′.te s.be s.fc 0 (suc v) s.oo i.Q1;
+  }
