@@ -5,3 +5,4 @@ pub mod Cases
 pub mod Places
 pub mod Lists
 pub mod Fits
+pub mod Keeps
