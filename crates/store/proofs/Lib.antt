@@ -1,0 +1,5 @@
+pub mod Search
+pub mod Queue
+pub mod Shift
+pub mod Laid
+pub mod Outcomes
