@@ -8,7 +8,7 @@ use mathlib.Core.List.{List, [], _∷_}
 use lib.ListN.{length, getD, drop, drop-of-length-le}
 use lib.Seq.{drop-cons}
 use Rattle.base.specs.Cond.{bit-le}
-use Rattle.field.specs.Step.{place}
+use Rattle.base.specs.Keep.{place}
 use Rattle.calls.specs.Rounds.{many}
 
 module _ (q : ℕ → Bool) (ws : List ℕ) (i : ℕ) where
