@@ -15,5 +15,7 @@ pub mod Same
 pub mod Reopen
 pub mod Take
 pub mod Post
+pub mod Quiet
+pub mod Wake
 pub mod Setup
 pub mod Prelude

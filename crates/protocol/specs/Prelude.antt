@@ -47,3 +47,5 @@ pub use Rattle.protocol.specs.Same.{Alike, child-same, core-same, spent-
 pub use Rattle.protocol.specs.Reopen.{reopened, hush-open, tokens-open, connects-open, initiates-open, telling-open, reports-open, owing-open, ordered-open}
 pub use Rattle.protocol.specs.Take.{Plain, kept, take-alike, take-top, take-hush, take-tokens, take-telling, take-ordered}
 pub use Rattle.protocol.specs.Post.{before, post-alike, post-top, post-hush, post-tokens, post-telling, post-ordered}
+pub use Rattle.protocol.specs.Quiet.{parent-find, climb, no-find, no-due}
+pub use Rattle.protocol.specs.Wake.{upd-id, woken-same}
