@@ -13,10 +13,10 @@ use Rattle.base.specs.None.{none}
 use Rattle.base.specs.Test.{every, every-all, all-every}
 use Rattle.base.specs.Pool.{All, nil, con, All-map}
 use Rattle.message.specs.Msg.{Msg, connect, initiate, test, accept, reject, report, change}
-use Rattle.message.specs.Header.{headerOf, carriedOf, levelOf, kindOf, findOf, levelAt, meant}
+use Rattle.message.specs.Header.{partsOf, headerOf, carriedOf, levelAt}
 use Rattle.message.specs.Listed.{Listed, listed}
-use Rattle.message.proofs.Byte.{byte-lt, parts-of-byte}
-use Rattle.message.proofs.Listed.{Means, means, InBits, in-bits}
+use Rattle.message.proofs.Byte.{parts-of-byte}
+use Rattle.message.proofs.Listed.{Means, means, in-bits, header-lt}
 use Rattle.word.specs.Word.{headerIn, carriedIn, linkIn, laidOut, shaped, handOver}
 use Rattle.word.proofs.Laws.{Unpacked, unpacked, over, over-laid-out, packs-laid-out}
 use Rattle.plan.specs.declared.Plan.{Plan}
@@ -154,18 +154,18 @@ module _ (p : Plan) (w : ℕ) (e : wordFits p w ≡ true) where
   said = means (headerIn w) (carriedIn w) (two (shaped w) (listed (headerIn w) (carriedIn w)) (parts .0) .1)
 
   -- its level and its carried number are the message's
-  level-is : levelOf (msgIn w) ≤ limitOf p
+  level-is : partsOf (msgIn w) .level ≤ limitOf p
   level-is =
       let b = in-bits (msgIn w) (said .fits) in
-      let q = parts-of-byte (kindOf (msgIn w)) (levelOf (msgIn w)) (findOf (msgIn w)) (b .kind) (b .level) (b .find) .1 in
+      let q = parts-of-byte (partsOf (msgIn w) .kind) (partsOf (msgIn w) .level) (partsOf (msgIn w) .find) (b .kind) (b .level) (b .find) .1 in
       omega (arith, leb-true (levelAt (headerIn w)) (limitOf p) (parts .3), q, ap levelAt (said .header))
 
   carried-is : (v : ℕ) → LinkOrNone (ownOf p v) (carriedOf (msgIn w))
   carried-is v = rw (said .carried) (link-none p v (carriedIn w) (parts .1))
 
 -- a listed message with its level and its carried number within the plan
-msg-ok : (o : Own) (limit : ℕ) (m : Msg) → Listed m → levelOf m ≤ limit → LinkOrNone o (carriedOf m) → MsgOk o limit m
-unfolding levelOf carriedOf
+msg-ok : (o : Own) (limit : ℕ) (m : Msg) → Listed m → partsOf m .level ≤ limit → LinkOrNone o (carriedOf m) → MsgOk o limit m
+unfolding partsOf
 msg-ok o limit (connect l) h a b = a
 msg-ok o limit (initiate l i f) h a b = (h .0, a, ⊎-elim (λ e. absurd (omega (arith, h .2))) (λ x. x) b, h .3)
 msg-ok o limit (test l i) h a b = (h .0, a, ⊎-elim (λ e. absurd (omega (arith, h .2))) (λ x. x) b)
@@ -189,8 +189,8 @@ hand-fits p w e =
 -- ---- a send
 
 module _ (o : Own) (limit : ℕ) where
-  level-within : (m : Msg) → MsgOk o limit m → levelOf m ≤ limit
-  unfolding levelOf
+  level-within : (m : Msg) → MsgOk o limit m → partsOf m .level ≤ limit
+  unfolding partsOf
   level-within (connect l) h = h
   level-within (initiate l i f) h = h .1
   level-within (test l i) h = h .1
@@ -200,7 +200,7 @@ module _ (o : Own) (limit : ℕ) where
   level-within change h = omega arith
 
   carried-within : (m : Msg) → MsgOk o limit m → LinkOrNone o (carriedOf m)
-  unfolding carriedOf
+  unfolding partsOf
   carried-within (connect l) h = inl refl
   carried-within (initiate l i f) h = inr (h .2)
   carried-within (test l i) h = inr (h .2)
@@ -232,12 +232,12 @@ module _ (p : Plan) (a : Accepted p) (v : ℕ) (x : Send) (h : SendOk (ownOf p v
       let d = O.over p v (x .edge) in
       let b = in-bits m (send-packs .listed) in
       let small : d < 65536 = omega (arith, end-small (p .lower) v (x .edge) (send-packs .small)) in
-      let u = unpacked (headerOf m) (carriedOf m) d 0 (omega (arith, byte-lt (kindOf m) (levelOf m) (findOf m) (b .kind) (b .level) (b .find))) (b .carried) small (omega arith) in
-      let q = parts-of-byte (kindOf m) (levelOf m) (findOf m) (b .kind) (b .level) (b .find) .1 in
+      let u = unpacked (headerOf m) (carriedOf m) d 0 (omega (arith, header-lt m (send-packs .listed))) (b .carried) small (omega arith) in
+      let q = parts-of-byte (partsOf m .kind) (partsOf m .level) (partsOf m .find) (b .kind) (b .level) (b .find) .1 in
       all-four _ _ _ _ (packs-laid-out m d false (send-packs .listed) small)
       (ap (linkOrNone p) (u .carried) ∙ none-link p v (carriedOf m) (carried-within (ownOf p v) (limitOf p) m (h .msg)))
       (ap (λ y. ltb y (2 * p .links)) (u .link) ∙ lt-ltb d (2 * p .links) (over-below p v (x .edge) (h .own)))
-      (ap (λ y. leb (levelAt y) (limitOf p)) (u .header) ∙ ap (λ y. leb y (limitOf p)) q ∙ le-leb (levelOf m) (limitOf p) (level-within (ownOf p v) (limitOf p) m (h .msg)))
+      (ap (λ y. leb (levelAt y) (limitOf p)) (u .header) ∙ ap (λ y. leb y (limitOf p)) q ∙ le-leb (partsOf m .level) (limitOf p) (level-within (ownOf p v) (limitOf p) m (h .msg)))
 
 pub sends-fit : (p : Plan) (a : Accepted p) (v : ℕ) {l : List Send} → All (SendOk (ownOf p v) (limitOf p)) l → All (λ w. wordFits p w ≡ true) (posted p v l)
 sends-fit p a v nil = nil
