@@ -1,0 +1,57 @@
+-- A law for each outcome of the head's check, each under the tests that came before; and what a passed check says.
+use Prim.Native.Nat.{ℕ, suc, _+_, _*_, _-_, _≤_, _<_}
+use native.Mathlib.Omega.{arith}
+use mathlib.Core.Path.{_≡_, refl, sym, _∙_}
+use mathlib.Core.Logic.{_≢_}
+use mathlib.Core.Bool.{Bool, true, false, not, _||_}
+use lib.Dec.{eqb, ltb}
+use borrow.Author.Tests.{lt-ltb, le-ltb, eq-eqb, ne-eqb}
+use Rattle.planfile.specs.Reading.{countsVerdict, headVerdict}
+
+module _ (len n l : ℕ) where
+  pub c-nobody : n ≡ 0 → 14 ≡ countsVerdict len n l
+  unfolding countsVerdict
+  c-nobody e = rw (eq-eqb n 0 e)
+
+  module _ (a : n ≢ 0) where
+    pub c-modules : 192 < n → 14 ≡ countsVerdict len n l
+    unfolding countsVerdict
+    c-modules h = rw (ne-eqb n 0 a, lt-ltb 192 n h)
+
+    module _ (b : n ≤ 192) where
+      pub c-links : 600 < l → 15 ≡ countsVerdict len n l
+      unfolding countsVerdict
+      c-links h = rw (ne-eqb n 0 a, le-ltb 192 n b, lt-ltb 600 l h)
+
+      module _ (d : l ≤ 600) where
+        pub c-length : len ≢ 4 + 8 * l → 15 ≡ countsVerdict len n l
+        unfolding countsVerdict
+        c-length h = rw (ne-eqb n 0 a, le-ltb 192 n b, le-ltb 600 l d, ne-eqb len (4 + 8 * l) h)
+
+        pub c-fine : len ≡ 4 + 8 * l → 0 ≡ countsVerdict len n l
+        unfolding countsVerdict
+        c-fine h = rw (ne-eqb n 0 a, le-ltb 192 n b, le-ltb 600 l d, eq-eqb len (4 + 8 * l) h)
+
+module _ (size version len counts : ℕ) where
+  pub h-short : size < 3 → 11 ≡ headVerdict size version len counts
+  unfolding headVerdict
+  h-short h = rw (lt-ltb size 3 h)
+
+  module _ (a : 3 ≤ size) where
+    pub h-version : version ≢ 1 → 12 ≡ headVerdict size version len counts
+    unfolding headVerdict
+    h-version h = rw (le-ltb size 3 a, ne-eqb version 1 h)
+
+    module _ (b : version ≡ 1) where
+      pub h-length : len ≢ size - 3 → 13 ≡ headVerdict size version len counts
+      unfolding headVerdict
+      h-length h = rw (le-ltb size 3 a, eq-eqb version 1 b, ne-eqb len (size - 3) h)
+
+      module _ (d : len ≡ size - 3) where
+        pub h-least : len < 4 → 13 ≡ headVerdict size version len counts
+        unfolding headVerdict
+        h-least h = rw (le-ltb size 3 a, eq-eqb version 1 b, eq-eqb len (size - 3) d, lt-ltb len 4 h)
+
+        pub h-counts : 4 ≤ len → counts ≡ headVerdict size version len counts
+        unfolding headVerdict
+        h-counts h = rw (le-ltb size 3 a, eq-eqb version 1 b, eq-eqb len (size - 3) d, le-ltb len 4 h)

@@ -1,0 +1,161 @@
+// Plans as bytes: the reader, its check, the writer.
+ghost use mathlib.Core.Path.{_≡_};
+ghost use mathlib.Core.List.{List};
+ghost use Prim.Native.Nat.{_+_, _*_, _<_, _≤_};
+ghost use lib.ListN.{length};
+ghost use Rattle.planfile.specs.Layout.{word, column, zeros, blank};
+ghost use Rattle.planfile.specs.Reading.{countsVerdict, headRefusal, readRefusal, readPlan, Loaded};
+use plan::Plan;
+
+// What reading bytes answers: the refusal, or 0 and the plan.
+pub struct Outcome {
+    pub refusal: u32,
+    pub plan: Plan,
+}
+
+// The integer number i after the version byte.
+fn word(s: &[u8], i: usize) -> u16
+    requires { ⌜ 2 + 2 * i < length (now s) ⌝ }
+    ensures { λ r. ⌜ r ≡ word (now (s .entry)) i ⌝ }
+{
+    int16::at(s, 1 + 2 * i)
+}
+
+// The check of the length given against N and L: 14, 15 or 0.
+fn counts_check(len: usize, n: u16, l: u16) -> u32
+    ensures { λ r. ⌜ r ≡ countsVerdict len n l ⌝ }
+{
+    if n == 0 {
+        return 14;
+    }
+    if 192 < n {
+        return 14;
+    }
+    if 600 < l {
+        return 15;
+    }
+    if len != 4 + 8 * (l as usize) {
+        return 15;
+    }
+    0
+}
+
+// The check of version, lengths and counts: 11 to 15, or 0.
+fn head_check(s: &[u8]) -> u32
+    ensures { λ r. ⌜ r ≡ headRefusal (now (s .entry)) ⌝ }
+{
+    if s.len() < 3 {
+        return 11;
+    }
+    if s[0] != 1 {
+        return 12;
+    }
+    let len = word(s, 0) as usize;
+    if len != s.len() - 3 {
+        return 13;
+    }
+    if len < 4 {
+        return 13;
+    }
+    counts_check(len, word(s, 1), word(s, 2))
+}
+
+// Reads the links into columns of zeros.
+fn fill(
+    s: &[u8],
+    l: usize,
+    lower: &mut [u16; 600],
+    higher: &mut [u16; 600],
+    near: &mut [u16; 600],
+    far: &mut [u16; 600],
+)
+    requires { ⌜ (l ≤ 600) × (6 + 8 * l < length (now s)) × (now lower ≡ zeros) × (now higher ≡ zeros) × (now near ≡ zeros) × (now far ≡ zeros) ⌝ }
+    ensures { λ _. ⌜ (now (lower .exit) ≡ column (now (s .entry)) l 0) × (now (higher .exit) ≡ column (now (s .entry)) l 1)
+        × (now (near .exit) ≡ column (now (s .entry)) l 2) × (now (far .exit) ≡ column (now (s .entry)) l 3) ⌝ }
+{
+    let mut k: usize = 0;
+    while k < l {
+        let i = 3 + 4 * k;
+        lower[k] = word(s, i);
+        higher[k] = word(s, i + 1);
+        near[k] = word(s, i + 2);
+        far[k] = word(s, i + 3);
+        k += 1;
+    }
+}
+
+fn refused(number: u32) -> Outcome
+    ensures { λ r. ⌜ r ≡ record { refusal = number; plan = blank } ⌝ }
+{
+    let zeros = [0u16; 600];
+    let plan = Plan {
+        modules: 0,
+        links: 0,
+        lower: zeros,
+        higher: zeros,
+        near: zeros,
+        far: zeros,
+    };
+    Outcome {
+        refusal: number,
+        plan: plan,
+    }
+}
+
+// The check of the bytes, which leaves the links of a plan that is taken in the columns.
+fn load(
+    s: &[u8],
+    lower: &mut [u16; 600],
+    higher: &mut [u16; 600],
+    near: &mut [u16; 600],
+    far: &mut [u16; 600],
+) -> u32
+    requires { ⌜ (now lower ≡ zeros) × (now higher ≡ zeros) × (now near ≡ zeros) × (now far ≡ zeros) ⌝ }
+    ensures { λ r. ⌜ Loaded (now (s .entry)) r (now (lower .exit)) (now (higher .exit)) (now (near .exit)) (now (far .exit)) ⌝ }
+{
+    let head = head_check(s);
+    if head != 0 {
+        return head;
+    }
+    let n = word(s, 1);
+    let l = word(s, 2);
+    fill(s, l as usize, lower, higher, near, far);
+    plan::check_columns(n, l, lower, higher, near, far)
+}
+
+// Whether bytes are a plan: the first of 11 to 19 that applies, or 0.
+pub fn check(s: &[u8]) -> u32
+    ensures { λ r. ⌜ r ≡ readRefusal (now (s .entry)) ⌝ }
+{
+    let mut lower = [0u16; 600];
+    let mut higher = [0u16; 600];
+    let mut near = [0u16; 600];
+    let mut far = [0u16; 600];
+    load(s, &mut lower, &mut higher, &mut near, &mut far)
+}
+
+// The plan that bytes are, or the first of 11 to 19 that applies.
+pub fn read(s: &[u8]) -> Outcome
+    ensures { λ r. ⌜ r ≡ readPlan (now (s .entry)) ⌝ }
+{
+    let mut lower = [0u16; 600];
+    let mut higher = [0u16; 600];
+    let mut near = [0u16; 600];
+    let mut far = [0u16; 600];
+    let r = load(s, &mut lower, &mut higher, &mut near, &mut far);
+    if r != 0 {
+        return refused(r);
+    }
+    let plan = Plan {
+        modules: word(s, 1),
+        links: word(s, 2),
+        lower: lower,
+        higher: higher,
+        near: near,
+        far: far,
+    };
+    Outcome {
+        refusal: 0,
+        plan: plan,
+    }
+}
