@@ -1,0 +1,26 @@
+-- Laws that the functions' proofs cite, over plain lists and numbers.
+use Prim.Native.Nat.{ℕ, _+_, _≤_, _<_}
+use native.Mathlib.Omega.{arith}
+use native.Mathlib.Numerals.{add-one}
+use mathlib.Core.Path.{_≡_, refl, sym, ap, _∙_}
+use mathlib.Core.Logic.{_≢_, _⊎_, inl, inr}
+use mathlib.Core.Bool.{Bool, true, false, cond}
+use mathlib.Core.List.{List}
+use lib.Dec.{eqb}
+use lib.ListN.{length, set}
+use lib.Seq.{getD-set-same, getD-set-other}
+use Rattle.base.specs.Cond.{by-eq, eqb-same, eqb-diff}
+use Rattle.base.specs.Sum.{sum}
+use Rattle.tree.specs.Columns.{at}
+
+-- FILLING: l is f below v, and one more is stored
+pub fill : (f : ℕ → ℕ) (l : List ℕ) (v x : ℕ) → v < length l → ((i : ℕ) → i < v → at l i ≡ f i) → x ≡ f v → (i : ℕ) → i < v + 1 → at (set l v x) i ≡ f i
+fill f l v x h below e i k = by-eq v i (λ q. rw (← q) (getD-set-same l v x 0 h ∙ e)) (λ n. getD-set-other l v i x 0 (λ q. n (sym q)) ∙ below i (omega arith))
+
+-- one more term
+pub sum-next : (f : ℕ → ℕ) (k : ℕ) → sum (k + 1) f ≡ sum k f + f k
+sum-next f k = rw add-one (omega arith)
+
+-- what lies above keeps
+pub kept : (l l₀ : List ℕ) (v x : ℕ) → ((i : ℕ) → v ≤ i → at l i ≡ at l₀ i) → (i : ℕ) → v + 1 ≤ i → at (set l v x) i ≡ at l₀ i
+kept l l₀ v x above i k = getD-set-other l v i x 0 (λ q. omega arith) ∙ above i (omega arith)

@@ -1,0 +1,66 @@
+use mathlib.Core.Path.{_≡_, refl, _∙_}
+use borrow.Author.Needs.{needs}
+use lib.ListN.{length}
+use Rattle.plan.specs.Links.{edges, planOf}
+use Rattle.plan.specs.Weights.{orderOf, earlierIn}
+use Rattle.tree.specs.Forest.{Forest, finished}
+use Rattle.tree.specs.Phase.{apart}
+use Rattle.tree.specs.Columns.{at, Parts, Phased}
+use Rattle.tree.proofs.Joins.{fit-of}
+use Rattle.tree.proofs.repeat.Statement.{statement}
+use Rattle.tree.proofs.repeat.Tie as tie
+use Rattle.tree.proofs.repeat.Reads as reads
+use Rattle.tree.proofs.repeat.Lts as lts
+use Rattle.tree.proofs.phase.Reads as phase-reads
+
+abbrev Inv-loop : tie.InvT-loop
+Inv-loop lower higher near far label₀ out₀ label out =
+    (length out ≡ length out₀) × Parts label × Forest (edges (length out₀) lower higher) (earlierIn near far) (at label) (at out)
+
+abbrev μ-loop : tie.MeasureT-loop
+μ-loop lower higher near far label₀ out₀ label out = apart (edges (length out₀) lower higher) (at label)
+
+-- src/lib.rt:173:5
+loop-holds : tie.Need-loop-holds Inv-loop μ-loop
+loop-holds c = (refl, c .before .pre .0 .parts, c .before .pre .1)
+
+-- src/lib.rt:174:12
+phase-requires : tie.Need-phase-requires Inv-loop μ-loop
+phase-requires c κs =
+    let l = c .before .before .loop in
+    let s = c .before .before .before .before in
+    (fit-of (s .args .lower .now) (s .args .higher .now) _ (l .label) (l .out) (s .pre .0 .few) (s .pre .0 .ends) (l .inv .0) (l .inv .1), rw (l .inv .0) (l .inv .2))
+
+-- what the phase did, for as many edges as at the start
+after : (c : tie.After-phase Inv-loop μ-loop) → let a = c .before .before .before .before .before .args in
+    Phased (edges (length (a .out .now)) (a .lower .now) (a .higher .now)) (earlierIn (a .near .now) (a .far .now))
+    (c .before .before .before .loop .label) (c .phase .last .1 .1 .1 .1 .0) (c .phase .last .1 .1 .1 .1 .1 .0) (c .phase .result)
+after c = rw (c .before .before .before .loop .inv .0) at (c .phase .ensures)
+
+-- src/lib.rt:175:13
+same-length : tie.Need-same-length Inv-loop μ-loop
+same-length c = let p = c .before .before .before in p .phase .kept .1 .1 .1 .1 .1 .0 ∙ p .before .before .before .loop .inv .0
+
+-- src/lib.rt:175:13
+returns : tie.Need-returns Inv-loop μ-loop
+returns c =
+    let p = c .before .before .before in
+    let s = p .before .before .before .before .before in
+    let a = s .args in
+    finished (edges (length (a .out .now)) (a .lower .now) (a .higher .now)) (orderOf (planOf 0 (length (a .out .now)) (a .lower .now) (a .higher .now) (a .near .now) (a .far .now)))
+    (at (p .phase .last .1 .1 .1 .1 .0)) _ (s .pre .0 .ends) (after p .forest) (after p .over (c .if1 .taken))
+
+-- src/lib.rt:173:5
+loop-less : tie.Need-loop-less Inv-loop μ-loop
+loop-less c = after (c .before .before .before) .fewer (c .if1 .left)
+
+-- src/lib.rt:173:5
+loop-again : tie.Need-loop-again Inv-loop μ-loop
+loop-again c =
+    let p = c .before .before .before in
+    (p .phase .kept .1 .1 .1 .1 .1 .0 ∙ p .before .before .before .loop .inv .0, after p .parts, after p .forest)
+
+pub repeat-spec : {M : Type 1} → statement M
+repeat-spec =
+    tie.close
+    (tie.spec Inv-loop μ-loop loop-holds phase-requires same-length returns loop-less loop-again)

@@ -1,0 +1,43 @@
+use native.Mathlib.Omega.{arith}
+use borrow.Author.Needs.{needs}
+use lib.ListN.{length}
+use Rattle.plan.specs.Links.{edges}
+use Rattle.tree.proofs.Joins.{not-none, takes}
+use Rattle.tree.proofs.take.Statement.{statement}
+use Rattle.tree.proofs.take.Tie as tie
+use Rattle.tree.proofs.take.Reads as reads
+use Rattle.tree.proofs.take.Lts as lts
+use Rattle.tree.proofs.join.Reads as join-reads
+use Rattle.tree.proofs.wide.Reads as wide-reads
+
+-- src/lib.rt:135:9
+returns : tie.Need-returns
+returns c = search needs
+
+-- src/lib.rt:137:9
+wide-requires : tie.Need-wide-requires
+wide-requires c κs = search needs
+
+-- src/lib.rt:138:5
+join-requires : tie.Need-join-requires
+join-requires c κs =
+    let w = c .before .before in
+    let s = w .before .before .before in
+    (s .pre .0, omega (arith, w .wide .ensures, not-none (w .before .if1 .left) (s .pre .1)))
+
+-- src/lib.rt:130:1
+same-length : tie.Need-same-length
+same-length c = search needs
+
+-- src/lib.rt:130:1
+returns-2 : tie.Need-returns-2
+returns-2 c =
+    let j = c .before .before in
+    let w = j .before .before .before in
+    let s = w .before .before .before in
+    let n = w .before .if1 .left in
+    takes (edges (length (s .args .out .now)) (s .args .lower .now) (s .args .higher .now)) (s .args .k) _ (s .args .label .now) (s .args .out .now) _ _
+    (w .wide .ensures) n (not-none n (s .pre .1)) (s .pre .0 .ends) (s .pre .0 .parts) (j .join .ensures .1) (j .join .ensures .0)
+
+pub take-spec : {M : Type 1} → statement M
+take-spec = tie.close (tie.spec returns wide-requires join-requires same-length returns-2)

@@ -1,0 +1,7 @@
+pub mod Forest
+pub mod Phase
+pub mod Columns
+pub mod Tree
+pub mod Laws
+pub mod Theorems
+pub mod Samples
