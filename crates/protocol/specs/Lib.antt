@@ -17,5 +17,6 @@ pub mod Take
 pub mod Post
 pub mod Quiet
 pub mod Wake
+pub mod Best
 pub mod Setup
 pub mod Prelude

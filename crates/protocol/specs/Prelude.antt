@@ -49,3 +49,4 @@ pub use Rattle.protocol.specs.Take.{Plain, kept, take-alike, take-top, t
 pub use Rattle.protocol.specs.Post.{before, post-alike, post-top, post-hush, post-tokens, post-telling, post-ordered}
 pub use Rattle.protocol.specs.Quiet.{parent-find, climb, no-find, no-due}
 pub use Rattle.protocol.specs.Wake.{upd-id, woken-same}
+pub use Rattle.protocol.specs.Best.{rated, hush-best, connects-best, initiates-best, telling-best, owing-best, ordered-best, tokens-best, reports-best}

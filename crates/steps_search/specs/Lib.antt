@@ -2,3 +2,4 @@ pub mod Back
 pub mod TestNone
 pub mod ReportLater
 pub mod TestNext
+pub mod Accepted
