@@ -3,3 +3,4 @@ pub mod TestNone
 pub mod ReportLater
 pub mod TestNext
 pub mod Accepted
+pub mod WakeLone
