@@ -1,0 +1,56 @@
+// The cells and marks of a field: one module's values read and written, one mark written.
+use node::Node;
+use search;
+ghost use Prim.Native.Nat.{_*_, _<_};
+ghost use mathlib.Core.Path.{_≡_};
+ghost use mathlib.Core.Logic.{_⊎_};
+ghost use Rattle.field.specs.State.{nodeIn, putNode};
+ghost use Rattle.cells.specs.Marks.{markPut};
+
+// Module v's nine values.
+pub fn load(cells: &[u16; 1728], v: u16) -> Node
+    requires { ⌜ v < 192 ⌝ }
+    ensures { λ r. ⌜ r ≡ nodeIn (now (cells .entry)) (v * 9) ⌝ }
+{
+    let c = (v as usize) * 9;
+    Node {
+        status: cells[c],
+        level: cells[c + 1],
+        identity: cells[c + 2],
+        weight: cells[c + 3],
+        best: cells[c + 4],
+        test: cells[c + 5],
+        branch: cells[c + 6],
+        count: cells[c + 7],
+        halted: cells[c + 8],
+    }
+}
+
+// Module v's nine values become n's.
+pub fn put_node(cells: &mut [u16; 1728], v: u16, n: Node)
+    requires { ⌜ v < 192 ⌝ }
+    ensures { λ _. ⌜ now (cells .exit) ≡ putNode (now (cells .entry)) v n ⌝ }
+{
+    let c = (v as usize) * 9;
+    cells[c] = n.status;
+    cells[c + 1] = n.level;
+    cells[c + 2] = n.identity;
+    cells[c + 3] = n.weight;
+    cells[c + 4] = n.best;
+    cells[c + 5] = n.test;
+    cells[c + 6] = n.branch;
+    cells[c + 7] = n.count;
+    cells[c + 8] = n.halted;
+}
+
+// Module v's mark for its link k becomes c, unless k is none.
+pub fn put_mark(lower: &[u16; 600], marks: &mut [u8; 1200], v: u16, k: u16, c: u8)
+    requires { ⌜ (k < 600) ⊎ (k ≡ 65535) ⌝ }
+    ensures { λ _. ⌜ now (marks .exit) ≡ markPut (now (lower .entry)) (now (marks .entry)) v k c ⌝ }
+{
+    if k == search::NONE {
+        return;
+    }
+    let i = search::end_at(lower, v, k) as usize;
+    marks[i] = c;
+}
