@@ -10,7 +10,6 @@ use mathlib.Core.List.{List, [], _++_}
 use lib.Dec.{eqb}
 use Rattle.base.specs.Cond.{eqb-cases, eqb-same, eqb-diff, by-eq, bool-cases}
 use Rattle.base.specs.Search.{lt-suc-cases}
-use Rattle.base.specs.Pool.{sumL, sumL-app}
 use Rattle.base.specs.Loop.{After, Ran, taken, then, loop, counted, runs, tale, tales}
 
 -- both answers of a test, in a goal P
@@ -84,28 +83,30 @@ module _ {S : Type 0} where
       let i = loop-ok P n g x h (λ k y l. s k y (omega arith)) in
       rw (then-on (loop n g x) (g n) (i .fine)) (s n (loop n g x .state) (omega arith) (i .holds))
 
-  -- f grows in each turn by what the turn tells, so it does over all
-  module _ {E : Type 0} (f : S → ℕ) (c : E → ℕ) (g : ℕ → S → After S) (t : ℕ → S → List E) (turn : (k : ℕ) (y : S) → f (g k y .state) ≡ f y + sumL c (t k y)) where
-    pub loop-tale : (n : ℕ) (x : S) → f (loop n g x .state) ≡ f x + sumL c (tale n g t x)
+  -- R x l y: from x the turns told l and left y. What holds of each turn holds over all.
+  module _ {E : Type 0} (R : S → List E → S → Type 0) (none : (x : S) → R x [] x)
+      (more : (x y z : S) (l m : List E) → R x l y → R y m z → R x (l ++ m) z)
+      (g : ℕ → S → After S) (t : ℕ → S → List E) where
+    pub loop-tells : (n : ℕ) (x : S) → ((k : ℕ) (y : S) → k < n → R y (t k y) (g k y .state)) → R x (tale n g t x) (loop n g x .state)
     unfolding loop tale then
-    loop-tale zero x = omega arith
-    loop-tale (suc n) x =
-        let i = loop-tale n x in
-        eqb-cases (loop n g x .answer) 0
-        (λ b. f (cond b (g n (loop n g x .state)) (loop n g x) .state) ≡ f x + sumL c (tale n g t x ++ cond b (t n (loop n g x .state)) []))
-        (λ e. omega (arith, turn n (loop n g x .state), sumL-app c (tale n g t x) (t n (loop n g x .state))))
-        (λ e. omega (arith, sumL-app c (tale n g t x) []))
+    loop-tells zero x turn = none x
+    loop-tells (suc n) x turn =
+        let y = loop n g x .state in
+        let i = loop-tells n x (λ k z l. turn k z (omega arith)) in
+        by-test (eqb (loop n g x .answer) 0) (λ b. R x (tale n g t x ++ cond b (t n y) []) (cond b (g n y) (loop n g x) .state))
+        (more x y (g n y .state) (tale n g t x) (t n y) i (turn n y (omega arith)))
+        (more x y y (tale n g t x) [] i (none y))
 
-    pub runs-tale : (rest : S → Bool) (n : ℕ) (x : S) → f (runs rest n g x .state) ≡ f x + sumL c (tales rest n g t x)
+    pub runs-tell : (rest : S → Bool) (n : ℕ) (x : S) → ((k : ℕ) (y : S) → k < n → R y (t k y) (g k y .state)) → R x (tales rest n g t x) (runs rest n g x .state)
     unfolding runs tales
-    runs-tale rest zero x = omega arith
-    runs-tale rest (suc n) x =
-        let i = runs-tale rest n x in
+    runs-tell rest zero x turn = none x
+    runs-tell rest (suc n) x turn =
         let r = runs rest n g x in
-        by-test (eqb (r .answer) 0 && not (rest (r .state)))
-        (λ b. f (cond b (counted (r .done) (g n (r .state))) r .state) ≡ f x + sumL c (tales rest n g t x ++ cond b (t n (r .state)) []))
-        (omega (arith, turn n (r .state), sumL-app c (tales rest n g t x) (t n (r .state))))
-        (omega (arith, sumL-app c (tales rest n g t x) []))
+        let y = r .state in
+        let i = runs-tell rest n x (λ k z l. turn k z (omega arith)) in
+        by-test (eqb (r .answer) 0 && not (rest y)) (λ b. R x (tales rest n g t x ++ cond b (t n y) []) (cond b (counted (r .done) (g n y)) r .state))
+        (more x y (g n y .state) (tales rest n g t x) (t n y) i (turn n y (omega arith)))
+        (more x y y (tales rest n g t x) [] i (none y))
 
   -- what every turn keeps, refused or not
   pub runs-keep : (P : S → Type 0) (rest : S → Bool) (n : ℕ) (g : ℕ → S → After S) (x : S) → P x → ((k : ℕ) (y : S) → k < n → P y → P (g k y .state))

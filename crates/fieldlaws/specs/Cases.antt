@@ -41,11 +41,18 @@ pub record Served (p : Plan) (v : ℕ) (s s′ : State) : Type 0 where
   pub word : ℕ
   pub rest : List ℕ
   pub first : First (inQueue p v) (s .words) word rest
+  pub at : word ≡ getD (s .words) (place (inQueue p v) (s .words)) 0
   pub responds : Placed p v (serveWork p v word s) s rest (backOf (serveWork p v word s) word) s′
 
 -- "A refused call alters no field": a step refused by one of these numbers
 abbrev pub Refusal : ℕ → Type 0
 Refusal r = (r ≡ 32) ⊎ (r ≡ 33) ⊎ ((41 ≤ r) × (r ≤ 45)) ⊎ (r ≡ 54)
+
+pub refusal-some : (r : ℕ) → Refusal r → r ≢ 0
+refusal-some r (inl h) = λ e. omega arith
+refusal-some r (inr (inl h)) = λ e. omega arith
+refusal-some r (inr (inr (inl h))) = λ e. omega (arith, h .0)
+refusal-some r (inr (inr (inr h))) = λ e. omega arith
 
 usual : (r : ℕ) → 41 ≤ r → r ≤ 45 → Refusal r
 usual r l h = inr (inr (inl (l, h)))
@@ -95,7 +102,14 @@ module _ (p : Plan) (s : State) where
       (let i = place (inQueue p v) (s .words) in
       let x = getD (s .words) i 0 in
       let w = serveWork p v x s in
-      outcome-map (λ s′ h. record { within = leb-false _ _ b; word = x; rest = without i (s .words); first = place-first (inQueue p v) (s .words) 0 (leb-false _ _ c); responds = h })
+      outcome-map (λ s′ h. record {
+        within = leb-false _ _ b;
+        word = x;
+        rest = without i (s .words);
+        first = place-first (inQueue p v) (s .words) 0 (leb-false _ _ c);
+        at = refl;
+        responds = h;
+      })
       (settled p v w s (without i (s .words)) (backOf w x))))))
 
   -- a step of any kind

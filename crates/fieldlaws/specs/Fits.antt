@@ -1,15 +1,18 @@
 -- Refusal 31 as facts: what the test `fits` says of a state, both ways.
 use Prim.Native.Nat.{ℕ, zero, suc, _+_, _*_, _/_, _^_, _≤_, _<_}
 use native.Mathlib.Omega.{arith}
+use native.Mathlib.Decide.{decLt}
 use mathlib.Core.Path.{_≡_, refl, sym, ap, ap₂, subst, _∙_}
-use mathlib.Core.Logic.{_≢_, _⊎_, inl, inr, ⊎-elim}
+use mathlib.Core.Logic.{_≢_, _⊎_, inl, inr, ⊎-elim, by-cases}
 use mathlib.Core.Bool.{Bool, true, false, not, cond, _&&_, _||_, and-eq-true-iff, true≢false}
 use mathlib.Core.List.{List, [], _∷_, _++_}
 use lib.ListN.{length, getD}
 use lib.Dec.{eqb, ltb, leb}
+use lib.Pow.{pow-mono}
 use borrow.Author.Tests.{ltb-true, leb-true, eqb-true, eqb-false, not-true, lt-ltb, le-leb, eq-eqb, ne-eqb}
 use Rattle.base.specs.Cond.{bool-cases, eqb-cases}
 use Rattle.base.specs.None.{none}
+use Rattle.base.specs.Log.{log2, log2-low}
 use Rattle.base.specs.Test.{every, every-all, all-every}
 use Rattle.base.specs.Pool.{All, nil, con, All-map}
 use Rattle.message.specs.Msg.{Msg, connect, initiate, test, accept, reject, report, change}
@@ -27,7 +30,7 @@ use Rattle.field.specs.Edges as O
 use Rattle.field.specs.Edges.{isOwn, ownOf, limitOf, ceilingOf}
 use Rattle.field.specs.State.{State, nodeAt, msgIn, wordOf, posted}
 use Rattle.field.specs.Valid.{allOf, linkOrNone, ownOrNone, carriedFits, linkFits, levelFits, wordFits, valuesListed, levelWithin, countWithin, identityFits, nodeFits, markFits, fits}
-use Rattle.fieldlaws.specs.Accepted.{Accepted, level-small}
+use Rattle.plan.specs.Accepted.{Accepted}
 use Rattle.fieldlaws.specs.Places.{own-below, over-below}
 use Rattle.fieldlaws.specs.Sends.{Packs}
 use Rattle.fieldlaws.specs.Lists.{LinkOrNone, OwnOrNone, NodeOk, MsgOk, SendOk}
@@ -188,6 +191,10 @@ hand-fits p w e =
 
 -- ---- a send
 
+-- a level fits three bits
+level-small : (n : ℕ) → 1 ≤ n → n ≤ 192 → log2 n < 8
+level-small n l h = by-cases (decLt (log2 n) 8) (λ y. y) (λ f. absurd (let g : 8 ≤ log2 n = omega arith in omega (arith, pow-mono g, log2-low n l)))
+
 module _ (o : Own) (limit : ℕ) where
   level-within : (m : Msg) → MsgOk o limit m → partsOf m .level ≤ limit
   unfolding partsOf
@@ -221,8 +228,8 @@ module _ (o : Own) (limit : ℕ) where
 module _ (p : Plan) (a : Accepted p) (v : ℕ) (x : Send) (h : SendOk (ownOf p v) (limitOf p) x) where
   pub send-packs : Packs x
   send-packs = record {
-    listed = msg-listed (ownOf p v) (limitOf p) (level-small (p .modules) (a .some) (a .modules)) (a .links) (x .msg) (h .msg);
-    small = omega (arith, own-below p v (x .edge) (h .own), a .links);
+    listed = msg-listed (ownOf p v) (limitOf p) (level-small (p .modules) (a .someone) (a .modulesOk)) (a .linksOk) (x .msg) (h .msg);
+    small = omega (arith, own-below p v (x .edge) (h .own), a .linksOk);
   }
 
   pub send-fits : wordFits p (wordOf p v x) ≡ true

@@ -21,7 +21,7 @@ use Rattle.field.specs.Edges.{isOwn, ownOf, over, linkOf, from, dest, limitOf, 
 use Rattle.field.specs.State.{State, values, nodeAt, markAt, newMark, placed, posted}
 use Rattle.field.specs.Step.{inQueue, wakeWork, serveWork, backOf, step}
 use Rattle.field.specs.Valid.{wordFits}
-use Rattle.fieldlaws.specs.Accepted.{Accepted}
+use Rattle.plan.specs.Accepted.{Accepted}
 use Rattle.fieldlaws.specs.Chan.{queue-parts}
 use Rattle.fieldlaws.specs.Sends.{length-posted}
 use Rattle.fieldlaws.specs.Cases.{Placed, Woke, Handed, Served, Outcome, took, kept, Step, wake-step, hand-step, serve-step, steps}
@@ -38,7 +38,7 @@ pub record Sound (p : Plan) (s : State) : Type 0 where
   pub sized : Sized p s
   pub fits : Fits p s
 
-out-length : {A : Type 0} {l r : List A} {x : A} → Out l x r → length l ≡ suc (length r)
+pub out-length : {A : Type 0} {l r : List A} {x : A} → Out l x r → length l ≡ suc (length r)
 out-length here = refl
 out-length (there o) = ap suc (out-length o)
 
@@ -59,7 +59,7 @@ module _ (p : Plan) (a : Accepted p) (s : State) (i : Sound p s) where
   pub serve-ok : (v x : ℕ) → v < p .modules → wordFits p x ≡ true → inQueue p v x ≡ true → WorkOk (ownOf p v) (limitOf p) (serveWork p v x s)
   serve-ok v x l f q =
       let o = served-own v x f q in
-      ok-respond (ownOf p v) (limitOf p) (linkOf (linkIn x)) o (own-below p v (linkOf (linkIn x)) o) (omega (arith, a .links)) _ _ (word-msg p v x f)
+      ok-respond (ownOf p v) (limitOf p) (linkOf (linkIn x)) o (own-below p v (linkOf (linkIn x)) o) (omega (arith, a .linksOk)) _ _ (word-msg p v x f)
       (record { node = i .fits .nodes v l; marks = start-ok v l; sends = nil })
 
   -- a response is placed
@@ -132,3 +132,24 @@ module _ (p : Plan) (a : Accepted p) (s : State) (i : Sound p s) where
   -- THE LAW: taken or refused, a step leaves a valid field valid
   pub step-keeps : (kind number : ℕ) → Sound p (step p kind number s .state)
   step-keeps kind number = kept-sound (step-sound kind number) (steps p s kind number)
+
+-- the arrays keep their lengths
+pub record Alike (x y : State) : Type 0 where
+  pub cells : length (y .cells) ≡ length (x .cells)
+  pub marks : length (y .marks) ≡ length (x .marks)
+
+module _ (p : Plan) (s : State) where
+  placed-alike : (v : ℕ) (w : Work) (words back : List ℕ) → Alike s (placed p v w s words back)
+  placed-alike v w words back = record { cells = length-sets (s .cells) (v * 9) (values (w .node)); marks = length-new p v (w .mark) 0 (s .marks) }
+
+  step-alike : (kind number : ℕ) (s′ : State) → Step p s kind number s′ → Alike s s′
+  step-alike _ _ s′ (wake-step {v} h) = subst (Alike s) (sym (h .responds .is)) (placed-alike v (wakeWork p v s) (s .words) [])
+  step-alike _ _ s′ (hand-step h) = subst (Alike s) (sym (h .is)) (record { cells = refl; marks = refl })
+  step-alike _ _ s′ (serve-step {v} h) = subst (Alike s) (sym (h .responds .is)) (placed-alike v (serveWork p v (h .word) s) (h .rest) (backOf (serveWork p v (h .word) s) (h .word)))
+
+  kept-alike : {Took : State → Type 0} {r : After State} → ((s′ : State) → Took s′ → Alike s s′) → Outcome s Took r → Alike s (r .state)
+  kept-alike f (took {s′} t) = f s′ t
+  kept-alike f (kept r h) = record { cells = refl; marks = refl }
+
+  pub step-lengths : (kind number : ℕ) → Alike s (step p kind number s .state)
+  step-lengths kind number = kept-alike (step-alike kind number) (steps p s kind number)

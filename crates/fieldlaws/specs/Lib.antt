@@ -1,4 +1,3 @@
-pub mod Accepted
 pub mod Chan
 pub mod Sends
 pub mod Cases
@@ -6,3 +5,6 @@ pub mod Places
 pub mod Lists
 pub mod Fits
 pub mod Keeps
+pub mod Trace
+pub mod Counts
+pub mod Laid

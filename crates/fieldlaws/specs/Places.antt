@@ -18,7 +18,7 @@ use Rattle.search.specs.Own as O
 use Rattle.search.specs.Laws.{end-lower, end-higher, own-lower, own-higher, mark-own, mark-not}
 use Rattle.field.specs.Edges.{isOwn, over, linkOf, from, dest}
 use Rattle.field.specs.State.{State, values, nodeIn, putNode, markAt, newMark, newMarks, putMarks}
-use Rattle.fieldlaws.specs.Accepted.{Accepted}
+use Rattle.plan.specs.Accepted.{Accepted}
 
 -- ---- a run of stores
 
@@ -112,33 +112,33 @@ module _ (p : Plan) (a : Accepted p) (d : ℕ) (l : d < 2 * p .links) where
   pub from-own : isOwn p (from p d) (linkOf d) ≡ true
   from-own = eqb-cases (d % 2) 0 (λ b. isOwn p (cond b (low p (linkOf d)) (high p (linkOf d))) (linkOf d) ≡ true)
       (λ e. own-lower (p .links) (p .lower) (p .higher) _ (linkOf d) link-below refl)
-      (λ n. own-higher (p .links) (p .lower) (p .higher) _ (linkOf d) link-below (λ q. omega (arith, a .ascends (linkOf d) link-below)) ∙ eq-eqb (high p (linkOf d)) (high p (linkOf d)) refl)
+      (λ n. own-higher (p .links) (p .lower) (p .higher) _ (linkOf d) link-below (λ q. omega (arith, a .each (linkOf d) link-below .ordered)) ∙ eq-eqb (high p (linkOf d)) (high p (linkOf d)) refl)
 
   pub dest-own : isOwn p (dest p d) (linkOf d) ≡ true
   dest-own = eqb-cases (d % 2) 0 (λ b. isOwn p (cond b (high p (linkOf d)) (low p (linkOf d))) (linkOf d) ≡ true)
-      (λ e. own-higher (p .links) (p .lower) (p .higher) _ (linkOf d) link-below (λ q. omega (arith, a .ascends (linkOf d) link-below)) ∙ eq-eqb (high p (linkOf d)) (high p (linkOf d)) refl)
+      (λ e. own-higher (p .links) (p .lower) (p .higher) _ (linkOf d) link-below (λ q. omega (arith, a .each (linkOf d) link-below .ordered)) ∙ eq-eqb (high p (linkOf d)) (high p (linkOf d)) refl)
       (λ n. own-lower (p .links) (p .lower) (p .higher) _ (linkOf d) link-below refl)
 
   pub over-from : over p (from p d) (linkOf d) ≡ d
   over-from = eqb-cases (d % 2) 0 (λ b. over p (cond b (low p (linkOf d)) (high p (linkOf d))) (linkOf d) ≡ d)
       (λ e. end-lower (p .lower) _ (linkOf d) refl ∙ omega arith)
-      (λ n. end-higher (p .lower) _ (linkOf d) (λ q. omega (arith, a .ascends (linkOf d) link-below)) ∙ omega (arith, n))
+      (λ n. end-higher (p .lower) _ (linkOf d) (λ q. omega (arith, a .each (linkOf d) link-below .ordered)) ∙ omega (arith, n))
 
   pub dest-below : dest p d < p .modules
   dest-below = eqb-cases (d % 2) 0 (λ b. cond b (high p (linkOf d)) (low p (linkOf d)) < p .modules)
-      (λ e. a .within (linkOf d) link-below)
-      (λ n. omega (arith, a .ascends (linkOf d) link-below, a .within (linkOf d) link-below))
+      (λ e. a .each (linkOf d) link-below .inside)
+      (λ n. omega (arith, a .each (linkOf d) link-below .ordered, a .each (linkOf d) link-below .inside))
 
   pub from-below : from p d < p .modules
   from-below = eqb-cases (d % 2) 0 (λ b. cond b (low p (linkOf d)) (high p (linkOf d)) < p .modules)
-      (λ e. omega (arith, a .ascends (linkOf d) link-below, a .within (linkOf d) link-below))
-      (λ n. a .within (linkOf d) link-below)
+      (λ e. omega (arith, a .each (linkOf d) link-below .ordered, a .each (linkOf d) link-below .inside))
+      (λ n. a .each (linkOf d) link-below .inside)
 
   -- its two ends differ, so nothing that a module sends comes back to it
   pub ends-apart : from p d ≢ dest p d
   ends-apart = eqb-cases (d % 2) 0 (λ b. cond b (low p (linkOf d)) (high p (linkOf d)) ≢ cond b (high p (linkOf d)) (low p (linkOf d)))
-      (λ e q. omega (arith, a .ascends (linkOf d) link-below))
-      (λ n q. omega (arith, a .ascends (linkOf d) link-below))
+      (λ e q. omega (arith, a .each (linkOf d) link-below .ordered))
+      (λ n q. omega (arith, a .each (linkOf d) link-below .ordered))
 
 -- ---- the marks
 
