@@ -9,7 +9,7 @@ use borrow.Author.Tests.{eq-eqb, ne-eqb}
 use Rattle.base.specs.Cond.{bool-cases, by-eq}
 use Rattle.int16.specs.Int16.{at16}
 use Rattle.message.specs.Listed.{listed}
-use Rattle.frame.specs.Frame.{frameBytes, frameRefusal, frameRead, Written, frameWritten}
+use Rattle.frame.specs.Frame.{frameBytes, frameRefusal, frameRead, frameWritten}
 use Rattle.frame.proofs.Six.{six}
 
 -- the refusal, test by test
@@ -68,16 +68,16 @@ module _ (s : List ℕ) where
 
 -- the writer's three answers
 module _ (h c : ℕ) (out : List ℕ) where
-  pub write-unlisted : listed h c ≡ false → frameWritten h c out ≡ record { answer = 63; bytes = out }
+  pub write-unlisted : listed h c ≡ false → frameWritten h c out ≡ record { answer = 63; state = out }
   unfolding frameWritten
   write-unlisted e = simp e
 
   module _ (l : listed h c ≡ true) where
-    pub write-short : (length out ≡ 6 → ⊥) → frameWritten h c out ≡ record { answer = 64; bytes = out }
+    pub write-short : (length out ≡ 6 → ⊥) → frameWritten h c out ≡ record { answer = 64; state = out }
     unfolding frameWritten
     write-short n = simp (l, ne-eqb (length out) 6 n)
 
-    pub write-done : length out ≡ 6 → frameWritten h c out ≡ record { answer = 0; bytes = frameBytes h c }
+    pub write-done : length out ≡ 6 → frameWritten h c out ≡ record { answer = 0; state = frameBytes h c }
     unfolding frameWritten
     write-done p = simp (l, eq-eqb (length out) 6 p)
 

@@ -12,7 +12,7 @@ use Rattle.message.specs.Header.{headerOf, carriedOf, meant}
 use Rattle.message.specs.Listed.{listed, Listed}
 use Rattle.message.proofs.Listed.{has-listed, means-back}
 use Rattle.frame.specs.declared.Frame.{Frame}
-use Rattle.frame.specs.Frame.{frameBytes, frameRefusal, frameRead, Written, frameWritten}
+use Rattle.frame.specs.Frame.{frameBytes, frameRefusal, frameRead, frameWritten}
 use Rattle.frame.proofs.Six.{six}
 use Rattle.frame.proofs.Laws.{taken, Taken, accepted, read-taken, write-done}
 
@@ -25,12 +25,12 @@ module _ (h c : ℕ) (l : listed h c ≡ true) where
   bytes-taken : frameRefusal (frameBytes h c) ≡ 0
   bytes-taken = taken (frameBytes h c) refl refl refl (ap (listed h) (joined c) ∙ l)
 
-  pub written-read : (out : List ℕ) → length out ≡ 6 → frameRead (frameWritten h c out .bytes) ≡ record { refusal = 0; header = h; carried = c }
+  pub written-read : (out : List ℕ) → length out ≡ 6 → frameRead (frameWritten h c out .state) ≡ record { refusal = 0; header = h; carried = c }
   written-read out p =
-      ap (λ w. frameRead (w .bytes)) (write-done h c out l p) ∙ read-taken (frameBytes h c) bytes-taken ∙ ap (λ x. record { refusal = 0; header = h; carried = x }) (joined c)
+      ap (λ w. frameRead (w .state)) (write-done h c out l p) ∙ read-taken (frameBytes h c) bytes-taken ∙ ap (λ x. record { refusal = 0; header = h; carried = x }) (joined c)
 
 -- so a listed message, written and read, is the message
-pub meaning-back : (m : Msg) → Listed m → (out : List ℕ) → length out ≡ 6 → frameMeans (frameRead (frameWritten (headerOf m) (carriedOf m) out .bytes)) ≡ m
+pub meaning-back : (m : Msg) → Listed m → (out : List ℕ) → length out ≡ 6 → frameMeans (frameRead (frameWritten (headerOf m) (carriedOf m) out .state)) ≡ m
 meaning-back m l out p = ap frameMeans (written-read (headerOf m) (carriedOf m) (has-listed m l) out p) ∙ means-back m l
 
 -- taken bytes are those of the frame that was read from them
@@ -47,9 +47,9 @@ same-bytes s b t =
 
 -- taken bytes, read and written into any six bytes, are the same bytes
 pub read-written : (s : List ℕ) → ((i : ℕ) → getD s i 0 < 256) → frameRefusal s ≡ 0 → (out : List ℕ) → length out ≡ 6
-    → frameWritten (frameRead s .header) (frameRead s .carried) out ≡ record { answer = 0; bytes = s }
+    → frameWritten (frameRead s .header) (frameRead s .carried) out ≡ record { answer = 0; state = s }
 read-written s b e out p =
     let t = accepted s e in
     ap (λ f. frameWritten (f .header) (f .carried) out) (read-taken s e)
     ∙ write-done (getD s 3 0) (at16 s 4) out (t .holds) p
-    ∙ ap (λ x. record { answer = 0; bytes = x }) (same-bytes s b t)
+    ∙ ap (λ x. record { answer = 0; state = x }) (same-bytes s b t)

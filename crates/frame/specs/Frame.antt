@@ -4,6 +4,7 @@ use mathlib.Core.List.{List, _∷_}
 use mathlib.Core.Bool.{Bool, not, cond, _&&_}
 use lib.ListN.{length, getD}
 use lib.Dec.{eqb}
+use Rattle.base.specs.Loop.{After, taken, refused}
 use Rattle.int16.specs.Int16.{at16, bytes16}
 use Rattle.message.specs.Listed.{listed}
 use Rattle.frame.specs.declared.Frame.{Frame}
@@ -26,13 +27,9 @@ frameRead s =
     (record { refusal = 0; header = getD s 3 0; carried = at16 s 4 })
     (record { refusal = frameRefusal s; header = 0; carried = 0 })
 
-pub record Written : Type 0 where
-  pub answer : ℕ
-  pub bytes : List ℕ
-
--- the writer: "63 header or carried number not listed (the frame writer too, then 64 for a buffer not 6 bytes)"
-unfoldable pub frameWritten : ℕ → ℕ → List ℕ → Written
+-- the writer's answer and what the buffer holds then: "63 header or carried number not listed (the frame writer too, then 64 for a buffer not 6 bytes)"
+unfoldable pub frameWritten : ℕ → ℕ → List ℕ → After (List ℕ)
 frameWritten header carried out =
-    cond (not (listed header carried)) (record { answer = 63; bytes = out })
-    (cond (not (eqb (length out) 6)) (record { answer = 64; bytes = out })
-    (record { answer = 0; bytes = frameBytes header carried }))
+    cond (not (listed header carried)) (refused 63 out)
+    (cond (not (eqb (length out) 6)) (refused 64 out)
+    (taken (frameBytes header carried)))

@@ -16,23 +16,23 @@ use Rattle.plan.specs.Refusal.{planRefusal}
 use Rattle.plan.specs.Accepted.{Accepted, accepted}
 use Rattle.tree.specs.Forest.{Ends, Exact}
 use Rattle.tree.specs.Columns.{at}
-use Rattle.tree.specs.Tree.{treeLink, treeBytes, treeRefusal, Built, centralTree}
+use Rattle.tree.specs.Tree.{treeLink, treeBytes, treeRefusal, centralTree}
 
 module _ (p : Plan) (out : List ℕ) where
   -- a refusal, with the buffer as it was
-  refused : treeRefusal p out ≢ 0 → record { answer = treeRefusal p out; bytes = out } ≡ centralTree p out
+  refused : treeRefusal p out ≢ 0 → record { answer = treeRefusal p out; state = out } ≡ centralTree p out
   unfolding centralTree
   refused n = rw (eqb-diff (treeRefusal p out) 0 n)
 
-  pub refused-plan : planRefusal p ≢ 0 → record { answer = planRefusal p; bytes = out } ≡ centralTree p out
+  pub refused-plan : planRefusal p ≢ 0 → record { answer = planRefusal p; state = out } ≡ centralTree p out
   unfolding treeRefusal
   refused-plan n = let e : treeRefusal p out ≡ planRefusal p = rw (eqb-diff (planRefusal p) 0 n) in rw (← e) (refused (λ z. n (sym e ∙ z)))
 
-  pub refused-size : planRefusal p ≡ 0 → length out ≢ p .links → record { answer = 20; bytes = out } ≡ centralTree p out
+  pub refused-size : planRefusal p ≡ 0 → length out ≢ p .links → record { answer = 20; state = out } ≡ centralTree p out
   unfolding treeRefusal
   refused-size z n = let e : treeRefusal p out ≡ 20 = rw (z, eqb-diff (length out) (p .links) n) in rw (← e) (refused (λ q. omega arith))
 
-  pub built : planRefusal p ≡ 0 → length out ≡ p .links → record { answer = 0; bytes = treeBytes p } ≡ centralTree p out
+  pub built : planRefusal p ≡ 0 → length out ≡ p .links → record { answer = 0; state = treeBytes p } ≡ centralTree p out
   unfolding treeRefusal centralTree
   built z e = let r : treeRefusal p out ≡ 0 = rw (z, e, eqb-same (p .links)) in rw (r)
 
@@ -42,8 +42,8 @@ module _ (p : Plan) (out : List ℕ) where
       (λ z. by-eq (length out) (p .links) (λ l. (z, l)) (λ n. absurd (omega (arith, ap (λ b. b .answer) (refused-size z n)))))
       (λ n. absurd (n (ap (λ b. b .answer) (refused-plan n) ∙ e)))
 
-  pub answered-bytes : centralTree p out .answer ≡ 0 → centralTree p out .bytes ≡ treeBytes p
-  answered-bytes e = let a = answered e in sym (ap (λ b. b .bytes) (built (a .0) (a .1)))
+  pub answered-bytes : centralTree p out .answer ≡ 0 → centralTree p out .state ≡ treeBytes p
+  answered-bytes e = let a = answered e in sym (ap (λ b. b .state) (built (a .0) (a .1)))
 
 -- bytes that mark the tree edges are the tree's bytes
 pub exact-bytes : (p : Plan) (s : List ℕ) → length s ≡ p .links → Exact (graphOf p) (earlier p) (at s) → s ≡ treeBytes p

@@ -8,7 +8,8 @@ use Rattle.plan.specs.declared.Plan.{Plan}
 use Rattle.plan.specs.Links.{planOf}
 use Rattle.plan.specs.Weights.{costIn, earlierIn}
 use Rattle.plan.specs.Refusal.{ascends, inOrder, linkVerdict, linksRefusal, planRefusal}
-use Rattle.tree.specs.Tree.{Built, centralTree}
+use Rattle.base.specs.Loop.{After}
+use Rattle.tree.specs.Tree.{centralTree}
 
 -- a column of 600 entries
 abbrev column : List ℕ → List ℕ
@@ -34,12 +35,12 @@ rows =
     ∷ []
 
 -- what the builder does, and what the row says
-unfoldable pub done : Row → Built
+unfoldable pub done : Row → After (List ℕ)
 unfolding centralTree
 done r = centralTree (r .plan) (r .lent)
 
-abbrev pub said : Row → Built
-said r = record { answer = r .answer; bytes = r .bytes }
+abbrev pub said : Row → After (List ℕ)
+said r = record { answer = r .answer; state = r .bytes }
 
 pub samples : map done rows ≡ map said rows
 unfolding rows done earlierIn costIn planRefusal linksRefusal linkVerdict inOrder ascends connected

@@ -28,13 +28,13 @@ use Rattle.tree.specs.Laws.{answered, answered-bytes}
 module _ (p : Plan) (out : List ℕ) (taken : centralTree p out .answer ≡ 0) where
   -- byte k, and the set of links that it marks
   abbrev pub byte : ℕ → ℕ
-  byte k = getD (centralTree p out .bytes) k 0
+  byte k = getD (centralTree p out .state) k 0
 
   abbrev pub marked : ℕ → Bool
   marked k = eqb (byte k) 1
 
   -- L bytes
-  pub written-length : length (centralTree p out .bytes) ≡ p .links
+  pub written-length : length (centralTree p out .state) ≡ p .links
   unfolding treeBytes
   written-length = rw (answered-bytes p out taken) (length-tabulate (p .links) (λ k. bit (treeLink p k)))
 
@@ -84,6 +84,6 @@ module _ (p : Plan) (out : List ℕ) (taken : centralTree p out .answer ≡ 0) w
       (λ k l. let o = a.each k l in (omega (arith, o.ordered, o.inside), o.inside)) s all)
 
 -- a refused call alters no byte
-pub refused-keeps : (p : Plan) (out : List ℕ) → centralTree p out .answer ≢ 0 → centralTree p out .bytes ≡ out
+pub refused-keeps : (p : Plan) (out : List ℕ) → centralTree p out .answer ≢ 0 → centralTree p out .state ≡ out
 unfolding centralTree
 refused-keeps p out n = rw (eqb-diff (treeRefusal p out) 0 n)

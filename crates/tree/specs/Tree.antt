@@ -5,6 +5,7 @@ use mathlib.Core.List.{List}
 use lib.ListN.{length}
 use lib.Dec.{eqb}
 use Rattle.base.specs.Cond.{bit}
+use Rattle.base.specs.Loop.{After}
 use Rattle.base.specs.Table.{tabulate}
 use Rattle.graph.specs.Decide.{inTree}
 use Rattle.plan.specs.declared.Plan.{Plan}
@@ -27,12 +28,7 @@ unfoldable pub treeRefusal : Plan → List ℕ → ℕ
 unfolding planRefusal
 treeRefusal p out = first (planRefusal p) (orElse (not (eqb (length out) (p .links))) 20 0)
 
--- the answer, and what the lent buffer holds then
-pub record Built : Type 0 where
-  pub answer : ℕ
-  pub bytes : List ℕ
-
--- a refused call alters no byte
-unfoldable pub centralTree : Plan → List ℕ → Built
+-- the answer, and what the lent buffer holds then: a refused call alters no byte
+unfoldable pub centralTree : Plan → List ℕ → After (List ℕ)
 unfolding treeRefusal treeBytes
-centralTree p out = record { answer = treeRefusal p out; bytes = cond (eqb (treeRefusal p out) 0) (treeBytes p) out }
+centralTree p out = record { answer = treeRefusal p out; state = cond (eqb (treeRefusal p out) 0) (treeBytes p) out }

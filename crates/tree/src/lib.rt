@@ -257,7 +257,7 @@ fn grow<'a>(
 
 // The central tree of a plan: refused by 14 to 20, or the L bytes are written.
 pub fn build(p: Plan, out: &mut [u8]) -> u32
-    ensures { λ r. ⌜ record { answer = r; bytes = now (out .exit) } ≡ centralTree p (now (out .entry)) ⌝ }
+    ensures { λ r. ⌜ record { answer = r; state = now (out .exit) } ≡ centralTree p (now (out .entry)) ⌝ }
 {
     let bad = plan::check(p);
     if bad != 0 {
