@@ -1,3 +1,4 @@
 pub mod Head
 pub mod Columns
 pub mod Answers
+pub mod Stores

@@ -16,18 +16,14 @@ unfoldable pub linksNumbers : Plan → ℕ → List ℕ
 linksNumbers p zero = []
 linksNumbers p (suc n) = linksNumbers p n ++ linkNumbers p n
 
--- "length of what follows; N; L; for each link .."; "Length is 4 + 8 × L."
-unfoldable pub numbers : Plan → List ℕ
-numbers p = (4 + 8 * p .links) ∷ p .modules ∷ p .links ∷ linksNumbers p (p .links)
-
 -- "Integers are 16-bit big-endian."
 unfoldable pub bytesOf : List ℕ → List ℕ
 bytesOf [] = []
 bytesOf (x ∷ xs) = bytes16 x ++ bytesOf xs
 
--- "A plan is: version byte 1; length of what follows; N; L; .."
+-- "A plan is: version byte 1; length of what follows; N; L; for each link .."; "Length is 4 + 8 × L."
 unfoldable pub encode : Plan → List ℕ
-encode p = 1 ∷ bytesOf (numbers p)
+encode p = 1 ∷ bytesOf ((4 + 8 * p .links) ∷ p .modules ∷ p .links ∷ linksNumbers p (p .links))
 
 -- the integer number i after the version byte
 abbrev pub word : List ℕ → ℕ → ℕ

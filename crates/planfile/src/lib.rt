@@ -1,9 +1,12 @@
 // Plans as bytes: the reader, its check, the writer.
 ghost use mathlib.Core.Path.{_≡_};
-ghost use mathlib.Core.List.{List};
+ghost use mathlib.Core.List.{[], _∷_};
+ghost use lib.Seq.{sets};
 ghost use Prim.Native.Nat.{_+_, _*_, _<_, _≤_};
 ghost use lib.ListN.{length};
-ghost use Rattle.planfile.specs.Layout.{word, column, zeros, blank};
+ghost use Rattle.planfile.specs.Layout.{word, column, zeros, blank, bytesOf, encode};
+ghost use Rattle.planfile.specs.Writing.{writePlan};
+ghost use Rattle.plan.specs.Links.{planOf};
 ghost use Rattle.planfile.specs.Reading.{countsVerdict, headRefusal, readRefusal, readPlan, Loaded};
 use plan::Plan;
 
@@ -158,4 +161,65 @@ pub fn read(s: &[u8]) -> Outcome
         refusal: 0,
         plan: plan,
     }
+}
+
+// Writes the integers of one link at byte i.
+fn put_link(out: &mut [u8], i: usize, lo: u16, hi: u16, near: u16, far: u16)
+    requires { ⌜ i + 7 < length (now out) ⌝ }
+    ensures { λ _. ⌜ now (out .exit) ≡ sets (now (out .entry)) i (bytesOf (lo ∷ hi ∷ near ∷ far ∷ [])) ⌝ }
+{
+    int16::put(out, i, lo);
+    int16::put(out, i + 2, hi);
+    int16::put(out, i + 4, near);
+    int16::put(out, i + 6, far);
+}
+
+// Writes version, length, N and L.
+fn put_head(out: &mut [u8], n: u16, l: u16)
+    requires { ⌜ (6 < length (now out)) × (l ≤ 600) ⌝ }
+    ensures { λ _. ⌜ now (out .exit) ≡ sets (now (out .entry)) 0 (1 ∷ bytesOf ((4 + 8 * l) ∷ n ∷ l ∷ [])) ⌝ }
+{
+    out[0] = 1;
+    int16::put(out, 1, 4 + 8 * l);
+    int16::put(out, 3, n);
+    int16::put(out, 5, l);
+}
+
+// Writes a plan in lent columns at the front.
+fn put_plan<'a>(
+    out: &mut [u8],
+    n: u16,
+    l: u16,
+    lower: &'a [u16; 600],
+    higher: &'a [u16; 600],
+    near: &'a [u16; 600],
+    far: &'a [u16; 600],
+)
+    requires { ⌜ (l ≤ 600) × (7 + 8 * l ≤ length (now out)) ⌝ }
+    ensures { λ _. ⌜ now (out .exit) ≡ sets (now (out .entry)) 0 (encode (planOf n l (now (lower .entry)) (now (higher .entry)) (now (near .entry)) (now (far .entry)))) ⌝ }
+{
+    put_head(out, n, l);
+    let end = l as usize;
+    let mut k: usize = 0;
+    while k < end {
+        put_link(out, 7 + 8 * k, lower[k], higher[k], near[k], far[k]);
+        k += 1;
+    }
+}
+
+// Writes a plan value at the front of the buffer: the first of 14 to 19 that applies, 22, or 0.
+pub fn write(p: Plan, out: &mut [u8]) -> u32
+    ensures { λ r. ⌜ record { answer = r; state = now (out .exit) } ≡ writePlan p (now (out .entry)) ⌝ }
+{
+    let n = p.modules;
+    let l = p.links;
+    let r = plan::check_columns(n, l, &p.lower, &p.higher, &p.near, &p.far);
+    if r != 0 {
+        return r;
+    }
+    if out.len() < 7 + 8 * (l as usize) {
+        return 22;
+    }
+    put_plan(out, n, l, &p.lower, &p.higher, &p.near, &p.far);
+    0
 }
