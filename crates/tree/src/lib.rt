@@ -80,7 +80,7 @@ fn offer<'a>(near: &'a [u16; 600], far: &'a [u16; 600], best: &mut [u16; 192], a
 }
 
 // Edge k is offered to the parts of its ends, if they differ. Answers 1 if they do, else 0.
-fn look<'a>(
+fn scan_edge<'a>(
     lower: &'a [u16; 600],
     higher: &'a [u16; 600],
     near: &'a [u16; 600],
@@ -125,7 +125,7 @@ fn scan<'a>(
     let mut found: u16 = 0;
     let mut k: usize = 0;
     while k < links {
-        found += look(lower, higher, near, far, label, best, k);
+        found += scan_edge(lower, higher, near, far, label, best, k);
         k += 1;
     }
     found
@@ -152,7 +152,7 @@ fn join<'a>(
 }
 
 // Edge k is joined, unless it is none.
-fn take<'a>(
+fn join_pick<'a>(
     lower: &'a [u16; 600],
     higher: &'a [u16; 600],
     label: &mut [u8; 192],
@@ -183,7 +183,7 @@ fn join_all<'a>(
 {
     let mut a: usize = 0;
     while a < 192 {
-        take(lower, higher, label, out, best[a]);
+        join_pick(lower, higher, label, out, best[a]);
         a += 1;
     }
 }
@@ -209,7 +209,7 @@ fn phase<'a>(
 }
 
 // Phases, until no edge joins different parts.
-fn repeat<'a>(
+fn phases<'a>(
     lower: &'a [u16; 600],
     higher: &'a [u16; 600],
     near: &'a [u16; 600],
@@ -252,7 +252,7 @@ fn grow<'a>(
 {
     clear(out);
     let mut label = singles();
-    repeat(lower, higher, near, far, &mut label, out);
+    phases(lower, higher, near, far, &mut label, out);
 }
 
 // The central tree of a plan: refused by 14 to 20, or the L bytes are written.

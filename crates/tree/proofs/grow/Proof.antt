@@ -10,7 +10,7 @@ use Rattle.tree.proofs.grow.Tie as tie
 use Rattle.tree.proofs.grow.Reads as reads
 use Rattle.tree.proofs.grow.Lts as lts
 use Rattle.tree.proofs.clear.Reads as clear-reads
-use Rattle.tree.proofs.repeat.Reads as repeat-reads
+use Rattle.tree.proofs.phases.Reads as phases-reads
 use Rattle.tree.proofs.singles.Reads as singles-reads
 
 -- src/lib.rt:196:5
@@ -22,8 +22,8 @@ singles-requires : tie.Need-singles-requires
 singles-requires c κs = search needs
 
 -- src/lib.rt:198:5
-repeat-requires : tie.Need-repeat-requires
-repeat-requires c κs =
+phases-requires : tie.Need-phases-requires
+phases-requires c κs =
     let n = c .before .before in
     let k = n .before .before .before in
     let s = k .before .before .before in
@@ -41,8 +41,8 @@ same-length c = search needs
 returns : tie.Need-returns
 returns c =
     let r = c .before .before in
-    rw (r .before .before .before .before .before .before .clear .kept .0) at (r .repeat .ensures)
+    rw (r .before .before .before .before .before .before .clear .kept .0) at (r .phases .ensures)
 
 pub grow-spec : {M : Type 1} → statement M
 grow-spec =
-    tie.close (tie.spec clear-requires singles-requires repeat-requires same-length returns)
+    tie.close (tie.spec clear-requires singles-requires phases-requires same-length returns)

@@ -11,7 +11,7 @@ use Rattle.tree.proofs.join_all.Statement.{statement}
 use Rattle.tree.proofs.join_all.Tie as tie
 use Rattle.tree.proofs.join_all.Reads as reads
 use Rattle.tree.proofs.join_all.Lts as lts
-use Rattle.tree.proofs.take.Reads as take-reads
+use Rattle.tree.proofs.join_pick.Reads as join-pick-reads
 
 abbrev Inv-loop : tie.InvT-loop
 Inv-loop lower higher best label₀ out₀ a₀ label out a =
@@ -25,16 +25,16 @@ loop-holds : tie.Need-loop-holds Inv-loop μ-loop
 loop-holds c = (omega arith, refl, record { parts = c .before .pre .0 .parts; grows = grows-none; closes = λ a l. absurd (omega arith) })
 
 -- src/lib.rt:149:41
-mul-take : tie.Need-mul-take Inv-loop μ-loop
-mul-take c = search needs
+mul-join-pick : tie.Need-mul-join-pick Inv-loop μ-loop
+mul-join-pick c = search needs
 
 -- src/lib.rt:149:41
-element-copy-out-take : tie.Need-element-copy-out-take Inv-loop μ-loop
-element-copy-out-take c = search needs
+element-copy-out-join-pick : tie.Need-element-copy-out-join-pick Inv-loop μ-loop
+element-copy-out-join-pick c = search needs
 
 -- src/lib.rt:149:9
-take-requires : tie.Need-take-requires Inv-loop μ-loop
-take-requires c κs =
+join-pick-requires : tie.Need-join-pick-requires Inv-loop μ-loop
+join-pick-requires c κs =
     let l = c .before .before .before .before .loop in
     let s = c .before .before .before .before .before .before in
     (fit-of (s .args .lower .now) (s .args .higher .now) _ (l .label) (l .out) (s .pre .0 .few) (s .pre .0 .ends) (l .inv .1) (l .inv .2 .parts), rw (l .inv .1) (s .pre .1 (l .a) (c .before .before .before .loop-test .taken)))
@@ -55,9 +55,9 @@ loop-again c =
     let l = i .before .loop in
     let s = i .before .before .before in (
       omega arith,
-      t .take .kept .1 .1 .1 .0 ∙ l .inv .1,
+      t .join-pick .kept .1 .1 .1 .0 ∙ l .inv .1,
       takes-next (edges (length (s .args .out .now)) (s .args .lower .now) (s .args .higher .now)) (s .args .best .now) _ _ (l .label) (l .out) _ _ (l .a)
-          (s .pre .0 .ends) (s .pre .1) (i .loop-test .taken) (l .inv .2) (rw (l .inv .1) at (t .take .ensures)),
+          (s .pre .0 .ends) (s .pre .1) (i .loop-test .taken) (l .inv .2) (rw (l .inv .1) at (t .join-pick .ensures)),
     )
 
 -- src/lib.rt:142:1
@@ -79,9 +79,9 @@ join-all-spec =
     Inv-loop
     μ-loop
     loop-holds
-    mul-take
-    element-copy-out-take
-    take-requires
+    mul-join-pick
+    element-copy-out-join-pick
+    join-pick-requires
     add-a
     loop-less
     loop-again

@@ -11,7 +11,7 @@ use Rattle.tree.proofs.scan.Statement.{statement}
 use Rattle.tree.proofs.scan.Tie as tie
 use Rattle.tree.proofs.scan.Reads as reads
 use Rattle.tree.proofs.scan.Lts as lts
-use Rattle.tree.proofs.look.Reads as look-reads
+use Rattle.tree.proofs.scan_edge.Reads as scan-edge-reads
 
 abbrev Inv-loop : tie.InvT-loop
 Inv-loop lower higher near far links label best₀ found₀ k₀ best found k =
@@ -25,8 +25,8 @@ loop-holds : tie.Need-loop-holds Inv-loop μ-loop
 loop-holds c = search needs
 
 -- src/lib.rt:109:18
-look-requires : tie.Need-look-requires Inv-loop μ-loop
-look-requires c κs =
+scan-edge-requires : tie.Need-scan-edge-requires Inv-loop μ-loop
+scan-edge-requires c κs =
     let l = c .before .before .loop in
     let s = c .before .before .before in
     let e = s .pre .1 (l .k) (c .before .loop-test .taken) in
@@ -39,7 +39,7 @@ add-found c =
     let s = c .before .before .before .before .args in
     omega (
       arith,
-      c .look .ensures .0,
+      c .scan-edge .ensures .0,
       apart-le (at (s .lower .now)) (at (s .higher .now)) (at (s .label .now)) (l .k),
       apart-most (at (s .lower .now)) (at (s .higher .now)) (at (s .label .now)) (l .k),
       c .before .before .before .before .pre .0,
@@ -58,7 +58,7 @@ loop-again : tie.Need-loop-again Inv-loop μ-loop
 loop-again c =
     let l = c .before .before .before .loop in
     let s = c .before .before .before .before .args in
-    (omega arith, omega (arith, c .look .ensures .0, sum-next (apartAt (at (s .lower .now)) (at (s .higher .now)) (at (s .label .now))) (l .k)), c .look .ensures .1)
+    (omega arith, omega (arith, c .scan-edge .ensures .0, sum-next (apartAt (at (s .lower .now)) (at (s .higher .now)) (at (s .label .now))) (l .k)), c .scan-edge .ensures .1)
 
 -- src/lib.rt:100:1
 returns : tie.Need-returns Inv-loop μ-loop
@@ -77,7 +77,7 @@ scan-spec =
     Inv-loop
     μ-loop
     loop-holds
-    look-requires
+    scan-edge-requires
     add-found
     add-k
     loop-less

@@ -7,10 +7,10 @@ use Rattle.tree.specs.Forest.{Forest, finished}
 use Rattle.tree.specs.Phase.{apart}
 use Rattle.tree.specs.Columns.{at, Parts, Phased}
 use Rattle.tree.proofs.Joins.{fit-of}
-use Rattle.tree.proofs.repeat.Statement.{statement}
-use Rattle.tree.proofs.repeat.Tie as tie
-use Rattle.tree.proofs.repeat.Reads as reads
-use Rattle.tree.proofs.repeat.Lts as lts
+use Rattle.tree.proofs.phases.Statement.{statement}
+use Rattle.tree.proofs.phases.Tie as tie
+use Rattle.tree.proofs.phases.Reads as reads
+use Rattle.tree.proofs.phases.Lts as lts
 use Rattle.tree.proofs.phase.Reads as phase-reads
 
 abbrev Inv-loop : tie.InvT-loop
@@ -60,7 +60,7 @@ loop-again c =
     let p = c .before .before .before in
     (p .phase .kept .1 .1 .1 .1 .1 .0 ∙ p .before .before .before .loop .inv .0, after p .parts, after p .forest)
 
-pub repeat-spec : {M : Type 1} → statement M
-repeat-spec =
+pub phases-spec : {M : Type 1} → statement M
+phases-spec =
     tie.close
     (tie.spec Inv-loop μ-loop loop-holds phase-requires same-length returns loop-less loop-again)

@@ -9,10 +9,10 @@ use Rattle.plan.specs.Weights.{orderOf}
 use Rattle.tree.specs.Phase.{apart-inside, apart-leaves}
 use Rattle.tree.specs.Columns.{at}
 use Rattle.tree.proofs.Offers.{held, held-once, skipped, offered}
-use Rattle.tree.proofs.look.Statement.{statement}
-use Rattle.tree.proofs.look.Tie as tie
-use Rattle.tree.proofs.look.Reads as reads
-use Rattle.tree.proofs.look.Lts as lts
+use Rattle.tree.proofs.scan_edge.Statement.{statement}
+use Rattle.tree.proofs.scan_edge.Tie as tie
+use Rattle.tree.proofs.scan_edge.Reads as reads
+use Rattle.tree.proofs.scan_edge.Lts as lts
 use Rattle.tree.proofs.index.Reads as index-reads
 use Rattle.tree.proofs.offer.Reads as offer-reads
 use Rattle.tree.proofs.wide.Reads as wide-reads
@@ -126,8 +126,8 @@ returns-2 c =
           _ _ (low-range i) (high-range i) (part-low i) (part-high i) d),
     )
 
-pub look-spec : {M : Type 1} → statement M
-look-spec =
+pub scan-edge-spec : {M : Type 1} → statement M
+scan-edge-spec =
     tie.close
     (tie.spec
     mul-wide

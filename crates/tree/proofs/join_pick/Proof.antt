@@ -3,10 +3,10 @@ use borrow.Author.Needs.{needs}
 use lib.ListN.{length}
 use Rattle.plan.specs.Links.{edges}
 use Rattle.tree.proofs.Joins.{not-none, takes}
-use Rattle.tree.proofs.take.Statement.{statement}
-use Rattle.tree.proofs.take.Tie as tie
-use Rattle.tree.proofs.take.Reads as reads
-use Rattle.tree.proofs.take.Lts as lts
+use Rattle.tree.proofs.join_pick.Statement.{statement}
+use Rattle.tree.proofs.join_pick.Tie as tie
+use Rattle.tree.proofs.join_pick.Reads as reads
+use Rattle.tree.proofs.join_pick.Lts as lts
 use Rattle.tree.proofs.join.Reads as join-reads
 use Rattle.tree.proofs.wide.Reads as wide-reads
 
@@ -39,5 +39,5 @@ returns-2 c =
     takes (edges (length (s .args .out .now)) (s .args .lower .now) (s .args .higher .now)) (s .args .k) _ (s .args .label .now) (s .args .out .now) _ _
     (w .wide .ensures) n (not-none n (s .pre .1)) (s .pre .0 .ends) (s .pre .0 .parts) (j .join .ensures .1) (j .join .ensures .0)
 
-pub take-spec : {M : Type 1} → statement M
-take-spec = tie.close (tie.spec returns wide-requires join-requires same-length returns-2)
+pub join-pick-spec : {M : Type 1} → statement M
+join-pick-spec = tie.close (tie.spec returns wide-requires join-requires same-length returns-2)
