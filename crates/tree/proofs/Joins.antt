@@ -1,20 +1,19 @@
 -- What joining picks does to the labels and the marks.
 use Prim.Native.Nat.{ℕ, _+_, _≤_, _<_}
 use native.Mathlib.Omega.{arith}
-use mathlib.Core.Path.{_≡_, refl, sym, ap, subst, _∙_}
-use mathlib.Core.Logic.{_≢_, _⊎_, inl, inr, ⊎-elim}
+use mathlib.Core.Path.{_≡_, sym, ap, subst, _∙_}
+use mathlib.Core.Logic.{_≢_, _⊎_, ⊎-elim}
 use mathlib.Core.Bool.{Bool}
 use mathlib.Core.List.{List}
-use lib.ListN.{length, set, length-set}
+use lib.ListN.{length, set}
 use lib.Seq.{getD-set-same, getD-set-other}
 use Rattle.base.specs.Cond.{by-eq}
 use Rattle.base.specs.None.{none}
 use Rattle.graph.specs.Graph.{Graph}
-use Rattle.graph.specs.Order.{InTree}
 use Rattle.graph.specs.Labels.{rename}
 use Rattle.plan.specs.Links.{edges}
-use Rattle.tree.specs.Forest.{Ends, Inside, Forest, Joined, joined-coarser, joined-inside, joined-range, joined-forest, Grows, grows-then}
-use Rattle.tree.specs.Phase.{Leaves, First, Pick, first-pick, first-some, apart, apart-none, apart-some, apart-falls}
+use Rattle.tree.specs.Forest.{Ends, Forest, Joined, joined-coarser, joined-inside, joined-range, joined-forest, grows-then}
+use Rattle.tree.specs.Phase.{Leaves, First, first-pick, first-some, apart, apart-none, apart-some, apart-falls}
 use Rattle.tree.specs.Columns.{at, Parts, Fit, Takes, TakesTo, Phased}
 
 -- one edge: the labels are renamed, the byte is set

@@ -1,11 +1,11 @@
 -- The outcomes of `centralTree`: refused by the plan's number, refused by 20, or built.
-use Prim.Native.Nat.{ℕ, _≤_, _<_}
+use Prim.Native.Nat.{ℕ}
 use native.Mathlib.Omega.{arith}
-use mathlib.Core.Path.{_≡_, refl, sym, ap, _∙_}
+use mathlib.Core.Path.{_≡_, sym, ap, _∙_}
 use mathlib.Core.Logic.{_≢_}
-use mathlib.Core.Bool.{Bool, true, false, true≢false}
+use mathlib.Core.Bool.{true, false, true≢false}
 use mathlib.Core.List.{List}
-use lib.ListN.{length, getD}
+use lib.ListN.{length}
 use Rattle.base.specs.Cond.{bool-cases, eqb-same, eqb-diff, by-eq, bit}
 use Rattle.base.specs.Table.{tabulated}
 use Rattle.graph.specs.Decide.{inTree-tree, tree-inTree}
@@ -13,7 +13,7 @@ use Rattle.plan.specs.declared.Plan.{Plan}
 use Rattle.plan.specs.Links.{graphOf}
 use Rattle.plan.specs.Weights.{earlier}
 use Rattle.plan.specs.Refusal.{planRefusal}
-use Rattle.plan.specs.Accepted.{Accepted, accepted}
+use Rattle.plan.specs.Accepted.{Accepted}
 use Rattle.tree.specs.Forest.{Ends, Exact}
 use Rattle.tree.specs.Columns.{at}
 use Rattle.tree.specs.Tree.{treeLink, treeBytes, treeRefusal, centralTree}

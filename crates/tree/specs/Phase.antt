@@ -5,10 +5,10 @@ use mathlib.Core.Path.{_≡_, refl, sym, ap, subst, _∙_}
 use mathlib.Core.Logic.{_≢_, _⊎_, inl, inr}
 use mathlib.Core.Bool.{Bool, true, false, cond, not, true≢false}
 use lib.Dec.{eqb}
-use Rattle.base.specs.Cond.{by-eq, bool-cases, eqb-cases, eqb-same, eqb-diff, bit}
+use Rattle.base.specs.Cond.{by-eq, bool-cases, eqb-same, eqb-diff, bit}
 use Rattle.base.specs.Sum.{sum, sum-lt, le-sum}
 use Rattle.base.specs.None.{none}
-use Rattle.graph.specs.Graph.{Graph, Joins, up, down, Way, stop}
+use Rattle.graph.specs.Graph.{Graph, Joins, up, down}
 use Rattle.graph.specs.Order.{Order, InTree}
 use Rattle.graph.specs.Ways.{joins-lt}
 use Rattle.graph.specs.Cut.{cut}

@@ -2,16 +2,16 @@
 -- `centralTree p out` is the builder's contract; an answer of 0 is a plan that was taken.
 use Prim.Native.Nat.{ℕ, _≤_, _<_}
 use native.Mathlib.Omega.{arith}
-use mathlib.Core.Path.{_≡_, refl, sym, ap, _∙_}
+use mathlib.Core.Path.{_≡_, ap, _∙_}
 use mathlib.Core.Logic.{_≢_}
-use mathlib.Core.Bool.{Bool, true, false}
+use mathlib.Core.Bool.{Bool}
 use mathlib.Core.List.{List}
 use lib.ListN.{length, getD}
 use lib.Dec.{eqb}
 use Rattle.base.specs.Cond.{bool-cases, eqb-diff, bit}
 use Rattle.base.specs.Sum.{sum-eq}
 use Rattle.base.specs.Table.{length-tabulate, getD-tabulate}
-use Rattle.graph.specs.Graph.{Graph, Way}
+use Rattle.graph.specs.Graph.{Way}
 use Rattle.graph.specs.Order.{InTree}
 use Rattle.graph.specs.Ways.{But, wider}
 use Rattle.graph.specs.Decide.{Set, inTree-tree, tree-inTree}
@@ -21,7 +21,7 @@ use Rattle.graph.specs.Least.{total, Spanning, tree-least, tree-least-all}
 use Rattle.plan.specs.declared.Plan.{Plan}
 use Rattle.plan.specs.Links.{low, high, graphOf}
 use Rattle.plan.specs.Weights.{cost, earlier, earlier-cost, orderOf}
-use Rattle.plan.specs.Accepted.{Accepted, accepted}
+use Rattle.plan.specs.Accepted.{accepted}
 use Rattle.tree.specs.Tree.{treeLink, treeBytes, treeRefusal, centralTree}
 use Rattle.tree.specs.Laws.{answered, answered-bytes}
 

@@ -1,39 +1,26 @@
 use native.Mathlib.Omega.{arith}
-use mathlib.Core.Path.{_≡_, sym, subst, _∙_}
+use mathlib.Core.Path.{_≡_, sym, _∙_}
 use borrow.Author.Needs.{needs}
 use lib.ListN.{length}
-use Rattle.plan.specs.Links.{edges}
-use Rattle.plan.specs.Weights.{earlier}
 use Rattle.plan.specs.Refusal.{planRefusal}
 use Rattle.plan.specs.Accepted.{accepted}
-use Rattle.tree.specs.Forest.{Ends, Exact}
 use Rattle.tree.specs.Columns.{at}
-use Rattle.tree.specs.Tree.{treeBytes}
 use Rattle.tree.specs.Laws.{refused-plan, refused-size, built, exact-bytes, accepted-ends}
 use Rattle.tree.proofs.build.Statement.{statement}
 use Rattle.tree.proofs.build.Tie as tie
-use Rattle.tree.proofs.build.Reads as reads
-use Rattle.tree.proofs.build.Lts as lts
-use Rattle.plan.proofs.check.Reads as check-reads
-use Rattle.tree.proofs.grow.Reads as grow-reads
-use Rattle.tree.proofs.wide.Reads as wide-reads
 
--- src/lib.rt:209:9
 check-requires : tie.Need-check-requires
 check-requires c κs = search needs
 
--- src/lib.rt:211:9
 returns : tie.Need-returns
 returns c =
     let k = c .before in
     let s = k .before .before .args in
     rw (k .check .ensures) (refused-plan (s .t1) (s .out .now) (λ z. c .if1 .taken (k .check .ensures ∙ z)))
 
--- src/lib.rt:213:21
 wide-requires : tie.Need-wide-requires
 wide-requires c κs = search needs
 
--- src/lib.rt:214:9
 returns-2 : tie.Need-returns-2
 returns-2 c =
     let k = c .before .before .before in
@@ -44,7 +31,6 @@ returns-2 c =
 passed : (c : tie.Else2) → let s = c .before .before .before .before .before .args in (planRefusal (s .t1) ≡ 0) × (length (s .out .now) ≡ s .t1 .links)
 passed c = (sym (c .before .before .before .check .ensures) ∙ c .before .before .if1 .left, c .if2 .left ∙ c .before .wide .ensures)
 
--- src/lib.rt:216:5
 grow-requires : tie.Need-grow-requires
 grow-requires c κs =
     let e = c .before .before .before .before .before .before in
@@ -52,11 +38,9 @@ grow-requires c κs =
     let a = accepted (s .t1) (passed e .0) in
     (omega (arith, passed e .1, a .linksOk), rw (passed e .1) (accepted-ends (s .t1) a))
 
--- src/lib.rt:206:1
 same-length : tie.Need-same-length
 same-length c = search needs
 
--- src/lib.rt:206:1
 returns-3 : tie.Need-returns-3
 returns-3 c =
     let g = c .before .before in

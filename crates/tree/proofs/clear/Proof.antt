@@ -1,14 +1,12 @@
 use Prim.Native.Nat.{ℕ, _-_, _<_, _≤_}
 use native.Mathlib.Omega.{arith}
-use mathlib.Core.Path.{_≡_, refl, sym}
+use mathlib.Core.Path.{_≡_, refl}
 use borrow.Author.Needs.{needs}
 use lib.ListN.{length, length-set}
 use Rattle.tree.specs.Columns.{at}
 use Rattle.tree.proofs.Laws.{fill}
 use Rattle.tree.proofs.clear.Statement.{statement}
 use Rattle.tree.proofs.clear.Tie as tie
-use Rattle.tree.proofs.clear.Reads as reads
-use Rattle.tree.proofs.clear.Lts as lts
 
 abbrev Inv-loop : tie.InvT-loop
 Inv-loop out₀ k₀ out k = (k ≤ length out) × (length out ≡ length out₀) × ((i : ℕ) → i < k → at out i ≡ 0)
@@ -16,34 +14,27 @@ Inv-loop out₀ k₀ out k = (k ≤ length out) × (length out ≡ length out₀
 abbrev μ-loop : tie.MeasureT-loop
 μ-loop out₀ k₀ out k = length out - k
 
--- src/lib.rt:172:5
 loop-holds : tie.Need-loop-holds Inv-loop μ-loop
 loop-holds c = search needs
 
--- src/lib.rt:173:9
 slice-write-out : tie.Need-slice-write-out Inv-loop μ-loop
 slice-write-out c = search needs
 
--- src/lib.rt:174:9
 add-k : tie.Need-add-k Inv-loop μ-loop
 add-k c = search needs
 
--- src/lib.rt:172:5
 loop-less : tie.Need-loop-less Inv-loop μ-loop
 loop-less c = simp length-set (omega arith)
 
--- src/lib.rt:172:5
 loop-again : tie.Need-loop-again Inv-loop μ-loop
 loop-again c =
     let l = c .before .loop in
     let t = c .loop-test .taken in
     (simp length-set (omega arith), simp length-set (l .inv .1), fill (λ i. 0) (l .out) (l .k) 0 (omega arith) (l .inv .2) refl)
 
--- src/lib.rt:168:1
 same-length : tie.Need-same-length Inv-loop μ-loop
 same-length c = search needs
 
--- src/lib.rt:168:1
 returns : tie.Need-returns Inv-loop μ-loop
 returns c =
     let l = c .before .loop in

@@ -1,6 +1,6 @@
-use Prim.Native.Nat.{ℕ, _-_, _<_, _≤_}
+use Prim.Native.Nat.{_-_, _≤_}
 use native.Mathlib.Omega.{arith}
-use mathlib.Core.Path.{_≡_, refl, sym, subst, _∙_}
+use mathlib.Core.Path.{_≡_, refl, subst, _∙_}
 use borrow.Author.Needs.{needs}
 use lib.ListN.{length}
 use Rattle.plan.specs.Links.{edges}
@@ -9,9 +9,6 @@ use Rattle.tree.specs.Columns.{at, TakesTo}
 use Rattle.tree.proofs.Joins.{fit-of, takes-next}
 use Rattle.tree.proofs.join_all.Statement.{statement}
 use Rattle.tree.proofs.join_all.Tie as tie
-use Rattle.tree.proofs.join_all.Reads as reads
-use Rattle.tree.proofs.join_all.Lts as lts
-use Rattle.tree.proofs.join_pick.Reads as join-pick-reads
 
 abbrev Inv-loop : tie.InvT-loop
 Inv-loop lower higher best label₀ out₀ a₀ label out a =
@@ -20,34 +17,27 @@ Inv-loop lower higher best label₀ out₀ a₀ label out a =
 abbrev μ-loop : tie.MeasureT-loop
 μ-loop lower higher best label₀ out₀ a₀ label out a = 192 - a
 
--- src/lib.rt:148:5
 loop-holds : tie.Need-loop-holds Inv-loop μ-loop
 loop-holds c = (omega arith, refl, record { parts = c .before .pre .0 .parts; grows = grows-none; closes = λ a l. absurd (omega arith) })
 
--- src/lib.rt:149:41
 mul-join-pick : tie.Need-mul-join-pick Inv-loop μ-loop
 mul-join-pick c = search needs
 
--- src/lib.rt:149:41
 element-copy-out-join-pick : tie.Need-element-copy-out-join-pick Inv-loop μ-loop
 element-copy-out-join-pick c = search needs
 
--- src/lib.rt:149:9
 join-pick-requires : tie.Need-join-pick-requires Inv-loop μ-loop
 join-pick-requires c κs =
     let l = c .before .before .before .before .loop in
     let s = c .before .before .before .before .before .before in
     (fit-of (s .args .lower .now) (s .args .higher .now) _ (l .label) (l .out) (s .pre .0 .few) (s .pre .0 .ends) (l .inv .1) (l .inv .2 .parts), rw (l .inv .1) (s .pre .1 (l .a) (c .before .before .before .loop-test .taken)))
 
--- src/lib.rt:150:9
 add-a : tie.Need-add-a Inv-loop μ-loop
 add-a c = search needs
 
--- src/lib.rt:148:5
 loop-less : tie.Need-loop-less Inv-loop μ-loop
 loop-less c = search needs
 
--- src/lib.rt:148:5
 loop-again : tie.Need-loop-again Inv-loop μ-loop
 loop-again c =
     let t = c .before .before in
@@ -60,11 +50,9 @@ loop-again c =
           (s .pre .0 .ends) (s .pre .1) (i .loop-test .taken) (l .inv .2) (rw (l .inv .1) at (t .join-pick .ensures)),
     )
 
--- src/lib.rt:142:1
 same-length : tie.Need-same-length Inv-loop μ-loop
 same-length c = search needs
 
--- src/lib.rt:142:1
 returns : tie.Need-returns Inv-loop μ-loop
 returns c =
     let l = c .before .loop in

@@ -5,31 +5,22 @@ use Rattle.plan.specs.Links.{edges}
 use Rattle.tree.proofs.Joins.{not-none, takes}
 use Rattle.tree.proofs.join_pick.Statement.{statement}
 use Rattle.tree.proofs.join_pick.Tie as tie
-use Rattle.tree.proofs.join_pick.Reads as reads
-use Rattle.tree.proofs.join_pick.Lts as lts
-use Rattle.tree.proofs.join.Reads as join-reads
-use Rattle.tree.proofs.wide.Reads as wide-reads
 
--- src/lib.rt:135:9
 returns : tie.Need-returns
 returns c = search needs
 
--- src/lib.rt:137:9
 wide-requires : tie.Need-wide-requires
 wide-requires c κs = search needs
 
--- src/lib.rt:138:5
 join-requires : tie.Need-join-requires
 join-requires c κs =
     let w = c .before .before in
     let s = w .before .before .before in
     (s .pre .0, omega (arith, w .wide .ensures, not-none (w .before .if1 .left) (s .pre .1)))
 
--- src/lib.rt:130:1
 same-length : tie.Need-same-length
 same-length c = search needs
 
--- src/lib.rt:130:1
 returns-2 : tie.Need-returns-2
 returns-2 c =
     let j = c .before .before in

@@ -1,16 +1,13 @@
 use borrow.Author.Needs.{needs}
-use Prim.Native.Nat.{ℕ, _+_, _-_, _<_, _≤_}
+use Prim.Native.Nat.{ℕ, _-_, _<_, _≤_}
 use native.Mathlib.Omega.{arith}
-use mathlib.Core.Path.{_≡_, refl, sym, ap, _∙_}
+use mathlib.Core.Path.{_≡_, refl, ap, _∙_}
 use lib.ListN.{length, length-set}
 use Rattle.graph.specs.Labels.{rename}
 use Rattle.tree.specs.Columns.{at}
 use Rattle.tree.proofs.Laws.{fill, kept}
 use Rattle.tree.proofs.merge.Statement.{statement}
 use Rattle.tree.proofs.merge.Tie as tie
-use Rattle.tree.proofs.merge.Reads as reads
-use Rattle.tree.proofs.merge.Lts as lts
-use Rattle.tree.proofs.renamed.Reads as renamed-reads
 
 abbrev Inv-loop : tie.InvT-loop
 Inv-loop label₀ a b v₀ label v =
@@ -19,31 +16,24 @@ Inv-loop label₀ a b v₀ label v =
 abbrev μ-loop : tie.MeasureT-loop
 μ-loop label₀ a b v₀ label v = 192 - v
 
--- src/lib.rt:54:5
 loop-holds : tie.Need-loop-holds Inv-loop μ-loop
 loop-holds c = (omega arith, c .pre, λ i l. absurd (omega arith), λ i l. refl)
 
--- src/lib.rt:55:28
 element-copy-out-renamed : tie.Need-element-copy-out-renamed Inv-loop μ-loop
 element-copy-out-renamed c = search needs
 
--- src/lib.rt:55:20
 renamed-requires : tie.Need-renamed-requires Inv-loop μ-loop
 renamed-requires c κs = search needs
 
--- src/lib.rt:55:9
 element-write-label : tie.Need-element-write-label Inv-loop μ-loop
 element-write-label c = search needs
 
--- src/lib.rt:56:9
 add-v : tie.Need-add-v Inv-loop μ-loop
 add-v c = search needs
 
--- src/lib.rt:54:5
 loop-less : tie.Need-loop-less Inv-loop μ-loop
 loop-less c = search needs
 
--- src/lib.rt:54:5
 loop-again : tie.Need-loop-again Inv-loop μ-loop
 loop-again c =
     let l = c .before .before .before .loop in
@@ -56,7 +46,6 @@ loop-again c =
       kept (l .label) (s .label .now) (l .v) (c .renamed .result) (l .inv .3),
     )
 
--- src/lib.rt:50:1
 returns : tie.Need-returns Inv-loop μ-loop
 returns c = let l = c .before .loop in (l .inv .1, λ v h. l .inv .2 v (omega arith))
 

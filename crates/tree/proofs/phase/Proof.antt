@@ -1,6 +1,5 @@
 use borrow.Author.Needs.{needs}
 use lib.ListN.{length}
-use Rattle.graph.specs.Order.{Order}
 use Rattle.plan.specs.Links.{edges, planOf}
 use Rattle.plan.specs.Weights.{orderOf, earlierIn}
 use Rattle.tree.specs.Phase.{first-bound}
@@ -8,12 +7,7 @@ use Rattle.tree.proofs.Offers.{firsts-none}
 use Rattle.tree.proofs.Joins.{phased}
 use Rattle.tree.proofs.phase.Statement.{statement}
 use Rattle.tree.proofs.phase.Tie as tie
-use Rattle.tree.proofs.phase.Reads as reads
-use Rattle.tree.proofs.phase.Lts as lts
-use Rattle.tree.proofs.join_all.Reads as join-all-reads
-use Rattle.tree.proofs.scan.Reads as scan-reads
 
--- src/lib.rt:162:9
 scan-requires : tie.Need-scan-requires
 scan-requires c κs =
     let s = c .before .before .before in
@@ -24,17 +18,14 @@ scan-requires c κs =
       firsts-none (orderOf (planOf 0 600 (a .lower .now) (a .higher .now) (a .near .now) (a .far .now))) (a .lower .now) (a .higher .now) (a .label .now),
     )
 
--- src/lib.rt:163:5
 join-all-requires : tie.Need-join-all-requires
 join-all-requires c κs =
     let n = c .before .before .before in
     (n .before .before .before .before .pre .0, λ a l. first-bound (n .scan .ensures .1 .first a l))
 
--- src/lib.rt:155:1
 same-length : tie.Need-same-length
 same-length c = search needs
 
--- src/lib.rt:155:1
 returns : tie.Need-returns
 returns c =
     let j = c .before .before in

@@ -1,5 +1,4 @@
 use mathlib.Core.Path.{_≡_, refl, _∙_}
-use borrow.Author.Needs.{needs}
 use lib.ListN.{length}
 use Rattle.plan.specs.Links.{edges, planOf}
 use Rattle.plan.specs.Weights.{orderOf, earlierIn}
@@ -9,9 +8,6 @@ use Rattle.tree.specs.Columns.{at, Parts, Phased}
 use Rattle.tree.proofs.Joins.{fit-of}
 use Rattle.tree.proofs.phases.Statement.{statement}
 use Rattle.tree.proofs.phases.Tie as tie
-use Rattle.tree.proofs.phases.Reads as reads
-use Rattle.tree.proofs.phases.Lts as lts
-use Rattle.tree.proofs.phase.Reads as phase-reads
 
 abbrev Inv-loop : tie.InvT-loop
 Inv-loop lower higher near far label₀ out₀ label out =
@@ -20,11 +16,9 @@ Inv-loop lower higher near far label₀ out₀ label out =
 abbrev μ-loop : tie.MeasureT-loop
 μ-loop lower higher near far label₀ out₀ label out = apart (edges (length out₀) lower higher) (at label)
 
--- src/lib.rt:173:5
 loop-holds : tie.Need-loop-holds Inv-loop μ-loop
 loop-holds c = (refl, c .before .pre .0 .parts, c .before .pre .1)
 
--- src/lib.rt:174:12
 phase-requires : tie.Need-phase-requires Inv-loop μ-loop
 phase-requires c κs =
     let l = c .before .before .loop in
@@ -37,11 +31,9 @@ after : (c : tie.After-phase Inv-loop μ-loop) → let a = c .before .before .be
     (c .before .before .before .loop .label) (c .phase .last .1 .1 .1 .1 .0) (c .phase .last .1 .1 .1 .1 .1 .0) (c .phase .result)
 after c = rw (c .before .before .before .loop .inv .0) at (c .phase .ensures)
 
--- src/lib.rt:175:13
 same-length : tie.Need-same-length Inv-loop μ-loop
 same-length c = let p = c .before .before .before in p .phase .kept .1 .1 .1 .1 .1 .0 ∙ p .before .before .before .loop .inv .0
 
--- src/lib.rt:175:13
 returns : tie.Need-returns Inv-loop μ-loop
 returns c =
     let p = c .before .before .before in
@@ -50,11 +42,9 @@ returns c =
     finished (edges (length (a .out .now)) (a .lower .now) (a .higher .now)) (orderOf (planOf 0 (length (a .out .now)) (a .lower .now) (a .higher .now) (a .near .now) (a .far .now)))
     (at (p .phase .last .1 .1 .1 .1 .0)) _ (s .pre .0 .ends) (after p .forest) (after p .over (c .if1 .taken))
 
--- src/lib.rt:173:5
 loop-less : tie.Need-loop-less Inv-loop μ-loop
 loop-less c = after (c .before .before .before) .fewer (c .if1 .left)
 
--- src/lib.rt:173:5
 loop-again : tie.Need-loop-again Inv-loop μ-loop
 loop-again c =
     let p = c .before .before .before in

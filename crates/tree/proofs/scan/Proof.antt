@@ -1,6 +1,6 @@
 use Prim.Native.Nat.{_-_, _≤_}
 use native.Mathlib.Omega.{arith}
-use mathlib.Core.Path.{_≡_, sym, ap, subst, _∙_}
+use mathlib.Core.Path.{_≡_, ap, subst, _∙_}
 use borrow.Author.Needs.{needs}
 use Rattle.base.specs.Sum.{sum}
 use Rattle.plan.specs.Weights.{earlierIn}
@@ -9,9 +9,6 @@ use Rattle.tree.specs.Columns.{at, Firsts}
 use Rattle.tree.proofs.Laws.{sum-next}
 use Rattle.tree.proofs.scan.Statement.{statement}
 use Rattle.tree.proofs.scan.Tie as tie
-use Rattle.tree.proofs.scan.Reads as reads
-use Rattle.tree.proofs.scan.Lts as lts
-use Rattle.tree.proofs.scan_edge.Reads as scan-edge-reads
 
 abbrev Inv-loop : tie.InvT-loop
 Inv-loop lower higher near far links label best₀ found₀ k₀ best found k =
@@ -20,11 +17,9 @@ Inv-loop lower higher near far links label best₀ found₀ k₀ best found k =
 abbrev μ-loop : tie.MeasureT-loop
 μ-loop lower higher near far links label best₀ found₀ k₀ best found k = links - k
 
--- src/lib.rt:108:5
 loop-holds : tie.Need-loop-holds Inv-loop μ-loop
 loop-holds c = search needs
 
--- src/lib.rt:109:18
 scan-edge-requires : tie.Need-scan-edge-requires Inv-loop μ-loop
 scan-edge-requires c κs =
     let l = c .before .before .loop in
@@ -32,7 +27,6 @@ scan-edge-requires c κs =
     let e = s .pre .1 (l .k) (c .before .loop-test .taken) in
     (omega (arith, s .pre .0), e .0, e .1, s .pre .2, l .inv .2)
 
--- src/lib.rt:109:9
 add-found : tie.Need-add-found Inv-loop μ-loop
 add-found c =
     let l = c .before .before .before .loop in
@@ -45,22 +39,18 @@ add-found c =
       c .before .before .before .before .pre .0,
     )
 
--- src/lib.rt:110:9
 add-k : tie.Need-add-k Inv-loop μ-loop
 add-k c = search needs
 
--- src/lib.rt:108:5
 loop-less : tie.Need-loop-less Inv-loop μ-loop
 loop-less c = search needs
 
--- src/lib.rt:108:5
 loop-again : tie.Need-loop-again Inv-loop μ-loop
 loop-again c =
     let l = c .before .before .before .loop in
     let s = c .before .before .before .before .args in
     (omega arith, omega (arith, c .scan-edge .ensures .0, sum-next (apartAt (at (s .lower .now)) (at (s .higher .now)) (at (s .label .now))) (l .k)), c .scan-edge .ensures .1)
 
--- src/lib.rt:100:1
 returns : tie.Need-returns Inv-loop μ-loop
 returns c =
     let l = c .before .loop in

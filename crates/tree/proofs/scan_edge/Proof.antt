@@ -1,7 +1,6 @@
-use Prim.Native.Nat.{ℕ, _+_, _<_}
+use Prim.Native.Nat.{_<_}
 use native.Mathlib.Omega.{arith}
-use mathlib.Core.Path.{_≡_, refl, sym, ap, _∙_}
-use mathlib.Core.Logic.{_≢_}
+use mathlib.Core.Path.{_≡_, sym, ap, _∙_}
 use borrow.Author.Needs.{needs}
 use Rattle.graph.specs.Order.{Order}
 use Rattle.plan.specs.Links.{planOf}
@@ -11,49 +10,34 @@ use Rattle.tree.specs.Columns.{at}
 use Rattle.tree.proofs.Offers.{held, held-once, skipped, offered}
 use Rattle.tree.proofs.scan_edge.Statement.{statement}
 use Rattle.tree.proofs.scan_edge.Tie as tie
-use Rattle.tree.proofs.scan_edge.Reads as reads
-use Rattle.tree.proofs.scan_edge.Lts as lts
-use Rattle.tree.proofs.index.Reads as index-reads
-use Rattle.tree.proofs.offer.Reads as offer-reads
-use Rattle.tree.proofs.wide.Reads as wide-reads
 
--- src/lib.rt:86:18
 mul-wide : tie.Need-mul-wide
 mul-wide c = search needs
 
--- src/lib.rt:86:18
 element-copy-out-wide : tie.Need-element-copy-out-wide
 element-copy-out-wide c = search needs
 
--- src/lib.rt:86:9
 wide-requires : tie.Need-wide-requires
 wide-requires c κs = search needs
 
--- src/lib.rt:87:18
 mul-wide-2 : tie.Need-mul-wide-2
 mul-wide-2 c = search needs
 
--- src/lib.rt:87:18
 element-copy-out-wide-2 : tie.Need-element-copy-out-wide-2
 element-copy-out-wide-2 c = search needs
 
--- src/lib.rt:87:9
 wide-requires-2 : tie.Need-wide-requires-2
 wide-requires-2 c κs = search needs
 
--- src/lib.rt:88:19
 element-copy-out-index : tie.Need-element-copy-out-index
 element-copy-out-index c = search needs
 
--- src/lib.rt:88:9
 index-requires : tie.Need-index-requires
 index-requires c κs = search needs
 
--- src/lib.rt:89:19
 element-copy-out-index-2 : tie.Need-element-copy-out-index-2
 element-copy-out-index-2 c = search needs
 
--- src/lib.rt:89:9
 index-requires-2 : tie.Need-index-requires-2
 index-requires-2 c κs = search needs
 
@@ -83,7 +67,6 @@ high-range c =
     let s = c .before .before .before .before .before .before .before .before in
     omega (arith, part-high c, s .pre .3 .range (at (s .args .higher .now) (s .args .k)) (s .pre .2))
 
--- src/lib.rt:91:9
 returns : tie.Need-returns
 returns c =
     let i = c .before in
@@ -93,18 +76,15 @@ returns c =
       skipped (order s) (s .args .lower .now) (s .args .higher .now) (s .args .label .now) (s .args .best .now) (s .args .k) (s .pre .0) (s .pre .4) inside,
     )
 
--- src/lib.rt:93:13
 cast-e : tie.Need-cast-e
 cast-e c = search needs
 
--- src/lib.rt:94:5
 offer-requires : tie.Need-offer-requires
 offer-requires c κs =
     let i = c .before .before in
     let s = i .before .before .before .before .before .before .before .before in
     (low-range i, s .pre .0, held (order s) (s .args .lower .now) (s .args .higher .now) (s .args .label .now) (s .args .best .now) (s .args .k) (s .pre .0) (s .pre .4) _ (low-range i))
 
--- src/lib.rt:95:5
 offer-requires-2 : tie.Need-offer-requires-2
 offer-requires-2 c κs =
     let i = c .before .before .before .before in
@@ -115,7 +95,6 @@ offer-requires-2 c κs =
           _ _ (low-range i) (high-range i) (part-low i) (part-high i) (c .before .before .before .if1 .left)),
     )
 
--- src/lib.rt:80:1
 returns-2 : tie.Need-returns-2
 returns-2 c =
     let i = c .before .before .before .before .before in

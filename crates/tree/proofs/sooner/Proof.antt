@@ -3,23 +3,16 @@ use mathlib.Core.Logic.{⊎-elim}
 use Rattle.tree.specs.Phase.{sooner-none, sooner-new, sooner-old}
 use Rattle.tree.proofs.sooner.Statement.{statement}
 use Rattle.tree.proofs.sooner.Tie as tie
-use Rattle.tree.proofs.sooner.Reads as reads
-use Rattle.tree.proofs.sooner.Lts as lts
-use Rattle.plan.proofs.earlier.Reads as earlier-reads
 
--- src/lib.rt:66:9
 returns : tie.Need-returns
 returns c = sym (sooner-none _ _ _ (c .if1 .taken))
 
--- src/lib.rt:68:8
 earlier-requires : tie.Need-earlier-requires
 earlier-requires c κs = let s = c .before .pre in (s .0, ⊎-elim (λ e. absurd (c .if1 .left e)) (λ l. l) (s .1))
 
--- src/lib.rt:61:1
 returns-2 : tie.Need-returns-2
 returns-2 c = sym (sooner-new _ _ _ (c .before .before .if1 .left) (sym (c .before .earlier .ensures) ∙ c .if2 .taken))
 
--- src/lib.rt:61:1
 returns-3 : tie.Need-returns-3
 returns-3 c = sym (sooner-old _ _ _ (c .before .before .if1 .left) (sym (c .before .earlier .ensures) ∙ c .if2 .left))
 
