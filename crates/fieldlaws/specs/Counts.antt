@@ -41,10 +41,10 @@ pub record Counted (p : Plan) (x : State) (l : List Taken) (y : State) : Type 0 
   pub waiting : length (y .words) + consumed p l ≡ length (x .words) + messagesSent p l
 
 module _ (p : Plan) where
-  counted-none : (x : State) → Counted p x [] x
+  pub counted-none : (x : State) → Counted p x [] x
   counted-none x = record { sent = omega arith; waiting = refl }
 
-  counted-more : (x y z : State) (l m : List Taken) → Counted p x l y → Counted p y m z → Counted p x (l ++ m) z
+  pub counted-more : (x y z : State) (l m : List Taken) → Counted p x l y → Counted p y m z → Counted p x (l ++ m) z
   counted-more x y z l m a b = record {
     sent = omega (arith, a .sent, b .sent, sumL-app (sendsOf p) l m);
     waiting = omega (arith, a .waiting, b .waiting, sumL-app (sendsOf p) l m, sumL-app (consumes p) l m);
@@ -88,7 +88,7 @@ module _ (p : Plan) where
         );
       })
 
-  step-counts : (kind number : ℕ) (s : State) → Counted p s (ifTaken p kind number s) (step p kind number s .state)
+  pub step-counts : (kind number : ℕ) (s : State) → Counted p s (ifTaken p kind number s) (step p kind number s .state)
   unfolding ifTaken
   step-counts kind number s = go (steps p s kind number)
     where

@@ -32,7 +32,7 @@ use Rattle.fieldlaws.specs.Trace.{onState, call-keeps}
 
 -- ---- words laid out
 
-waiting-zeros : (k : ℕ) → waitingIn (replicate k 0) ≡ []
+pub waiting-zeros : (k : ℕ) → waitingIn (replicate k 0) ≡ []
 unfolding waitingIn
 waiting-zeros zero = refl
 waiting-zeros (suc k) = refl
@@ -43,7 +43,7 @@ unfolding waitingIn
 waiting-back n nil = waiting-zeros n
 waiting-back n (con {x} {xs} h t) = rw (eqb-diff x 0 h) (ap (λ r. x ∷ r) (waiting-back n t))
 
-zeros-all : (k : ℕ) → allOf (λ x. eqb x 0) (replicate k 0) ≡ true
+pub zeros-all : (k : ℕ) → allOf (λ x. eqb x 0) (replicate k 0) ≡ true
 unfolding allOf
 zeros-all zero = refl
 zeros-all (suc k) = zeros-all k

@@ -8,3 +8,4 @@ pub mod Keeps
 pub mod Trace
 pub mod Counts
 pub mod Laid
+pub mod After
