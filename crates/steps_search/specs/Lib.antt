@@ -4,3 +4,4 @@ pub mod ReportLater
 pub mod TestNext
 pub mod Accepted
 pub mod WakeLone
+pub mod AcceptTest

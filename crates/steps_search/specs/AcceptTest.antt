@@ -1,0 +1,165 @@
+-- Test (l, f) from u at v over k, of another fragment: v answers Accept.
+use Rattle.protocol.specs.Prelude.{ℕ, zero, suc, _+_, _≤_, _<_, arith, _≡_, refl, sym, ap, subst, _∙_, _≢_, _⊎_, inl, inr, ⊎-elim}
+use Rattle.protocol.specs.Prelude.{List, [], _∷_, _++_, upd2, by-eq, sumL}
+use Rattle.protocol.specs.Prelude.{Msg, none, connect, initiate, test, accept, reject, report, change}
+use Rattle.protocol.specs.Prelude.{Plan, Ends, joins-lt, flip, ends-same, ends-irr, State, Idle, set-ch, send, pop}
+use Rattle.protocol.specs.Prelude.{isC, isI, isT, isA, isR, fits-accept, In, in-sum, pop-head, pop-in, pop-sum, pop-here, pop-le, else-same, none-in}
+use Rattle.protocol.specs.Prelude.{snoc, snoc-in, snoc-old, kinds, snoc-sum, snoc-here, snoc-else, GL, GC, DK, Inf, Jn, Waits, Inv, inf-awake}
+use Rattle.protocol.specs.Prelude.{Plain, take-alike, take-hush, take-tokens, take-telling, take-ordered, before, post-alike, post-hush, post-tokens, post-telling, post-ordered}
+use Rattle.protocol.specs.Prelude.{connects-same, initiates-same, reports-same, owing-same, bests-same}
+use Rattle.protocol.specs.Traffic.{AcceptOk, Testing, Answers}
+
+module _ {p : Plan} {s : State} (i : Inv p s) {u v k l f : ℕ} {r : List Msg} (idle : Idle s) (ends : Ends p k u v) (awake : s.st v ≢ 0) (q : s.ch u k ≡ test l f ∷ r)
+    (low : l ≤ s.lev v) (differ : s.id v ≢ f) where
+  abbrev c₁ : ℕ → ℕ → List Msg
+  c₁ = upd2 s.ch u k r
+
+  abbrev s₁ : State
+  s₁ = set-ch s c₁
+
+  abbrev c′ : ℕ → ℕ → List Msg
+  c′ = snoc c₁ v k accept
+
+  abbrev S′ : State
+  S′ = send (pop s u k r) v k accept
+
+  asked : Plain (test l f)
+  asked = record { no-call = refl; no-init = refl; no-conn = refl; no-rep = refl; no-change = refl }
+
+  plain : Plain accept
+  plain = record { no-call = refl; no-init = refl; no-conn = refl; no-rep = refl; no-change = refl }
+
+  head : In (test l f) (s.ch u k)
+  head = pop-head s.ch u k q
+
+  pub inf : Inf s u
+  inf = i.E1.e1 k u v l f ends head .2
+
+  -- of another fragment: else v would be informed, with the same identity
+  pub apart : s.fr u ≢ s.fr v
+  apart z =
+      let t = i.E1.e1 k u v l f ends head in
+      let h : Inf s v = (omega (arith, inf .0, ap s.gl z), omega (arith, i.G2.g2 v, inf .1, t .0, ap s.gl z)) in
+      differ (i.G2.g2i v h ∙ ap s.gc (sym z) ∙ sym (i.G2.g2i u inf) ∙ t .1)
+
+  pub waits : Waits s u k
+  waits = ⊎-elim (λ t. t .0) (λ t. absurd (apart (t .3))) (i.E1.e1w k u v l f ends head)
+
+  pub basic : s.mark u k ≡ 0
+  basic = ⊎-elim
+      (λ t. by-eq (s.mark u k) 0 (λ z. z)
+      (λ n. let o : s.mark u k ≡ 1 = omega (arith, i.W0.mark-le u k, t .1) in absurd (apart (i.M1.m3 k u v ends (o, t .2 o)))))
+      (λ t. absurd (apart (t .3))) (i.E1.e1w k u v l f ends head)
+
+  -- the Test was the one of three
+  one : 1 ≤ sumL isT (s.ch u k)
+  one = in-sum isT head
+
+  pub unanswered : sumL isA (s.ch v k) ≡ 0
+  unanswered = by-eq (s.te v) k
+      (λ z. omega (arith, i.E1.e2w k u v ends waits (z, λ o. omega (arith, idle .0)), one))
+      (λ z. omega (arith, i.E1.e2c k u v ends waits (inl z), one))
+
+  -- ---- the new channels
+
+  old : {x : Msg} (g : Msg → ℕ) → g accept ≡ 0 → 1 ≤ g x → (w j : ℕ) → In x (c′ w j) → In x (s.ch w j)
+  old g z o w j h = pop-in s.ch u k q w j (before p s₁ v k plain g z o w j h)
+
+  same : (g : Msg → ℕ) → g accept ≡ 0 → g (test l f) ≡ 0 → (w j : ℕ) → sumL g (c′ w j) ≡ sumL g (s.ch w j)
+  same g a t w j = snoc-sum c₁ v k accept g a w j ∙ pop-sum s.ch u k q g t w j
+
+  -- Tests: one less from u; answers: one more from v
+  tests : (w j : ℕ) → (u ≢ w) ⊎ (k ≢ j) → sumL isT (c′ w j) ≡ sumL isT (s.ch w j)
+  tests w j n = snoc-sum c₁ v k accept isT refl w j ∙ ap (sumL isT) (else-same s.ch u k r w j n)
+
+  tests-here : sumL isT (s.ch u k) ≡ 1 + sumL isT (c′ u k)
+  tests-here = omega (arith, pop-here s.ch u k q isT, snoc-sum c₁ v k accept isT refl u k)
+
+  answers : (w j : ℕ) → (v ≢ w) ⊎ (k ≢ j) → sumL isA (c′ w j) ≡ sumL isA (s.ch w j)
+  answers w j n = ap (sumL isA) (snoc-else c₁ v k accept w j n) ∙ pop-sum s.ch u k q isA refl w j
+
+  answers-here : sumL isA (c′ v k) ≡ sumL isA (s.ch v k) + 1
+  answers-here = omega (arith, snoc-here c₁ v k accept isA, pop-sum s.ch u k q isA refl v k)
+
+  -- who waits has as much: u has the answer for its Test
+  even : (j w x : ℕ) → Ends p j w x → sumL isT (c′ w j) + sumL isA (c′ x j) ≡ sumL isT (s.ch w j) + sumL isA (s.ch x j)
+  even j w x e = by-eq k j
+      (λ z. by-eq u w
+      (λ y. let n = ends-same ends (subst (λ a. Ends p a u x) (sym z) (subst (λ a. Ends p j a x) (sym y) e)) in
+      omega (
+        arith,
+        tests-here,
+        answers-here,
+        ap (λ a. sumL isT (c′ a j)) y,
+        ap (λ a. sumL isT (c′ u a)) z,
+        ap (λ a. sumL isT (s.ch a j)) y,
+        ap (λ a. sumL isT (s.ch u a)) z,
+        ap (λ a. sumL isA (c′ a j)) n,
+        ap (λ a. sumL isA (c′ v a)) z,
+        ap (λ a. sumL isA (s.ch a j)) n,
+        ap (λ a. sumL isA (s.ch v a)) z,
+      ))
+      (λ y. let n : v ≢ x = λ o. y (ends-same (flip ends) (subst (λ a. Ends p a v w) (sym z) (subst (λ a. Ends p j a w) (sym o) (flip e)))) in
+      omega (arith, tests w j (inl y), answers x j (inl n))))
+      (λ z. omega (arith, tests w j (inr z), answers x j (inr z)))
+
+  E1′ : Testing p S′
+  E1′ = record {
+    e1 = λ j w x a b e h. i.E1.e1 j w x a b e (old isT refl (omega arith) w j h);
+    e1w = λ j w x a b e h. i.E1.e1w j w x a b e (old isT refl (omega arith) w j h);
+    e2w = λ j w x e a b. even j w x e ∙ i.E1.e2w j w x e a b;
+    e2c = λ j w x e a b. omega (arith, even j w x e, i.E1.e2c j w x e a b, tests x j (crossed j x b));
+    m6t = λ j w x e m z. omega (arith, snoc-sum c₁ v k accept isT refl x j, pop-le s.ch u k q isT x j, i.E1.m6t j w x e m z);
+  }
+    where
+      crossed : (j x : ℕ) → (s.te x ≢ j) ⊎ (s.ot ≡ suc x) → (u ≢ x) ⊎ (k ≢ j)
+      crossed j x b = by-eq u x
+          (λ y. inr (λ z. ⊎-elim (λ n. n (ap s.te (sym y) ∙ waits .0 ∙ z)) (λ o. omega (arith, idle .0)) b)) (λ y. inl y)
+
+  A1′ : Answers p S′
+  A1′ = record {
+    a1 = λ j w x e h. ⊎-elim (λ o. i.A1.a1 j w x e (pop-in s.ch u k q w j o))
+        (λ t. let n = ends-same (flip ends) (subst (λ a. Ends p a v x) (sym (t .1)) (subst (λ a. Ends p j a x) (sym (t .0)) e)) in
+        subst (λ a. AcceptOk s.te s.fr s.lev s.mark s.ot j w a) n
+        (subst (λ a. AcceptOk s.te s.fr s.lev s.mark s.ot j a u) (t .0)
+        (subst (λ a. AcceptOk s.te s.fr s.lev s.mark s.ot a v u) (t .1) fresh)))
+        (snoc-in c₁ v k accept w j h);
+    j1 = λ j w x e h. i.A1.j1 j w x e (pop-in s.ch u k q w j (snoc-old c₁ v k accept w j (kinds (λ z. omega arith)) h));
+  }
+    where
+      fresh : AcceptOk s.te s.fr s.lev s.mark s.ot k v u
+      fresh = record { a1w = waits; a1m = basic; a1f = λ z. apart (sym z); a1l = omega (arith, i.E1.e1 k u v l f ends head .0) }
+
+  pub inv-accept-test : Inv p S′
+  inv-accept-test = record {
+    W0 = i.W0;
+    W1 = i.W1;
+    G2 = i.G2;
+    G4 = i.G4;
+    G5 = i.G5;
+    G6 = i.G6;
+    M1 = i.M1;
+    U1 = i.U1;
+    D1 = i.D1;
+    D2 = i.D2;
+    D3 = i.D3;
+    D4 = i.D4;
+    T1 = i.T1;
+    T2 = i.T2;
+    F1 = i.F1;
+    F2 = i.F2;
+    F4 = i.F4;
+    E2 = i.E2;
+    B1 = i.B1;
+    G6c = post-hush p s₁ v k plain awake (λ x e z. absurd (inf-awake i u inf (ap s.st (ends-same (flip ends) e) ∙ z))) (take-hush p s u k q asked i.G6c);
+    Dc = post-tokens p s₁ v k plain (λ h. tt) (take-tokens p s u k q asked i.Dc);
+    C1 = connects-same p s c′ (λ w j a h. old isC refl (omega arith) w j h) i.C1;
+    I1 = initiates-same p s c′ (λ w j a b x h. old isI refl (omega arith) w j h) i.I1;
+    T4 = post-telling p s₁ v k plain (take-telling p s u k q asked i.T4);
+    E1 = E1′;
+    A1 = A1′;
+    R1 = reports-same p s₁ c′ (post-alike p s₁ v k plain) (reports-same p s c₁ (take-alike p s u k q asked) i.R1);
+    F4c = owing-same p s c′ (same isR refl refl) i.F4c;
+    B2 = bests-same p s c′ (same isR refl refl) i.B2;
+    Q1 = post-ordered p s₁ v k plain (λ x h. fits-accept x (none-in isA unanswered (pop-in s.ch u k q v k h))) (take-ordered p s u k q asked i.Q1);
+  }
