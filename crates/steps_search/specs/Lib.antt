@@ -5,3 +5,4 @@ pub mod TestNext
 pub mod Accepted
 pub mod WakeLone
 pub mod AcceptTest
+pub mod Strike
