@@ -6,3 +6,7 @@ pub mod Accepted
 pub mod WakeLone
 pub mod AcceptTest
 pub mod Strike
+pub mod Again
+pub mod Own
+pub mod Rejected
+pub mod CrossedTest

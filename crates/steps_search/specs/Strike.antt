@@ -58,9 +58,18 @@ module _ (p : Plan) (s : State) (v k c : ℕ) (strike : Strike s v k c) where
   pub initiates-strike : Initiates p s → Initiates p (set-mark s struck)
   initiates-strike o = record {
     i1 = λ j u w l f x e n. let t = o.i1 j u w l f x e n in
-      record {
-        i1j = up-both j u w (t.i1j); i1u = t.i1u; i1l = t.i1l; i1g = t.i1g; i1f = t.i1f; i1i = t.i1i; i1c = t.i1c; i1d = t.i1d; i1s = t.i1s; i1z = t.i1z;
-      };
+        record {
+          i1j = up-both j u w (t.i1j);
+          i1u = t.i1u;
+          i1l = t.i1l;
+          i1g = t.i1g;
+          i1f = t.i1f;
+          i1i = t.i1i;
+          i1c = t.i1c;
+          i1d = t.i1d;
+          i1s = t.i1s;
+          i1z = t.i1z;
+        };
   }
 
   pub telling-strike : Telling p s → Telling p (set-mark s struck)
@@ -123,11 +132,11 @@ module _ {p : Plan} {s : State} (i : Inv p s) {u v k c : ℕ} (ends : Ends p k v
   pub marks-strike : Marks p s.fr m′
   marks-strike = record {
     own = λ w j n. upd2-elim (λ x. x ≢ 0 → (y : ℕ) × Ends p j w y) s.mark v k c w j
-      (λ a b m. (u, subst (λ x. Ends p j x u) a (subst (λ x. Ends p x v u) b ends))) (λ d m. i.M1.own w j m) n;
+        (λ a b m. (u, subst (λ x. Ends p j x u) a (subst (λ x. Ends p x v u) b ends))) (λ d m. i.M1.own w j m) n;
     m1 = λ j w x e h. ⊎-elim (λ o. let t = i.M1.m1 j w x e o in (t .0, λ z. t .1 (dn1 p s v k c strike x j z)))
-      (λ t. let y = ends-same ends (subst (λ a. Ends p a v x) (sym (t .1)) (subst (λ a. Ends p j a x) (sym (t .0)) e)) in
+        (λ t. let y = ends-same ends (subst (λ a. Ends p a v x) (sym (t .1)) (subst (λ a. Ends p j a x) (sym (t .0)) e)) in
         (ap s.fr (sym (t .0)) ∙ inside ∙ ap s.fr y, λ z. free (t .2) (ap (λ a. s.mark a k) y ∙ ap (s.mark x) (t .1) ∙ dn1 p s v k c strike x j z)))
-      (dn2 p s v k c strike w j h);
+        (dn2 p s v k c strike w j h);
     m3 = λ j w x e h. i.M1.m3 j w x e (dn-both p s v k c strike j w x h);
     m4 = λ w x e. wider (λ j l h. up-both p s v k c strike j (p.g.lo j) (p.g.hi j) h) (i.M1.m4 w x e);
     m5 = λ j w x e h. i.M1.m5 j w x e (dn1 p s v k c strike w j h);
@@ -148,15 +157,15 @@ module _ {p : Plan} {s : State} (i : Inv p s) {u v k c : ℕ} (ends : Ends p k v
     d1f = i.D1.d1f;
     d1e = i.D1.d1e;
     d1 = λ j z y e h. let t = i.D1.d1 j z y e h in
-      record {
-        d1m = up1 p s v k c strike z j (t.d1m);
-        d1y = up0 p s v k c strike y j (by-eq v y (λ q. inr (λ b. t.d1o (out j z y e q b))) (λ n. inl n)) (t.d1y);
-        d1o = t.d1o;
-        d1g = t.d1g;
-        d1l = t.d1l;
-        d1u = t.d1u;
-        d1b = bounds p s v k c strike s.fr (rank p j) z (t.d1b);
-      };
+        record {
+          d1m = up1 p s v k c strike z j (t.d1m);
+          d1y = up0 p s v k c strike y j (by-eq v y (λ q. inr (λ b. t.d1o (out j z y e q b))) (λ n. inl n)) (t.d1y);
+          d1o = t.d1o;
+          d1g = t.d1g;
+          d1l = t.d1l;
+          d1u = t.d1u;
+          d1b = bounds p s v k c strike s.fr (rank p j) z (t.d1b);
+        };
   }
     where
       -- k lies inside
@@ -168,10 +177,17 @@ module _ {p : Plan} {s : State} (i : Inv p s) {u v k c : ℕ} (ends : Ends p k v
     d2f = i.D2.d2f;
     d2e = i.D2.d2e;
     d2 = λ j w x e h. let t = i.D2.d2 j w x e h in
-      record {
-        d2j = up-both p s v k c strike j w x (t.d2j); d2g = t.d2g; d2i = t.d2i; d2x = t.d2x; d2b = t.d2b; d2u = t.d2u; d2v = t.d2v; d2w = t.d2w;
-        d2n = bounds p s v k c strike s.fr (key p (s.bw x)) x (t.d2n);
-      };
+        record {
+          d2j = up-both p s v k c strike j w x (t.d2j);
+          d2g = t.d2g;
+          d2i = t.d2i;
+          d2x = t.d2x;
+          d2b = t.d2b;
+          d2u = t.d2u;
+          d2v = t.d2v;
+          d2w = t.d2w;
+          d2n = bounds p s v k c strike s.fr (key p (s.bw x)) x (t.d2n);
+        };
   }
 
   pub rootings-strike : Rootings p s.dk s.dn s.fr s.gl s.lev s.ib s.ub s.bw m′ s.oo
@@ -180,7 +196,7 @@ module _ {p : Plan} {s : State} (i : Inv p s) {u v k c : ℕ} (ends : Ends p k v
     d3o = i.D3.d3o;
     f5r = i.D3.f5r;
     d3 = λ x h. let t = i.D3.d3 x h in
-      record { d3i = t.d3i; d3w = t.d3w; d3b = bounds p s v k c strike s.fr (key p (s.bw x)) x (t.d3b); d3u = t.d3u; d3v = t.d3v };
+        record { d3i = t.d3i; d3w = t.d3w; d3b = bounds p s v k c strike s.fr (key p (s.bw x)) x (t.d3b); d3u = t.d3u; d3v = t.d3v };
   }
 
   pub finishes-strike : Finishes p s.dk s.fr s.gl s.gc s.lev s.bw s.halt s.due m′
