@@ -3,11 +3,12 @@ use Rattle.protocol.specs.Prelude.{ℕ, zero, suc, _+_, _≤_, _<_, arith, _≡
 use Rattle.protocol.specs.Prelude.{List, [], _∷_, _++_, upd2, by-eq, sumL}
 use Rattle.protocol.specs.Prelude.{Msg, none, connect, initiate, test, accept, reject, report, change}
 use Rattle.protocol.specs.Prelude.{Plan, Ends, joins-lt, flip, ends-same, ends-irr, State, Idle, set-ch, send, pop}
-use Rattle.protocol.specs.Prelude.{isC, isI, isT, isA, isR, fits-accept, In, in-sum, pop-head, pop-in, pop-sum, pop-here, pop-le, else-same, none-in}
-use Rattle.protocol.specs.Prelude.{snoc, snoc-in, snoc-old, kinds, snoc-sum, snoc-here, snoc-else, GL, GC, DK, Inf, Jn, Waits, Inv, inf-awake}
+use Rattle.protocol.specs.Prelude.{isC, isI, isT, isA, isR, fits-accept, In, in-sum, pop-head, pop-in, pop-sum, pop-le, none-in}
+use Rattle.protocol.specs.Prelude.{snoc, snoc-in, snoc-old, kinds, snoc-sum, GL, GC, DK, Inf, Jn, Waits, Inv, inf-awake}
 use Rattle.protocol.specs.Prelude.{Plain, take-alike, take-hush, take-tokens, take-telling, take-ordered, before, post-alike, post-hush, post-tokens, post-telling, post-ordered}
 use Rattle.protocol.specs.Prelude.{connects-same, initiates-same, reports-same, owing-same, bests-same}
 use Rattle.protocol.specs.Traffic.{AcceptOk, Testing, Answers}
+use Rattle.steps_search.specs.Answer.{tests, even}
 
 module _ {p : Plan} {s : State} (i : Inv p s) {u v k l f : ℕ} {r : List Msg} (idle : Idle s) (ends : Ends p k u v) (awake : s.st v ≢ 0) (q : s.ch u k ≡ test l f ∷ r)
     (low : l ≤ s.lev v) (differ : s.id v ≢ f) where
@@ -68,47 +69,15 @@ module _ {p : Plan} {s : State} (i : Inv p s) {u v k l f : ℕ} {r : List Msg} (
   same : (g : Msg → ℕ) → g accept ≡ 0 → g (test l f) ≡ 0 → (w j : ℕ) → sumL g (c′ w j) ≡ sumL g (s.ch w j)
   same g a t w j = snoc-sum c₁ v k accept g a w j ∙ pop-sum s.ch u k q g t w j
 
-  -- Tests: one less from u; answers: one more from v
-  tests : (w j : ℕ) → (u ≢ w) ⊎ (k ≢ j) → sumL isT (c′ w j) ≡ sumL isT (s.ch w j)
-  tests w j n = snoc-sum c₁ v k accept isT refl w j ∙ ap (sumL isT) (else-same s.ch u k r w j n)
-
-  tests-here : sumL isT (s.ch u k) ≡ 1 + sumL isT (c′ u k)
-  tests-here = omega (arith, pop-here s.ch u k q isT, snoc-sum c₁ v k accept isT refl u k)
-
-  answers : (w j : ℕ) → (v ≢ w) ⊎ (k ≢ j) → sumL isA (c′ w j) ≡ sumL isA (s.ch w j)
-  answers w j n = ap (sumL isA) (snoc-else c₁ v k accept w j n) ∙ pop-sum s.ch u k q isA refl w j
-
-  answers-here : sumL isA (c′ v k) ≡ sumL isA (s.ch v k) + 1
-  answers-here = omega (arith, snoc-here c₁ v k accept isA, pop-sum s.ch u k q isA refl v k)
-
-  -- who waits has as much: u has the answer for its Test
-  even : (j w x : ℕ) → Ends p j w x → sumL isT (c′ w j) + sumL isA (c′ x j) ≡ sumL isT (s.ch w j) + sumL isA (s.ch x j)
-  even j w x e = by-eq k j
-      (λ z. by-eq u w
-      (λ y. let n = ends-same ends (subst (λ a. Ends p a u x) (sym z) (subst (λ a. Ends p j a x) (sym y) e)) in
-      omega (
-        arith,
-        tests-here,
-        answers-here,
-        ap (λ a. sumL isT (c′ a j)) y,
-        ap (λ a. sumL isT (c′ u a)) z,
-        ap (λ a. sumL isT (s.ch a j)) y,
-        ap (λ a. sumL isT (s.ch u a)) z,
-        ap (λ a. sumL isA (c′ a j)) n,
-        ap (λ a. sumL isA (c′ v a)) z,
-        ap (λ a. sumL isA (s.ch a j)) n,
-        ap (λ a. sumL isA (s.ch v a)) z,
-      ))
-      (λ y. let n : v ≢ x = λ o. y (ends-same (flip ends) (subst (λ a. Ends p a v w) (sym z) (subst (λ a. Ends p j a w) (sym o) (flip e)))) in
-      omega (arith, tests w j (inl y), answers x j (inl n))))
-      (λ z. omega (arith, tests w j (inr z), answers x j (inr z)))
+  level : (j w x : ℕ) → Ends p j w x → sumL isT (c′ w j) + sumL isA (c′ x j) ≡ sumL isT (s.ch w j) + sumL isA (s.ch x j)
+  level = even p s ends q accept refl refl
 
   E1′ : Testing p S′
   E1′ = record {
     e1 = λ j w x a b e h. i.E1.e1 j w x a b e (old isT refl (omega arith) w j h);
     e1w = λ j w x a b e h. i.E1.e1w j w x a b e (old isT refl (omega arith) w j h);
-    e2w = λ j w x e a b. even j w x e ∙ i.E1.e2w j w x e a b;
-    e2c = λ j w x e a b. omega (arith, even j w x e, i.E1.e2c j w x e a b, tests x j (crossed j x b));
+    e2w = λ j w x e a b. level j w x e ∙ i.E1.e2w j w x e a b;
+    e2c = λ j w x e a b. omega (arith, level j w x e, i.E1.e2c j w x e a b, tests p s ends q accept refl refl x j (crossed j x b));
     m6t = λ j w x e m z. omega (arith, snoc-sum c₁ v k accept isT refl x j, pop-le s.ch u k q isT x j, i.E1.m6t j w x e m z);
   }
     where

@@ -10,3 +10,5 @@ pub mod Again
 pub mod Own
 pub mod Rejected
 pub mod CrossedTest
+pub mod Answer
+pub mod RejectTest
