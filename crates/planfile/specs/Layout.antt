@@ -1,7 +1,7 @@
 -- The bytes of a plan: a version byte, then integers.
 use Prim.Native.Nat.{ℕ, zero, suc, _+_, _*_}
 use mathlib.Core.List.{List, [], _∷_, _++_}
-use lib.ListN.{replicate}
+use lib.ListN.{replicate, getD}
 use Rattle.int16.specs.Int16.{at16, bytes16}
 use Rattle.base.specs.Table.{tabulate, upto}
 use Rattle.plan.specs.declared.Plan.{Plan}
@@ -44,3 +44,11 @@ zeros = replicate 600 0
 
 abbrev pub blank : Plan
 blank = planOf 0 0 zeros zeros zeros zeros
+
+-- a plan with zeros past its links: the form in which it is read back
+unfoldable pub trim : ℕ → List ℕ → List ℕ
+trim l c = tabulate 600 (upto l (λ k. getD c k 0) (λ k. 0))
+
+unfoldable pub trimmed : Plan → Plan
+unfolding trim
+trimmed p = planOf (p .modules) (p .links) (trim (p .links) (p .lower)) (trim (p .links) (p .higher)) (trim (p .links) (p .near)) (trim (p .links) (p .far))

@@ -1,0 +1,43 @@
+-- Integers and their bytes determine each other.
+use Prim.Native.Nat.{ℕ, zero, suc, _+_, _*_, _/_, _%_, _≤_, _<_}
+use native.Mathlib.Omega.{arith}
+use native.Mathlib.Nat.{not-suc-le-zero}
+use mathlib.Core.Path.{_≡_, refl, sym, ap, ap₂, subst, _∙_}
+use mathlib.Core.List.{List, [], _∷_, _++_}
+use lib.ListN.{length, getD}
+use Rattle.base.specs.Pool.{All, nil, con}
+use Rattle.base.specs.Table.{tabulate, tabulate-ext}
+use Rattle.int16.specs.Int16.{at16, bytes16}
+use Rattle.int16.specs.Laws.{joined, high-byte, low-byte}
+use Rattle.planfile.specs.Layout.{bytesOf, word}
+
+-- bytes, as a lent slice of them holds
+abbrev pub Bytes : List ℕ → Type 0
+Bytes s = All (λ b. b < 256) s
+
+-- the next integer, two bytes on
+word-next : (b x y : ℕ) (s : List ℕ) (i : ℕ) → word (b ∷ x ∷ y ∷ s) (suc i) ≡ word (y ∷ s) i
+word-next b x y s i = ap (at16 (b ∷ x ∷ y ∷ s)) (let e : 1 + 2 * suc i ≡ suc (suc (1 + 2 * i)) = omega arith in e)
+    ∙ ap (λ n. getD (y ∷ s) (1 + 2 * i) 0 * 256 + getD (b ∷ x ∷ y ∷ s) n 0) (let e : suc (suc (1 + 2 * i)) + 1 ≡ suc (suc (1 + 2 * i + 1)) = omega arith in e)
+
+-- integers, from their bytes
+pub word-of : (b : ℕ) (xs : List ℕ) (i : ℕ) → i < length xs → word (b ∷ bytesOf xs) i ≡ getD xs i 0
+unfolding bytesOf
+word-of b [] i l = absurd (not-suc-le-zero l)
+word-of b (x ∷ xs) zero l = joined x
+word-of b (x ∷ xs) (suc i) l = word-next b (x / 256) (x % 256) (bytesOf xs) i ∙ word-of (x % 256) xs i (omega arith)
+
+-- bytes, from their integers
+pub bytes-words : (b : ℕ) (s : List ℕ) (n : ℕ) → length s ≡ 2 * n → Bytes s → bytesOf (tabulate n (word (b ∷ s))) ≡ s
+unfolding bytesOf tabulate
+bytes-words b [] zero e h = refl
+bytes-words b (x ∷ s) zero e h = absurd (omega arith)
+bytes-words b [] (suc n) e h = absurd (omega arith)
+bytes-words b (x ∷ []) (suc n) e h = absurd (omega arith)
+bytes-words b (x ∷ y ∷ s) (suc n) e (con p (con q h)) =
+    rw (high-byte x y q, low-byte x y q, tabulate-ext n (λ i. word (b ∷ x ∷ y ∷ s) (suc i)) (word (y ∷ s)) (λ i l. word-next b x y s i), bytes-words y s n (omega arith) h)
+
+pub bytes-of : (xs : List ℕ) → All (λ x. x < 65536) xs → Bytes (bytesOf xs)
+unfolding bytesOf
+bytes-of [] nil = nil
+bytes-of (x ∷ xs) (con l h) = con {x = x / 256} (omega arith) (con {x = x % 256} (omega arith) (bytes-of xs h))
