@@ -3,10 +3,8 @@ use Prim.Native.Nat.{ℕ, suc, _+_, _^_, _≤_, _<_}
 use mathlib.Core.Path.{_≡_}
 use mathlib.Core.Logic.{_≢_, _⊎_}
 use mathlib.Core.List.{List}
-use lib.Dec.{eqb}
-use Rattle.base.specs.Cond.{bit}
 use Rattle.base.specs.Pool.{sumL}
-use Rattle.base.specs.Sum.{sum}
+use Rattle.graph.specs.Size.{size}
 use Rattle.message.specs.Msg.{Msg, none, initiate, report}
 use Rattle.protocol.specs.Plan.{Plan, Ends, key, rank}
 use Rattle.protocol.specs.State.{State}
@@ -41,9 +39,9 @@ Rooting dk dn fr x = (dk (fr x) ≡ 1) × (dn (fr x) ≡ x)
 abbrev pub Awaits : (ℕ → ℕ) → ℕ → ℕ → ℕ → Type 0
 Awaits te ot u k = (te u ≡ k) × (ot ≢ suc u)
 
--- the nodes of label a
+-- the number of nodes of label a
 abbrev pub members : Plan → (ℕ → ℕ) → ℕ → ℕ
-members p fr a = sum p.N (λ w. bit (eqb (fr w) a))
+members p fr a = size p.N fr a
 
 -- ---- over the state
 

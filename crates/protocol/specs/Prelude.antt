@@ -15,6 +15,8 @@ pub use Rattle.base.specs.Search.{least, Least, best, strong}
 pub use Rattle.graph.specs.Graph.{Graph, Joins, up, down, Way, stop, go}
 pub use Rattle.graph.specs.Ways.{joins-lt, flip, ends-two, ends-same, join, hop, through, wider}
 pub use Rattle.graph.specs.Cut.{cut-rank}
+pub use Rattle.graph.specs.Size.{size-mono, size-both, level-merge}
+unfoldable pub use Rattle.graph.specs.Size.{size}
 pub use Rattle.message.specs.Msg.{Msg, none, connect, initiate, test, accept, reject, report, change}
 pub use Rattle.protocol.specs.Plan.{Plan, Ends, Tree, rank, key-none, key-some, key-edge, rank-lt, rank-inj, edge-some, ends-irr, ends-key, ends-rank}
 unfoldable pub use Rattle.protocol.specs.Plan.{key}

@@ -4,10 +4,9 @@ use native.Mathlib.Omega.{arith}
 use mathlib.Core.Path.{_≡_, refl, sym, ap, subst, _∙_}
 use mathlib.Core.Logic.{_≢_, _⊎_, inl, inr}
 use mathlib.Core.List.{List, []}
-use lib.Dec.{eqb}
-use Rattle.base.specs.Cond.{bit, eqb-same}
 use Rattle.base.specs.Pool.{nil}
-use Rattle.base.specs.Sum.{sum, sum-zero, le-sum}
+use Rattle.base.specs.Sum.{sum-zero}
+use Rattle.graph.specs.Size.{size-start}
 use Rattle.graph.specs.Ways.{here}
 use Rattle.message.specs.Msg.{none}
 use Rattle.protocol.specs.Plan.{Plan, edge-some}
@@ -15,16 +14,12 @@ use Rattle.protocol.specs.State.{setup}
 use Rattle.protocol.specs.Chan.{in-nil, bef-nil}
 use Rattle.protocol.specs.Inv.{Inv}
 
--- each node is one of its own label
-alone : (p : Plan) (v : ℕ) → v < p.N → 2 ^ 0 ≤ sum p.N (λ w. bit (eqb w v))
-alone p v l = omega (arith, le-sum p.N v (λ w. bit (eqb w v)) l, ap bit (eqb-same v))
-
 pub inv-setup : (p : Plan) → Inv p setup
 inv-setup p = record {
   W0 = record { st-le = λ v. zero-le; halt-le = λ v. zero-le; due-le = λ v. zero-le; dk-le = λ a. zero-le; mark-le = λ v k. zero-le };
   W1 = record { w1w = λ v n. absurd (n refl); w1e = λ v n. absurd (n refl) };
   G2 = record { g2 = λ v. zero-le; g2i = λ v h. absurd (omega (arith, h .0)); g3z = λ v z. refl; g3r = λ v n. absurd (n refl); g3 = λ v x y n e. absurd (n refl) };
-  G4 = record { g4 = alone p; g4s = λ v w z e. e };
+  G4 = record { g4 = λ v l. omega (arith, size-start p.N v l); g4s = λ v w z e. e };
   G5 = record { g5r = λ v h. absurd (omega arith); g5 = λ v x y h e. absurd (omega arith) };
   G6 = record { g6 = λ v z. record { g6g = refl; g6d = refl; g6u = refl; g6w = refl; g6e = refl }; g6m = λ v k z. refl; u1a = λ k v u e n. absurd (n refl); g7 = λ k v u e n z. absurd (n refl); g7n = λ v n z f. absurd (n refl) };
   M1 = record { own = λ v k n. absurd (n refl); m1 = λ k v u e h. absurd (omega arith); m3 = λ k v u e h. absurd (omega (arith, h .0)); m4 = λ u v e. here e; m5 = λ k v u e h. absurd (omega arith) };
