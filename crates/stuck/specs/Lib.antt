@@ -1,0 +1,4 @@
+pub mod Informed
+pub mod Waiting
+pub mod Finished
+pub mod Rest
