@@ -12,6 +12,7 @@ use Rattle.word.specs.Word.{packed, headerIn, carriedIn}
 use Rattle.plan.specs.declared.Plan.{Plan}
 use Rattle.node.specs.declared.Node.{Node}
 use Rattle.node.specs.Work.{Work, Send}
+pub use Rattle.node.specs.Work.{values}
 use Rattle.search.specs.Own.{marksIn}
 use Rattle.field.specs.Edges.{over, from, linkOf}
 
@@ -21,12 +22,8 @@ pub record State : Type 0 where
   pub words : List ℕ
   pub sent : ℕ
 
--- "A module has status, level, identity, best weight, best edge, test edge, in-branch, find-count, halted"
-abbrev pub values : Node → List ℕ
-values n =
-    n .status ∷ n .level ∷ n .identity ∷ n .weight ∷ n .best ∷ n .test ∷ n .branch ∷ n .count ∷ n .halted ∷ []
-
--- the node whose nine values stand from cell c on
+-- "A module has status, level, identity, best weight, best edge, test edge, in-branch, find-count, halted": the node whose nine values stand
+-- from cell c on
 abbrev pub nodeIn : List ℕ → ℕ → Node
 nodeIn cells c =
     record {

@@ -1,0 +1,108 @@
+-- Steps given alone, computed: document 01's sleeper that serves a Test, each kind of step taken, each refusal.
+use Prim.Native.Nat.{ℕ, zero, suc}
+use mathlib.Core.Path.{_≡_, refl}
+use mathlib.Core.List.{List, [], _∷_, _++_, map}
+use Rattle.base.specs.None.{none}
+use Rattle.base.specs.Loop.{After}
+use Rattle.word.specs.Word.{packed}
+use Rattle.plan.specs.declared.Plan.{Plan}
+use Rattle.field.specs.declared.Field.{Field}
+use Rattle.field.specs.State.{State}
+use Rattle.field.specs.Held.{Held, stateOf, stepAlone}
+use Rattle.base.specs.Cond as base1
+use Rattle.base.specs.Keep as base2
+use Rattle.base.specs.Log as base3
+use Rattle.base.specs.Test as base5
+use Rattle.graph.specs.Decide as graph1
+use Rattle.message.specs.Header as message1
+use Rattle.message.specs.Listed as message2
+use Rattle.plan.specs.Refusal as plan1
+use Rattle.plan.specs.Weights as plan2
+use Rattle.node.specs.Rules as node1
+use Rattle.node.specs.Work as node2
+use Rattle.search.specs.Own as search1
+use Rattle.field.specs.State as field1
+use Rattle.field.specs.Step as field2
+use Rattle.field.specs.Valid as field3
+use Rattle.field.specs.Held as field4
+
+-- 2 modules and 1 link with readings 3 and 4: M is 12
+abbrev two : Plan
+two = record { modules = 2; links = 1; lower = 0 ∷ []; higher = 1 ∷ []; near = 3 ∷ []; far = 4 ∷ [] }
+
+-- the words that can wait here
+abbrev aConnect : ℕ → ℕ → ℕ
+aConnect link handed = packed 1 none link handed
+
+abbrev aTest : ℕ → ℕ → ℕ
+aTest link handed = packed 11 0 link handed
+
+abbrev anAccept : ℕ → ℕ → ℕ
+anAccept link handed = packed 4 none link handed
+
+-- modules: asleep; woken, its Connect sent; of level 1, searching
+abbrev asleep : List ℕ
+asleep = 0 ∷ 0 ∷ none ∷ none ∷ none ∷ none ∷ none ∷ 0 ∷ 0 ∷ []
+
+abbrev woken : List ℕ
+woken = 2 ∷ 0 ∷ none ∷ none ∷ none ∷ none ∷ none ∷ 0 ∷ 0 ∷ []
+
+abbrev searching : List ℕ
+searching = 1 ∷ 1 ∷ 0 ∷ none ∷ none ∷ 0 ∷ none ∷ 0 ∷ 0 ∷ []
+
+-- modules 0 and 1, the two marks, sent, the waiting words
+abbrev held : List ℕ → List ℕ → ℕ → ℕ → ℕ → List ℕ → Held
+held a b m n sent words =
+    record { field = record { plan = two; cells = a ++ b; marks = m ∷ n ∷ []; sent = sent }; words = field4.layout 12 words }
+
+pub record Row : Type 0 where
+  pub start : Held
+  pub kind : ℕ
+  pub number : ℕ
+  pub want : After Held
+
+abbrev row : Held → ℕ → ℕ → ℕ → Held → Row
+row h kind number answer left = record { start = h; kind = kind; number = number; want = record { answer = answer; state = left } }
+
+-- refused: what it was given is left
+abbrev no : ℕ → Held → ℕ → ℕ → Row
+no answer h kind number = row h kind number answer h
+
+abbrev table : List Row
+table =
+    -- "Serving a Test of level 1 at a sleeper: it wakes, sends Connect, the Test goes to the end."
+    row (held searching asleep 0 0 1 (aTest 0 1 ∷ [])) 3 1 0 (held searching woken 0 1 2 (aConnect 1 0 ∷ aTest 0 1 ∷ []))
+    -- a Test above the level of one that is awake goes to the end, and nothing else changes
+    ∷ row (held searching woken 0 1 3 (aTest 0 1 ∷ aConnect 1 0 ∷ [])) 3 1 0 (held searching woken 0 1 3 (aConnect 1 0 ∷ aTest 0 1 ∷ []))
+    -- wake; hand over the first of its link, behind what waits; a service takes its word out, here with a Report of the edge
+    ∷ row (held asleep asleep 0 0 0 []) 1 0 0 (held woken asleep 1 0 1 (aConnect 0 0 ∷ []))
+    ∷ row (held woken woken 1 1 2 (aConnect 0 0 ∷ aConnect 1 0 ∷ [])) 2 0 0 (held woken woken 1 1 2 (aConnect 1 0 ∷ aConnect 0 1 ∷ []))
+    ∷ row (held (1 ∷ 1 ∷ 0 ∷ none ∷ none ∷ 0 ∷ 0 ∷ 0 ∷ 0 ∷ []) woken 0 0 3 (anAccept 1 1 ∷ aConnect 1 0 ∷ [])) 3 0 0
+    (held (2 ∷ 1 ∷ 0 ∷ 0 ∷ 0 ∷ none ∷ 0 ∷ 0 ∷ 0 ∷ []) woken 0 0 4 (aConnect 1 0 ∷ packed 6 0 0 0 ∷ []))
+    -- refusals, in their order
+    ∷ no 31 (held (3 ∷ 0 ∷ none ∷ none ∷ none ∷ none ∷ none ∷ 0 ∷ 0 ∷ []) asleep 0 0 0 []) 9 0
+    ∷ no 31 (held asleep asleep 0 3 0 []) 1 0
+    ∷ no 31 (held asleep asleep 0 0 0 (aConnect 0 0 ∷ [])) 1 0
+    ∷ no 31 (held asleep asleep 0 0 1 (aConnect 2 0 ∷ [])) 1 0
+    ∷ no 31 (held asleep asleep 0 0 2 (aConnect 0 0 ∷ 0 ∷ aConnect 0 0 ∷ [])) 1 0
+    ∷ no 31 (held asleep asleep 0 0 13 []) 1 0
+    ∷ no 54 (held asleep asleep 0 0 0 []) 0 7
+    ∷ no 41 (held asleep asleep 0 0 0 []) 1 2
+    ∷ no 41 (held asleep asleep 0 0 0 []) 3 2
+    ∷ no 42 (held asleep asleep 0 0 0 []) 2 2
+    ∷ no 43 (held woken asleep 1 0 1 []) 1 0
+    ∷ no 44 (held woken asleep 1 0 1 (aConnect 0 1 ∷ [])) 2 0
+    ∷ no 45 (held woken asleep 1 0 1 (aConnect 0 0 ∷ [])) 3 1
+    ∷ no 32 (held asleep asleep 0 0 1 (anAccept 0 1 ∷ [])) 3 1
+    ∷ no 33 (held asleep asleep 0 0 12 []) 1 0
+    ∷ []
+
+abbrev gots : List Row → List (After Held)
+gots l = map (λ r. stepAlone (r .kind) (r .number) (r .start)) l
+
+abbrev wants : List Row → List (After Held)
+wants l = map (λ r. r .want) l
+
+pub samples : gots table ≡ wants table
+unfolding base1.upd base2.place base3.log2-to base3.log2 base5.every graph1.label graph1.joined graph1.connected message1.partsOf message1.msgOf message2.bare message2.listedAs message2.listed plan1.ascends plan1.inOrder plan1.linkVerdict plan1.linksRefusal plan1.planRefusal plan2.costIn plan2.earlierIn plan2.beforeIn node1.wakeOn node1.awake node1.doReport node1.testOn node1.changeRoot node1.countUp node1.absorb node1.coreEnd node1.onConnect node1.seek node1.onInitiate node1.onTest node1.childReport node1.coreReport node1.onReport node1.unlessAsleep node1.respondTo node2.before node2.earliest node2.number node2.onEach search1.isOwn search1.endIn search1.marksIn search1.marked search1.looked search1.counted field1.newMarks field2.settle field2.wake field2.hand field2.backOf field2.serve field2.step field3.allOf field3.waitingIn field3.wordFits field3.nodeFits field3.fits field4.valid field4.freshCells field4.setUp field4.stepAlone
+samples = refl
