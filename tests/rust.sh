@@ -8,3 +8,21 @@ rust() { "$RUSTC" -O --edition 2021 "$@"; }
 
 # The oracle as a library, for the programs that compare with it.
 oracle() { rust --crate-type rlib --crate-name oracle tests/oracle/lib.rs -o "$built/liboracle.rlib"; }
+
+# The archive of an exporting crate. `rt staticlib` proves that thin crate again, not what it builds on; not even that
+# where the archive is newer than the sources and what was proved.
+archive() {
+    lib=target/staticlib/lib$1.a
+    if [ ! -f "$lib" ] || [ -n "$(find crates target/rlib -newer "$lib" | head -n 1)" ]; then
+        rt staticlib "$1" >"$built/$1.log" 2>&1 || { tail -n 20 "$built/$1.log"; exit 1; }
+    fi
+}
+
+# A program over the oracle and the two archives: its name and its source.
+linked() {
+    archive console
+    archive harness
+    oracle
+    rust --crate-name "$1" --extern oracle="$built/liboracle.rlib" "$2" -o "$built/$1" \
+        -L native=target/staticlib -l static=harness -l static=console
+}
