@@ -42,7 +42,7 @@ pub record Counted (p : Plan) (x : State) (l : List Taken) (y : State) : Type 0 
 
 module _ (p : Plan) where
   pub counted-none : (x : State) → Counted p x [] x
-  counted-none x = record { sent = omega arith; waiting = refl }
+  counted-none x = record { sent = omega arith; waiting = omega arith }
 
   pub counted-more : (x y z : State) (l m : List Taken) → Counted p x l y → Counted p y m z → Counted p x (l ++ m) z
   counted-more x y z l m a b = record {
