@@ -1,15 +1,15 @@
 -- Connect from u at v over the core k, of v's own level: v answers by Initiate of the next level, with k as identity, Find.
-use Rattle.protocol.specs.Prelude.{ℕ, zero, suc, _+_, _≤_, _<_, arith, _≡_, refl, sym, ap, subst, _∙_, _≢_, _⊎_, inl, inr, ⊎-elim}
-use Rattle.protocol.specs.Prelude.{List, [], _∷_, _++_, upd2, by-eq, All, sumL}
-use Rattle.protocol.specs.Prelude.{Msg, none, connect, initiate, test, accept, reject, report, change}
-use Rattle.protocol.specs.Prelude.{Plan, Ends, joins-lt, flip, ends-same, ends-two, State, Idle, set-ch, send, pop}
-use Rattle.protocol.specs.Prelude.{isC, isI, isCI, isT, isA, isR, isK, Only, arg1, arg2, arg3, In, Bef}
-use Rattle.protocol.specs.Prelude.{GL, GC, DK, Inf, Jn, Half, Child, CoreEnds, Spent, Inv, mark-awake, in-sum}
+use Rattle.protocol.specs.Prelude.{ℕ, _+_, _≤_, _<_, arith, _≡_, refl, sym, ap, subst, _∙_, _≢_, _⊎_, inl, inr, ⊎-elim}
+use Rattle.protocol.specs.Prelude.{List, _∷_, by-eq, sumL}
+use Rattle.protocol.specs.Prelude.{Msg, connect, initiate, report}
+use Rattle.protocol.specs.Prelude.{Plan, Ends, joins-lt, flip, ends-same, ends-two, State, Idle, send, pop}
+use Rattle.protocol.specs.Prelude.{isC, isI, isT, isA, isR, isK, In}
+use Rattle.protocol.specs.Prelude.{GL, GC, Inf, Jn, Half, Inv, mark-awake, in-sum}
 use Rattle.protocol.specs.Prelude.{connects-same, answers-same, owing-same, bests-same}
 use Rattle.protocol.specs.Decisions.{HalfOk}
 use Rattle.protocol.specs.Search.{LowOk}
 use Rattle.protocol.specs.Traffic.{InitOk, Tokens, Initiates, Telling, Testing, Reports}
-use Rattle.steps_tell.specs.Laws.{six, reports-far}
+use Rattle.steps_tell.specs.Laws.{beyond, six, init-eq, reports-far}
 use Rattle.steps_tell.specs.Reply as Y
 
 module _ {p : Plan} {s : State} (i : Inv p s) {u v k l : ℕ} {r : List Msg} (idle : Idle s) (ends : Ends p k u v) (awake : s.st v ≢ 0) (q : s.ch u k ≡ connect l ∷ r)
@@ -126,7 +126,7 @@ module _ {p : Plan} {s : State} (i : Inv p s) {u v k l : ℕ} {r : List Msg} (id
   I1′ : Initiates p S′
   I1′ = record {
     i1 = λ j w x a f b e h. ⊎-elim (λ o. i.I1.i1 j w x a f b e o)
-        (λ t. six (λ n m y. InitOk p s.lev s.fr s.gl s.gc s.ub s.due s.mark n m y) (t .1) (t .0) (Y.back i ends q (s.lev v + 1) k 1 j w x e (t .0) (t .1)) (t .2) fresh)
+        (λ t. six (λ n m y. InitOk p s.lev s.fr s.gl s.gc s.ub s.due s.mark n m y) (t .1) (t .0) (beyond (flip ends) e (t .0) (t .1)) (t .2) fresh)
         (Y.was i ends q (s.lev v + 1) k 1 w j h);
   }
 
@@ -143,11 +143,11 @@ module _ {p : Plan} {s : State} (i : Inv p s) {u v k l : ℕ} {r : List Msg} (id
     t4n = λ j x y e b g n.
         let d = Y.elsewhere i ends q (s.lev v + 1) k 1 x j n in
         let t = i.T4.t4n j x y e b g (omega (arith, Y.connects i ends q (s.lev v + 1) k 1 x j d)) in
-        (t .0, λ o. ⊎-elim (t .1) (λ h. ⊎-elim (λ a. a (Y.back i ends q (s.lev v + 1) k 1 j y x (flip e) (h .0) (h .1))) (λ a. a (h .1)) d) (Y.was i ends q (s.lev v + 1) k 1 y j o));
+        (t .0, λ o. ⊎-elim (t .1) (λ h. ⊎-elim (λ a. a (beyond (flip ends) (flip e) (h .0) (h .1))) (λ a. a (h .1)) d) (Y.was i ends q (s.lev v + 1) k 1 y j o));
   }
     where
       told : (x j : ℕ) → x ≡ u → j ≡ k → initiate (GL s x) j 1 ≡ initiate (s.lev v + 1) k 1
-      told x j a z = ap (λ n. initiate (GL s n) j 1) a ∙ ap (λ n. initiate (GL s u) n 1) z ∙ ap (λ n. initiate n k 1) (sym next)
+      told x j a z = init-eq (ap (λ n. GL s n) a ∙ sym next) z refl
 
       stays : (j x y : ℕ) → Ends p j x y → Jn s j x y → GC s x ≡ j → (u ≢ x) ⊎ (k ≢ j) → (1 ≤ sumL isC (c′ x j)) ⊎ (In (initiate (GL s x) j 1) (c′ y j) ⊎ Inf s x)
       stays j x y e b g n = ⊎-elim (λ t. inl (omega (arith, Y.connects i ends q (s.lev v + 1) k 1 x j n)))

@@ -1,18 +1,28 @@
 -- Laws for the steps that send Initiates.
-use Rattle.protocol.specs.Prelude.{ℕ, _≡_, sym, ap, subst, _∙_, _⊎_, inl, inr, ⊎-elim, List, Msg, report, initiate, sumL}
-use Rattle.protocol.specs.Prelude.{Plan, Ends, State, set-ch, isCI, arg1, arg2, arg3, In, Bef, GL, Child, CoreEnds, Spent}
+use Rattle.protocol.specs.Prelude.{ℕ, _<_, arith, up, down, _≡_, sym, ap, subst, _∙_, inl, inr, ⊎-elim, List, Msg, report, initiate, sumL}
+use Rattle.protocol.specs.Prelude.{Plan, Ends, Graph, Joins, ends-same, State, set-ch, isCI, arg1, arg2, arg3, In, Bef, GL, Child, CoreEnds, Spent}
 use Rattle.protocol.specs.Traffic.{Reports}
 
--- what holds of an Initiate (a, f, x) from v to u over k holds of equals
+-- an end of an edge is a node
+pub ends-node : (p : Plan) {k u v : ℕ} → Ends p k u v → u < p.N
+ends-node p {k} (up l e f) = omega (arith, p.ends-lt k l .0)
+ends-node p {k} (down l e f) = omega (arith, p.ends-lt k l .1)
+
+-- the other ends of an edge, met twice
+pub beyond : {g : Graph} {k j u w v z : ℕ} → Joins g k u v → Joins g j w z → u ≡ w → k ≡ j → v ≡ z
+beyond {g} {j} {u} {z} a b e f = ends-same a (subst (λ d. Joins g d u z) (sym f) (subst (λ d. Joins g j d z) (sym e) b))
+
+pub init-eq : {a b f c x d : ℕ} → a ≡ b → f ≡ c → x ≡ d → initiate a f x ≡ initiate b c d
+init-eq {a} {b} {f} {c} {x} {d} p q r = ap (λ n. initiate n f x) p ∙ ap (λ n. initiate b n x) q ∙ ap (λ n. initiate b c n) r
+
+-- what holds of an edge k from v to u, and of an Initiate (a, f, x) on it, holds of equals
+pub three {κ} : (P : ℕ → ℕ → ℕ → Type κ) {k j v w u z : ℕ} → k ≡ j → v ≡ w → u ≡ z → P k v u → P j w z
+three P {k} {j} {v} {w} {u} {z} o y n h = subst (λ m. P j w m) n (subst (λ m. P j m u) y (subst (λ m. P m v u) o h))
+
 pub six {κ} : (P : ℕ → ℕ → ℕ → ℕ → ℕ → ℕ → Type κ) {k j v w u z a b f c x d : ℕ} → k ≡ j → v ≡ w → u ≡ z → initiate b c d ≡ initiate a f x
     → P k v u a f x → P j w z b c d
 six P {k} {j} {v} {w} {u} {z} {a} {b} {f} {c} {x} {d} o y n e h =
-    subst (λ m. P j w z b c m) (sym (ap arg3 e))
-    (subst (λ m. P j w z b m x) (sym (ap arg2 e))
-    (subst (λ m. P j w z m f x) (sym (ap arg1 e))
-    (subst (λ m. P j w m a f x) n
-    (subst (λ m. P j m u a f x) y
-    (subst (λ m. P m v u a f x) o h)))))
+    three (λ m g e. P j w z m g e) (sym (ap arg1 e)) (sym (ap arg2 e)) (sym (ap arg3 e)) (three (λ m g e. P m g e a f x) o y n h)
 
 -- channels c′ of which those that hold a Report are as they were: the clauses on Reports stay
 module _ (p : Plan) (s : State) (c′ : ℕ → ℕ → List Msg) where

@@ -1,13 +1,14 @@
 -- The Connect at the head of the channel from u over k is taken, and v answers it by Initiate (a, f, x) over k: the channels.
-use Rattle.protocol.specs.Prelude.{ℕ, zero, suc, _+_, _≤_, _<_, arith, _≡_, refl, sym, ap, subst, _∙_, _≢_, _⊎_, inl, inr, ⊎-elim}
-use Rattle.protocol.specs.Prelude.{List, [], _∷_, _++_, upd2, upd2-elim, by-eq, All, nil, con, sumL}
-use Rattle.protocol.specs.Prelude.{Msg, none, connect, initiate, test, accept, reject, report, change}
-use Rattle.protocol.specs.Prelude.{Plan, Ends, flip, ends-same, ends-irr, State, set-ch}
-use Rattle.protocol.specs.Prelude.{isC, isI, isCI, isT, isA, isR, isK, Only, Rouse, After, Fits, top, top-cons, top-app, arg1, arg2, arg3, kinds, none-in}
-use Rattle.protocol.specs.Prelude.{In, Bef, in-nil, at2, else-same, here-new, head-at, pop-head, pop-in, in-pop, pop-twice, pop-bef, bef-pop, pop-sum, pop-all}
-use Rattle.protocol.specs.Prelude.{snoc, snoc-elim, snoc-in, snoc-old, in-snoc2, in-new, snoc-bef, snoc-sum, snoc-else, snoc-all}
+use Rattle.protocol.specs.Prelude.{ℕ, _≤_, arith, _≡_, refl, sym, ap, subst, _∙_, _≢_, _⊎_, inl, inr, ⊎-elim}
+use Rattle.protocol.specs.Prelude.{List, [], _∷_, upd2, upd2-elim, by-eq, All, sumL}
+use Rattle.protocol.specs.Prelude.{Msg, none, connect, initiate}
+use Rattle.protocol.specs.Prelude.{Plan, Ends, flip, ends-irr, State, set-ch}
+use Rattle.protocol.specs.Prelude.{isC, Fits, top, top-app}
+use Rattle.protocol.specs.Prelude.{In, Bef, in-nil, at2, else-same, here-new, head-at, pop-head, pop-in, in-pop, pop-bef, pop-sum, pop-all}
+use Rattle.protocol.specs.Prelude.{snoc, snoc-elim, snoc-in, in-snoc2, in-new, snoc-bef, snoc-sum, snoc-else, snoc-all}
 use Rattle.protocol.specs.Prelude.{Inv, rest-none, fits-initiate}
 use Rattle.protocol.specs.Traffic.{Hush, Ordered}
+use Rattle.steps_tell.specs.Laws.{beyond}
 
 module _ {p : Plan} {s : State} (i : Inv p s) {u v k l : ℕ} {r : List Msg} (ends : Ends p k u v) (q : s.ch u k ≡ connect l ∷ r) (a f x : ℕ) where
   abbrev reply : Msg
@@ -24,10 +25,6 @@ module _ {p : Plan} {s : State} (i : Inv p s) {u v k l : ℕ} {r : List Msg} (en
 
   pub calling : In (connect l) (s.ch u k)
   calling = pop-head s.ch u k q
-
-  -- the receiver of what v sends over k is u
-  pub back : (j w z : ℕ) → Ends p j w z → v ≡ w → k ≡ j → u ≡ z
-  back j w z e b c = ends-same (flip ends) (subst (λ d. Ends p d v z) (sym c) (subst (λ d. Ends p j d z) (sym b) e))
 
   -- what is there now was there, or is the Initiate
   pub was : {y : Msg} (w j : ℕ) → In y (answered w j) → In y (s.ch w j) ⊎ ((v ≡ w) × (k ≡ j) × (y ≡ reply))
@@ -83,7 +80,7 @@ module _ {p : Plan} {s : State} (i : Inv p s) {u v k l : ℕ} {r : List Msg} (en
   hush-reply m n = record {
     g6o = λ j w y e z. off w j (silent w j (i.G6c.g6o j w y e z)) (inl (λ d. m (ap s.st d ∙ z))) ∙ i.G6c.g6o j w y e z;
     g6i = λ j w y e z. every w j
-        (λ b c. absurd (n (ap s.st (back j w y e b c) ∙ z))) (i.G6c.g6i j w y e z);
+        (λ b c. absurd (n (ap s.st (beyond (flip ends) e b c) ∙ z))) (i.G6c.g6i j w y e z);
   }
     where
       silent : (w j : ℕ) → s.ch w j ≡ [] → (u ≢ w) ⊎ (k ≢ j)
