@@ -1,0 +1,3 @@
+pub mod Words
+pub mod Ends
+pub mod Outcomes

@@ -1,0 +1,60 @@
+use Prim.Native.Nat.{_*_, _≤_}
+use native.Mathlib.Omega.{arith}
+use mathlib.Core.Path.{_≡_, refl, sym, _∙_}
+use lib.ListN.{getD}
+use lib.Dec.{leb}
+use borrow.Author.Tests.{le-leb, lt-leb}
+use borrow.Author.Needs.{needs}
+use Rattle.plan.proofs.Laws.{every-goes-on, every-stops, every-of-none}
+use Rattle.base.specs.Test.{every}
+use Rattle.fieldcheck.proofs.marks_fit.Statement.{statement}
+use Rattle.fieldcheck.proofs.marks_fit.Tie as tie
+
+abbrev Inv-loop : tie.InvT-loop
+Inv-loop links marks d₀ d = (d ≤ 2 * links) × (every (2 * links) (λ j. leb (getD marks j 0) 2) ≡ every d (λ j. leb (getD marks j 0) 2))
+
+abbrev μ-loop : tie.MeasureT-loop
+μ-loop links marks d₀ d = d
+
+mul-d : tie.Need-mul-d Inv-loop μ-loop
+mul-d c = search needs
+
+loop-holds : tie.Need-loop-holds Inv-loop μ-loop
+loop-holds c = (search needs, refl)
+
+sub-d : tie.Need-sub-d Inv-loop μ-loop
+sub-d c = search needs
+
+element-copy-out-if1 : tie.Need-element-copy-out-if1 Inv-loop μ-loop
+element-copy-out-if1 c = search needs
+
+returns : tie.Need-returns Inv-loop μ-loop
+returns c = λ cells words sent.
+    let e = c .before .before .before in
+    sym (e .loop .inv .1 ∙ every-stops _ _ (c .before .before .loop-test .taken) (lt-leb _ _ (c .if1 .taken)))
+
+loop-less : tie.Need-loop-less Inv-loop μ-loop
+loop-less c = search needs
+
+loop-again : tie.Need-loop-again Inv-loop μ-loop
+loop-again c =
+    let e = c .before .before .before in
+    (omega arith, e .loop .inv .1 ∙ every-goes-on _ _ (c .before .before .loop-test .taken) (le-leb _ _ (c .if1 .left)))
+
+returns-2 : tie.Need-returns-2 Inv-loop μ-loop
+returns-2 c = λ cells words sent. sym (c .before .loop .inv .1 ∙ every-of-none _ _ (c .loop-test .left))
+
+pub marks-fit-spec : {M : Type 1} → statement M
+marks-fit-spec =
+    tie.close
+    (tie.spec
+    Inv-loop
+    μ-loop
+    mul-d
+    loop-holds
+    sub-d
+    element-copy-out-if1
+    returns
+    loop-less
+    loop-again
+    returns-2)

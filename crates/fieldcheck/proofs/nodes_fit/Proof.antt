@@ -1,0 +1,86 @@
+use Prim.Native.Nat.{ℕ, _-_, _*_, _≤_, _<_}
+use native.Mathlib.Omega.{arith}
+use mathlib.Core.Path.{ap, _≡_, refl, sym, _∙_}
+use mathlib.Core.List.{List}
+use lib.ListN.{getD}
+use borrow.Author.Tests.{not-true, not-false}
+use borrow.Author.Needs.{needs}
+use Rattle.field.specs.Valid.{nodeFits}
+use Rattle.field.specs.State.{nodeIn}
+use Rattle.plan.proofs.Laws.{every-goes-on, every-stops, every-of-none}
+use Rattle.plan.specs.Links.{planOf}
+use Rattle.search.specs.Own.{ownIn}
+use Rattle.node.specs.Work.{degree}
+use Rattle.base.specs.Test.{every}
+use Rattle.fieldcheck.proofs.nodes_fit.Statement.{statement}
+use Rattle.fieldcheck.proofs.nodes_fit.Tie as tie
+
+abbrev Inv-loop : tie.InvT-loop
+Inv-loop modules links lower higher ends cells v₀ v = (v ≤ modules) × ((near far : List ℕ) → ((u : ℕ) → u < 192 → getD ends u 0 ≡ degree (ownIn links lower higher near far u))
+    → every modules (λ u. nodeFits (planOf modules links lower higher near far) u (nodeIn cells (u * 9))) ≡ every v (λ u. nodeFits (planOf modules links lower higher near far) u (nodeIn cells (u * 9))))
+
+abbrev μ-loop : tie.MeasureT-loop
+μ-loop modules links lower higher ends cells v₀ v = v
+
+loop-holds : tie.Need-loop-holds Inv-loop μ-loop
+loop-holds c = (search needs, λ near far d. refl)
+
+sub-v : tie.Need-sub-v Inv-loop μ-loop
+sub-v c = search needs
+
+load-requires : tie.Need-load-requires Inv-loop μ-loop
+load-requires c κs = search needs
+
+cast-node-fits : tie.Need-cast-node-fits Inv-loop μ-loop
+cast-node-fits c = search needs
+
+mul-node-fits : tie.Need-mul-node-fits Inv-loop μ-loop
+mul-node-fits c = search needs
+
+element-copy-out-node-fits : tie.Need-element-copy-out-node-fits Inv-loop μ-loop
+element-copy-out-node-fits c = search needs
+
+node-fits-requires : tie.Need-node-fits-requires Inv-loop μ-loop
+node-fits-requires c κs = search needs
+
+returns : tie.Need-returns Inv-loop μ-loop
+returns c = λ near far d.
+    let e = c .before .before .before .before in
+    let v = e .before .loop .v - 1 in
+    let s = e .before .before .args in
+    sym (e .before .loop .inv .1 near far d ∙ every-stops _ _ (e .loop-test .taken)
+    (sym (c .before .node-fits .ensures near far (d v (omega arith)) ∙ ap (nodeFits (planOf (s .modules) (s .links) (s .lower .now) (s .higher .now) near far) v) (c .before .before .before .load .ensures)) ∙ not-true _ (c .if1 .taken)))
+
+loop-less : tie.Need-loop-less Inv-loop μ-loop
+loop-less c = search needs
+
+loop-again : tie.Need-loop-again Inv-loop μ-loop
+loop-again c =
+    let e = c .before .before .before .before in
+    let v = e .before .loop .v - 1 in
+    let s = e .before .before .args in (
+      omega arith,
+      λ near far d. e .before .loop .inv .1 near far d ∙ every-goes-on _ _ (e .loop-test .taken)
+          (sym (c .before .node-fits .ensures near far (d v (omega arith)) ∙ ap (nodeFits (planOf (s .modules) (s .links) (s .lower .now) (s .higher .now) near far) v) (c .before .before .before .load .ensures)) ∙ not-false _ (c .if1 .left)),
+    )
+
+returns-2 : tie.Need-returns-2 Inv-loop μ-loop
+returns-2 c = λ near far d. sym (c .before .loop .inv .1 near far d ∙ every-of-none _ _ (c .loop-test .left))
+
+pub nodes-fit-spec : {M : Type 1} → statement M
+nodes-fit-spec =
+    tie.close
+    (tie.spec
+    Inv-loop
+    μ-loop
+    loop-holds
+    sub-v
+    load-requires
+    cast-node-fits
+    mul-node-fits
+    element-copy-out-node-fits
+    node-fits-requires
+    returns
+    loop-less
+    loop-again
+    returns-2)
