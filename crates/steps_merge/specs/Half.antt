@@ -1,6 +1,6 @@
 -- v sends Connect over k, which is no branch at its other end y: half, for waking and for procedure change-root.
-use Rattle.protocol.specs.Prelude.{ℕ, zero, suc, _+_, _≤_, _<_, arith, _≡_, refl, sym, ap, subst, _∙_, _≢_, _⊎_, inl, inr, ⊎-elim, by-eq}
-use Rattle.protocol.specs.Prelude.{upd, Msg, connect, Plan, State, halved, set-st, set-oo, Only, In, in-all, in-new, snoc-all, GL, Inv}
+use Rattle.protocol.specs.Prelude.{ℕ, arith, _≡_, refl, subst, _∙_, _≢_, inr, by-eq}
+use Rattle.protocol.specs.Prelude.{upd, connect, Plan, State, halved, set-st, set-oo, In, in-all, in-new, snoc-all, GL, Inv}
 use Rattle.steps_merge.specs.Turn.{Turn}
 use Rattle.steps_merge.specs.Move as M
 use Rattle.steps_merge.specs.Pass.{Own, inv-pass}

@@ -1,10 +1,10 @@
 -- Edge k leads from v out of its fragment, to y, and no edge that leaves the fragment is earlier.
-use Rattle.protocol.specs.Prelude.{ℕ, zero, suc, _+_, _≤_, _<_, arith, _≡_, refl, sym, ap, subst, _∙_, _≢_, _⊎_, inl, inr, ⊎-elim, by-eq}
-use Rattle.protocol.specs.Prelude.{Bool, true, false, eqb, eqb-cases, eqb-same, eqb-diff, cut-rank}
-use Rattle.protocol.specs.Prelude.{Msg, none, connect, initiate, test, accept, reject, report, change}
-use Rattle.protocol.specs.Prelude.{Plan, Ends, Tree, key, rank, flip, ends-two, ends-irr, ends-key, edge-some, State, First}
-use Rattle.protocol.specs.Prelude.{isCI, Only, fits-connect, In, Bounds, GL, DK, Inf, Jn, Inv, no-waits}
-use Rattle.steps_merge.specs.Turn.{Turn, root, root-ok}
+use Rattle.protocol.specs.Prelude.{ℕ, suc, _≤_, arith, _≡_, refl, sym, ap, subst, _∙_, _≢_, _⊎_, inr, ⊎-elim, by-eq}
+use Rattle.protocol.specs.Prelude.{true, false, eqb, eqb-cases, eqb-same, eqb-diff, cut-rank}
+use Rattle.protocol.specs.Prelude.{Msg, connect, initiate, test, accept, reject, report, change}
+use Rattle.protocol.specs.Prelude.{Plan, Ends, Tree, key, rank, flip, ends-two, ends-irr, ends-key, State, First}
+use Rattle.protocol.specs.Prelude.{isCI, Only, fits-connect, In, Bounds, GL, Inv, no-waits}
+use Rattle.steps_merge.specs.Turn.{Turn, root-ok}
 use Rattle.steps_merge.specs.Move.{Move}
 
 pub record Leave (p : Plan) (s : State) (v k y : ℕ) : Type 0 where

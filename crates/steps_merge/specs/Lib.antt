@@ -4,4 +4,8 @@ pub mod Pass
 pub mod Leave
 pub mod Half
 pub mod RootBranch
+pub mod Unite
+pub mod MergeTables
+pub mod MergeTraffic
+pub mod Merge
 pub mod WakeRoot

@@ -1,12 +1,12 @@
 -- v is Found, sends m, a Connect or a Change-root, over k to y, marks k Branch and turns its inbound edge there:
 -- what becomes of marks, channels, status and inbound edges, and the clauses that speak of nothing else.
-use Rattle.protocol.specs.Prelude.{ℕ, zero, suc, _+_, _≤_, _<_, arith, _≡_, refl, sym, ap, subst, _∙_, _≢_, _⊎_, inl, inr, ⊎-elim, by-eq}
-use Rattle.protocol.specs.Prelude.{List, [], _∷_, _++_, upd, upd-elim, upd-same, upd-other, upd2, upd2-elim, All, sumL, sumL-app, at2}
-use Rattle.protocol.specs.Prelude.{Msg, none, connect, initiate, test, accept, reject, report, change}
-use Rattle.protocol.specs.Prelude.{Plan, Ends, rank, flip, ends-same, ends-irr, edge-some, State, set-st, set-ub, set-ch, set-mark}
+use Rattle.protocol.specs.Prelude.{ℕ, suc, _+_, _≤_, _<_, arith, _≡_, refl, sym, ap, subst, _∙_, _≢_, _⊎_, inl, inr, ⊎-elim, by-eq}
+use Rattle.protocol.specs.Prelude.{List, [], _∷_, upd, upd-elim, upd-same, upd-other, upd2, upd2-elim, All, sumL, sumL-app, at2}
+use Rattle.protocol.specs.Prelude.{Msg, none, connect, test, report}
+use Rattle.protocol.specs.Prelude.{Plan, Ends, flip, ends-same, ends-irr, edge-some, Way, wider, State}
 use Rattle.protocol.specs.Prelude.{isC, isI, isCI, isT, isA, isR, Rouse, Fits, top, top-snoc}
 use Rattle.protocol.specs.Prelude.{In, Bef, snoc, snoc-elim, snoc-in, snoc-old, in-snoc2, snoc-bef, snoc-sum, snoc-else, snoc-all}
-use Rattle.protocol.specs.Prelude.{Both, GL, Inf, Jn, Waits, Inv, no-waits}
+use Rattle.protocol.specs.Prelude.{Both, Joined, GL, Jn, Waits, Inv, no-waits}
 use Rattle.protocol.specs.Fragments.{Inbounds}
 use Rattle.protocol.specs.Search.{Pending, Tests}
 use Rattle.steps_merge.specs.Turn.{Turn}
@@ -182,6 +182,17 @@ module _ {p : Plan} {s : State} (i : Inv p s) {v y k : ℕ} {m : Msg} (t : Turn 
   pub order : (j w u : ℕ) (a b : Msg) → Ends p j w u → Bef a b (c′ w j) → Fits a b
   order j w u a b e f = ⊎-elim (λ o. i.Q1.q1 j w u a b e o)
       (λ o. subst (λ n. Fits a n) (sym (o .2)) (h.fits a (subst (λ l. In a l) (sym (at2 s.ch (o .0) (o .1))) (o .3)))) (snoc-bef s.ch v k m w j f)
+
+  -- a sleeper has no mark, who is awake with an edge has an inbound edge
+  pub sleep-mark : (w j : ℕ) → st′ w ≡ 0 → mark′ w j ≡ 0
+  sleep-mark w j z = let o = st-asleep w z in mark-off w j (o .0) ∙ i.G6.g6m w j (o .1)
+
+  pub awake-ub : (j w u : ℕ) → Ends p j w u → st′ w ≢ 0 → ub′ w ≢ none
+  awake-ub j w u e n = by-eq v w (λ q z. edge-some p (h.ends) (sym ub-new ∙ ap ub′ q ∙ z)) (λ q z. i.G6.u1a j w u e (st-awake w q n) (sym (ub-off w q) ∙ z))
+
+  -- ways of joined edges stay
+  pub wide : (a b : ℕ) → s.fr a ≡ s.fr b → Way p.g (Joined p mark′) a b
+  wide a b q = wider (λ j l x. both-up j (p.g.lo j) (p.g.hi j) x) (i.M1.m4 a b q)
 
   -- a Test: as e1w, with the new marks
   pub asks : (j w u l f : ℕ) → Ends p j w u → In (test l f) (s.ch w j)

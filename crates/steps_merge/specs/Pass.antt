@@ -1,11 +1,11 @@
 -- v's fragment takes a decision of kind d with node v and edge k, as v sends m over it: 3 for a Connect, 2 for a Change-root.
 -- What differs between the two is in `Own`; the rest is proved here once.
-use Rattle.protocol.specs.Prelude.{ℕ, zero, suc, _+_, _≤_, _<_, arith, _≡_, refl, sym, ap, subst, _∙_, _≢_, _⊎_, inl, inr, ⊎-elim, by-eq}
-use Rattle.protocol.specs.Prelude.{List, [], _∷_, _++_, upd, upd-elim, upd-same, upd-other, upd2, upd2-elim, All, sumL, at2}
-use Rattle.protocol.specs.Prelude.{Msg, none, connect, initiate, test, accept, reject, report, change}
-use Rattle.protocol.specs.Prelude.{Plan, Ends, Tree, key, rank, flip, ends-irr, edge-some, wider, State, set-st, set-oo, set-ub, send, marked, decided}
-use Rattle.protocol.specs.Prelude.{isC, isI, isCI, isT, isA, isR, isK, Only, In, Bef, snoc, snoc-in, snoc-all}
-use Rattle.protocol.specs.Prelude.{Both, Bounding, Decision, GL, GC, DK, Inf, Jn, Half, Told, Root, Outst, Covered, Live, Child, CoreEnds, Spent, Inv, joined-level}
+use Rattle.protocol.specs.Prelude.{ℕ, _≤_, arith, _≡_, sym, ap, subst, _∙_, _≢_, _⊎_, inl, inr, ⊎-elim, by-eq}
+use Rattle.protocol.specs.Prelude.{upd, upd-elim, upd-same, upd-other, upd2, upd2-elim, All, at2}
+use Rattle.protocol.specs.Prelude.{Msg, connect, report, change}
+use Rattle.protocol.specs.Prelude.{Plan, Ends, Tree, flip, State, set-st, set-oo, set-ub, send, marked, decided}
+use Rattle.protocol.specs.Prelude.{isC, isI, isT, isA, isR, isK, Only, In, snoc, snoc-in, snoc-all}
+use Rattle.protocol.specs.Prelude.{Both, Decision, GL, DK, Inf, Jn, Outst, Live, CoreEnds, Spent, Inv, joined-level}
 use Rattle.protocol.specs.Fragments.{Ranges, Cores, Sleepers, Marks, Inbounds}
 use Rattle.protocol.specs.Decisions.{HalfOk, Halves, ToldOk, Tellings, Rootings, Finishes}
 use Rattle.protocol.specs.Search.{Parents, Kids, Finds, Tests}
@@ -162,10 +162,8 @@ module _ {p : Plan} {s : State} (i : Inv p s) {v y k d : ℕ} {m : Msg} (t : Tur
         let n : s.fr v ≢ s.fr w = λ q. a .0 (t.awake w (sym q) (a .1)) in
         let b = i.G6.g6 w (a .1) in
         record { g6g = b.g6g; g6d = dk-off w n ∙ b.g6d; g6u = b.g6u; g6w = b.g6w; g6e = b.g6e };
-    g6m = λ w j z. let a = M.st-asleep i t h w z in M.mark-off i t h w j (a .0) ∙ i.G6.g6m w j (a .1);
-    u1a = λ j w u e n. by-eq v w
-        (λ q z. edge-some p (h.ends) (sym (M.ub-new i t h) ∙ ap S′.ub q ∙ z))
-        (λ q z. i.G6.u1a j w u e (M.st-awake i t h w q n) (sym (M.ub-off i t h w q) ∙ z));
+    g6m = M.sleep-mark i t h;
+    u1a = M.awake-ub i t h;
     g7 = λ j w u e n g. by-eq (s.fr v) (s.fr w)
         (λ q. dk-in w q ∙ single (ap s.gl q ∙ g))
         (λ q. dk-off w q ∙ i.G6.g7 j w u e (M.st-awake i t h w (away w q) n) g);
@@ -183,7 +181,7 @@ module _ {p : Plan} {s : State} (i : Inv p s) {v y k d : ℕ} {m : Msg} (t : Tur
     own = M.own i t h;
     m1 = M.beyond i t h;
     m3 = λ j w u e b. i.M1.m3 j w u e (joined-was j w u e b);
-    m4 = λ a b q. wider (λ j l x. M.both-up i t h j (p.g.lo j) (p.g.hi j) x) (i.M1.m4 a b q);
+    m4 = M.wide i t h;
     m5 = λ j w u e z. M.dn1 i t h w j z (λ q r. subst (λ n. Tree p n) r (o.tree)) (λ f. i.M1.m5 j w u e f);
   }
 

@@ -1,6 +1,6 @@
 -- The node v that is about to turn its inbound edge: a sleeper that wakes, or the node that executes procedure change-root.
-use Rattle.protocol.specs.Prelude.{ℕ, zero, suc, _+_, _≤_, _<_, arith, _≡_, refl, sym, ap, subst, _∙_, _≢_, _⊎_, inl, inr, ⊎-elim, by-eq}
-use Rattle.protocol.specs.Prelude.{Msg, none, initiate, report, Plan, Ends, flip, edge-some, State, Idle, isR, top, top-none, In, none-in}
+use Rattle.protocol.specs.Prelude.{ℕ, suc, _≤_, arith, _≡_, sym, ap, _∙_, _≢_, by-eq}
+use Rattle.protocol.specs.Prelude.{report, Plan, Ends, flip, edge-some, State, isR, top, top-none, In, none-in}
 use Rattle.protocol.specs.Prelude.{GL, GC, DK, Inf, Jn, Root, Inv, sleep-lev, sleep-ib, decided-find, core-informed, no-initiate, no-root}
 use Rattle.protocol.specs.Decisions.{RootOk}
 
