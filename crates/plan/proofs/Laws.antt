@@ -1,17 +1,17 @@
 -- Laws that the functions' proofs cite, over plain numbers.
-use Prim.Native.Nat.{ℕ, zero, suc, _+_, _*_, _-_, _^_, _≤_, _<_}
+use Prim.Native.Nat.{ℕ, zero, suc, _*_, _-_, _^_, _≤_, _<_}
 use native.Mathlib.Omega.{arith}
 use native.Mathlib.Nat.{mul-le-mul}
-use mathlib.Core.Path.{_≡_, refl, sym, ap, _∙_}
+use mathlib.Core.Path.{_≡_, refl, ap, _∙_}
 use mathlib.Core.Logic.{_≢_}
-use mathlib.Core.Bool.{Bool, true, false, cond, _&&_, _||_, false≢true}
+use mathlib.Core.Bool.{Bool, true, false}
 use mathlib.Core.List.{List}
-use lib.Dec.{eqb, ltb}
+use lib.Dec.{ltb}
 use lib.Pow.{pow-mono}
 use lib.Count.{leadingZeros, leading-top}
-use borrow.Author.Tests.{ltb-true, ltb-false, lt-ltb, le-ltb, eq-eqb, ne-eqb}
-use Rattle.base.specs.Cond.{bool-cases, ltb-cases, by-eq}
-use Rattle.base.specs.Log.{log2, log2-low, log2-high, level-le}
+use borrow.Author.Tests.{ltb-true, ltb-false, le-ltb, eq-eqb, ne-eqb}
+use Rattle.base.specs.Cond.{bool-cases}
+use Rattle.base.specs.Log.{log2, log2-low, level-le}
 use Rattle.base.specs.Test.{every}
 use Rattle.plan.specs.Weights.{costIn, earlierIn}
 

@@ -1,13 +1,12 @@
 -- What an accepted plan is: the conditions behind refusals 14 to 19, as facts. `planRefusal p ≡ 0` holds exactly for these plans.
 use Prim.Native.Nat.{ℕ, zero, suc, _+_, _≤_, _<_}
 use native.Mathlib.Omega.{arith}
-use native.Mathlib.Nat.{not-suc-le-zero}
-use mathlib.Core.Path.{_≡_, refl, sym, ap, subst, _∙_}
-use mathlib.Core.Bool.{Bool, true, false, not, cond, true≢false, _&&_, _||_}
-use lib.Dec.{eqb, ltb, leb}
-use borrow.Author.Tests.{ltb-true, ltb-false, leb-true, leb-false, lt-ltb, le-ltb, le-leb, lt-leb, eqb-false, ne-eqb, not-false}
+use mathlib.Core.Path.{_≡_, refl, subst}
+use mathlib.Core.Bool.{Bool, true, false, cond, true≢false, _||_}
+use lib.Dec.{eqb}
+use borrow.Author.Tests.{ltb-false, leb-false, le-ltb, lt-leb, eqb-false, ne-eqb, not-false}
 use Rattle.base.specs.Cond.{eqb-cases, by-eq}
-use Rattle.graph.specs.Decide.{connected, Connected, connected-ways, ways-connected}
+use Rattle.graph.specs.Decide.{Connected, connected-ways, ways-connected}
 use Rattle.plan.specs.declared.Plan.{Plan}
 use Rattle.plan.specs.Links.{low, high, readLow, readHigh, graphOf}
 use Rattle.plan.specs.Refusal.{orElse, first, inOrder, linkVerdict, linkRefusal, linksRefusal, planRefusal}

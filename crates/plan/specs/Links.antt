@@ -1,5 +1,5 @@
 -- A plan value and its links, as a graph.
-use Prim.Native.Nat.{ℕ, _+_}
+use Prim.Native.Nat.{ℕ}
 use mathlib.Core.List.{List}
 use lib.ListN.{getD}
 use Rattle.plan.specs.declared.Plan.{Plan}

@@ -1,9 +1,8 @@
 -- Plan values that mean the same plan: the same N and L and the same first L links. They are accepted together.
-use Prim.Native.Nat.{ℕ, zero, suc, _≤_, _<_}
+use Prim.Native.Nat.{ℕ, zero, suc, _<_}
 use native.Mathlib.Omega.{arith}
-use mathlib.Core.Path.{_≡_, refl, sym, ap, subst, _∙_}
-use mathlib.Core.Bool.{true}
-use Rattle.graph.specs.Graph.{Graph, Joins, up, down, Way, stop, go}
+use mathlib.Core.Path.{_≡_, refl, sym, _∙_}
+use Rattle.graph.specs.Graph.{Joins, up, down, Way, stop, go}
 use Rattle.graph.specs.Ways.{Any}
 use Rattle.plan.specs.declared.Plan.{Plan}
 use Rattle.plan.specs.Links.{low, high, readLow, readHigh, graphOf}

@@ -1,10 +1,9 @@
 -- The columns as a loop fills them, link by link.
-use Prim.Native.Nat.{ℕ, zero, suc, _+_, _*_, _≤_, _<_}
-use native.Mathlib.Omega.{arith}
+use Prim.Native.Nat.{ℕ, _+_, _*_, _<_}
 use native.Mathlib.Numerals.{add-one}
-use mathlib.Core.Path.{_≡_, refl, sym, ap, _∙_}
+use mathlib.Core.Path.{_≡_, ap, _∙_}
 use mathlib.Core.List.{List}
-use lib.ListN.{length, getD, set, length-replicate, getD-replicate}
+use lib.ListN.{set, length-replicate, getD-replicate}
 use Rattle.base.specs.Table.{fill-start, fill-turn}
 use Rattle.planfile.specs.Layout.{word, column, zeros}
 

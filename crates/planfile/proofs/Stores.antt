@@ -1,16 +1,15 @@
 -- What the stores of the writer leave.
-use Prim.Native.Nat.{ℕ, zero, suc, _+_, _*_, _/_, _%_, _≤_, _<_}
+use Prim.Native.Nat.{ℕ, suc, _+_, _*_, _≤_, _<_}
 use native.Mathlib.Omega.{arith}
 use native.Mathlib.Numerals.{add-one, unary-clauses}
 use mathlib.Core.Path.{_≡_, refl, sym, ap, _∙_}
 use mathlib.Core.Logic.{_≢_}
-use lib.Dec.{eqb, ltb}
 use borrow.Author.Tests.{lt-ltb, le-ltb, eq-eqb, ne-eqb}
-use mathlib.Core.List.{List, [], _∷_, _++_, append-assoc}
-use lib.ListN.{length, set, take, drop, length-append}
+use mathlib.Core.List.{List, [], _∷_, _++_}
+use lib.ListN.{length, set, drop}
 use lib.Seq.{sets, sets-eq}
-use Rattle.base.specs.Loop.{After, taken, refused}
-use Rattle.int16.specs.Int16.{bytes16, put16}
+use Rattle.base.specs.Loop.{After, taken}
+use Rattle.int16.specs.Int16.{put16}
 use Rattle.plan.specs.Accepted.{accepted}
 use Rattle.plan.specs.Refusal.{planRefusal}
 use Rattle.plan.specs.declared.Plan.{Plan}

@@ -1,11 +1,11 @@
 -- How long the bytes of a plan are.
 use Prim.Native.Nat.{ℕ, zero, suc, _+_, _*_}
 use native.Mathlib.Omega.{arith}
-use mathlib.Core.Path.{_≡_, refl, sym, ap, _∙_}
+use mathlib.Core.Path.{_≡_, refl}
 use mathlib.Core.List.{List, [], _∷_, _++_}
 use lib.ListN.{length, length-append}
 use Rattle.plan.specs.declared.Plan.{Plan}
-use Rattle.planfile.specs.Layout.{linkNumbers, linksNumbers, bytesOf, encode}
+use Rattle.planfile.specs.Layout.{linksNumbers, bytesOf, encode}
 
 pub bytesOf-append : (xs ys : List ℕ) → bytesOf (xs ++ ys) ≡ bytesOf xs ++ bytesOf ys
 unfolding bytesOf

@@ -12,12 +12,11 @@ use Rattle.base.specs.Pool.{All, nil, con, All-app}
 use Rattle.base.specs.Search.{lt-suc-cases}
 use Rattle.base.specs.Table.{tabulate, tabulated, tabulate-ext, getD-tabulate, upto, upto-in, upto-same}
 use Rattle.plan.specs.declared.Plan.{Plan}
-use Rattle.plan.specs.Links.{low, high, readLow, readHigh, planOf}
 use Rattle.plan.specs.Refusal.{planRefusal}
 use Rattle.plan.specs.Accepted.{Accepted, LinkOk, accepted, fine-first, first-fine}
 use Rattle.plan.specs.Same.{Same, same-taken}
 use Rattle.planfile.specs.Layout.{linkNumbers, linksNumbers, bytesOf, encode, word, column, decode, trim, trimmed}
-use Rattle.planfile.specs.Lengths.{length-links, length-bytesOf, length-encode}
+use Rattle.planfile.specs.Lengths.{length-links, length-encode}
 use Rattle.planfile.specs.Reading.{headRefusal, readRefusal, readPlan}
 use Rattle.planfile.specs.Writing.{writePlan}
 use Rattle.planfile.specs.Head.{HeadOk, head-ok, ok-head}

@@ -1,13 +1,13 @@
 -- Integers and their bytes determine each other.
-use Prim.Native.Nat.{ℕ, zero, suc, _+_, _*_, _/_, _%_, _≤_, _<_}
+use Prim.Native.Nat.{ℕ, zero, suc, _+_, _*_, _/_, _%_, _<_}
 use native.Mathlib.Omega.{arith}
 use native.Mathlib.Nat.{not-suc-le-zero}
-use mathlib.Core.Path.{_≡_, refl, sym, ap, ap₂, subst, _∙_}
-use mathlib.Core.List.{List, [], _∷_, _++_}
+use mathlib.Core.Path.{_≡_, refl, ap, _∙_}
+use mathlib.Core.List.{List, [], _∷_}
 use lib.ListN.{length, getD}
 use Rattle.base.specs.Pool.{All, nil, con}
 use Rattle.base.specs.Table.{tabulate, tabulate-ext}
-use Rattle.int16.specs.Int16.{at16, bytes16}
+use Rattle.int16.specs.Int16.{at16}
 use Rattle.int16.specs.Laws.{joined, high-byte, low-byte}
 use Rattle.planfile.specs.Layout.{bytesOf, word}
 

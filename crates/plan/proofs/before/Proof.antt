@@ -3,32 +3,24 @@ use mathlib.Core.Path.{_≡_}
 use mathlib.Core.Logic.{_≢_, _⊎_, inl, inr}
 use borrow.Author.Tests.{ne-eqb}
 use Rattle.plan.specs.Weights.{beforeIn}
-use borrow.Author.Needs.{needs}
 use Rattle.plan.proofs.before.Statement.{statement}
 use Rattle.plan.proofs.before.Tie as tie
-use Rattle.plan.proofs.before.Reads as reads
-use Rattle.plan.proofs.before.Lts as lts
-use Rattle.plan.proofs.earlier.Reads as earlier-reads
 
 link : (a : ℕ) → (a < 600) ⊎ (a ≡ 65535) → a ≢ 65535 → a < 600
 link a (inl l) d = l
 link a (inr e) d = absurd (d e)
 
--- src/lib.rt:67:9
 returns : tie.Need-returns
 unfolding beforeIn
 returns c = rw (c .if1 .taken)
 
--- src/lib.rt:70:9
 returns-2 : tie.Need-returns-2
 unfolding beforeIn
 returns-2 c = simp (ne-eqb _ _ (c .before .if1 .left), c .if2 .taken)
 
--- src/lib.rt:72:5
 earlier-requires : tie.Need-earlier-requires
 earlier-requires c κs = (link _ (c .before .before .pre .0) (c .before .if1 .left), link _ (c .before .before .pre .1) (c .if2 .left))
 
--- src/lib.rt:62:1
 returns-3 : tie.Need-returns-3
 unfolding beforeIn
 returns-3 c = let e = c .before in simp (ne-eqb _ _ (e .before .if1 .left), ne-eqb _ _ (e .if2 .left), c .earlier .ensures)

@@ -3,35 +3,25 @@ use Rattle.plan.proofs.Laws.{term-fits}
 use borrow.Author.Needs.{needs}
 use Rattle.plan.proofs.ceiling.Statement.{statement}
 use Rattle.plan.proofs.ceiling.Tie as tie
-use Rattle.plan.proofs.ceiling.Reads as reads
-use Rattle.plan.proofs.ceiling.Lts as lts
-use Rattle.plan.proofs.floor_log2.Reads as floor-log2-reads
 
--- src/lib.rt:36:5
 mul-result : tie.Need-mul-result
 mul-result c = search needs
 
--- src/lib.rt:36:23
 floor-log2-requires : tie.Need-floor-log2-requires
 floor-log2-requires c κs = search needs
 
--- src/lib.rt:36:23
 cast-result : tie.Need-cast-result
 cast-result c = search needs
 
--- src/lib.rt:36:5
 mul-result-2 : tie.Need-mul-result-2
 mul-result-2 c = omega (arith, term-fits (c .before .args .n) (c .floor-log2 .result) (omega arith) (c .floor-log2 .ensures))
 
--- src/lib.rt:36:47
 mul-result-3 : tie.Need-mul-result-3
 mul-result-3 c = search needs
 
--- src/lib.rt:36:5
 add-result : tie.Need-add-result
 add-result c = omega (arith, term-fits (c .before .args .n) (c .floor-log2 .result) (omega arith) (c .floor-log2 .ensures))
 
--- src/lib.rt:33:1
 returns : tie.Need-returns
 returns c = rw (c .floor-log2 .ensures)
 

@@ -1,59 +1,43 @@
-use mathlib.Core.Path.{sym, _∙_}
 use Rattle.plan.specs.Weights.{costIn}
 use Rattle.plan.proofs.Laws.{same-cost, other-cost}
 use borrow.Author.Needs.{needs}
 use Rattle.plan.proofs.earlier.Statement.{statement}
 use Rattle.plan.proofs.earlier.Tie as tie
-use Rattle.plan.proofs.earlier.Reads as reads
-use Rattle.plan.proofs.earlier.Lts as lts
-use Rattle.plan.proofs.cost.Reads as cost-reads
 
--- src/lib.rt:53:18
 mul-cost : tie.Need-mul-cost
 mul-cost c = search needs
 
--- src/lib.rt:53:18
 element-copy-out-cost : tie.Need-element-copy-out-cost
 element-copy-out-cost c = search needs
 
--- src/lib.rt:53:27
 mul-cost-2 : tie.Need-mul-cost-2
 mul-cost-2 c = search needs
 
--- src/lib.rt:53:27
 element-copy-out-cost-2 : tie.Need-element-copy-out-cost-2
 element-copy-out-cost-2 c = search needs
 
--- src/lib.rt:53:9
 cost-requires : tie.Need-cost-requires
 cost-requires c κs = search needs
 
--- src/lib.rt:54:18
 mul-cost-3 : tie.Need-mul-cost-3
 mul-cost-3 c = search needs
 
--- src/lib.rt:54:18
 element-copy-out-cost-3 : tie.Need-element-copy-out-cost-3
 element-copy-out-cost-3 c = search needs
 
--- src/lib.rt:54:27
 mul-cost-4 : tie.Need-mul-cost-4
 mul-cost-4 c = search needs
 
--- src/lib.rt:54:27
 element-copy-out-cost-4 : tie.Need-element-copy-out-cost-4
 element-copy-out-cost-4 c = search needs
 
--- src/lib.rt:54:9
 cost-requires-2 : tie.Need-cost-requires-2
 cost-requires-2 c κs = search needs
 
--- src/lib.rt:56:9
 returns : tie.Need-returns
 unfolding costIn
 returns c = let e = c .before in same-cost _ _ _ _ _ _ (e .before .before .before .cost .ensures) (e .cost2 .ensures) (c .if1 .taken)
 
--- src/lib.rt:47:1
 returns-2 : tie.Need-returns-2
 unfolding costIn
 returns-2 c = let e = c .before in other-cost _ _ _ _ _ _ (e .before .before .before .cost .ensures) (e .cost2 .ensures) (c .if1 .left)

@@ -4,23 +4,17 @@ use Rattle.base.specs.Log.{log2}
 use borrow.Author.Needs.{needs}
 use Rattle.plan.proofs.floor_log2.Statement.{statement}
 use Rattle.plan.proofs.floor_log2.Tie as tie
-use Rattle.plan.proofs.floor_log2.Reads as reads
-use Rattle.plan.proofs.floor_log2.Lts as lts
 
--- src/lib.rt:27:9
 returns : tie.Need-returns
 unfolding log2
 returns c = rw (c .if1 .taken)
 
--- src/lib.rt:29:6
 sub-result : tie.Need-sub-result
 sub-result c = leading (c .before .args .n) (c .if1 .left) (omega arith) .0
 
--- src/lib.rt:29:5
 cast-result : tie.Need-cast-result
 cast-result c = search needs
 
--- src/lib.rt:23:1
 returns-2 : tie.Need-returns-2
 returns-2 c = leading (c .before .args .n) (c .if1 .left) (omega arith) .1
 

@@ -4,56 +4,41 @@ use Rattle.plan.proofs.Verdict.{in-order-from}
 use borrow.Author.Needs.{needs}
 use Rattle.plan.proofs.in_order.Statement.{statement}
 use Rattle.plan.proofs.in_order.Tie as tie
-use Rattle.plan.proofs.in_order.Reads as reads
-use Rattle.plan.proofs.in_order.Lts as lts
-use Rattle.plan.proofs.ascends.Reads as ascends-reads
 
--- src/lib.rt:95:9
 returns : tie.Need-returns
 unfolding inOrder
 returns c = rw (c .if1 .taken)
 
--- src/lib.rt:97:13
 sub-j : tie.Need-sub-j
 sub-j c = search needs
 
--- src/lib.rt:98:13
 mul-ascends : tie.Need-mul-ascends
 mul-ascends c = search needs
 
--- src/lib.rt:98:13
 element-copy-out-ascends : tie.Need-element-copy-out-ascends
 element-copy-out-ascends c = search needs
 
--- src/lib.rt:98:23
 mul-ascends-2 : tie.Need-mul-ascends-2
 mul-ascends-2 c = search needs
 
--- src/lib.rt:98:23
 element-copy-out-ascends-2 : tie.Need-element-copy-out-ascends-2
 element-copy-out-ascends-2 c = search needs
 
--- src/lib.rt:98:34
 mul-ascends-3 : tie.Need-mul-ascends-3
 mul-ascends-3 c = search needs
 
--- src/lib.rt:98:34
 element-copy-out-ascends-3 : tie.Need-element-copy-out-ascends-3
 element-copy-out-ascends-3 c = search needs
 
--- src/lib.rt:98:44
 mul-ascends-4 : tie.Need-mul-ascends-4
 mul-ascends-4 c = search needs
 
--- src/lib.rt:98:44
 element-copy-out-ascends-4 : tie.Need-element-copy-out-ascends-4
 element-copy-out-ascends-4 c = search needs
 
--- src/lib.rt:98:5
 ascends-requires : tie.Need-ascends-requires
 ascends-requires c κs = search needs
 
--- src/lib.rt:90:1
 returns-2 : tie.Need-returns-2
 returns-2 c = let e = c .before .before .before .before .before in c .ascends .ensures ∙ in-order-from _ _ _ (e .if1 .left)
 

@@ -2,34 +2,25 @@ use Rattle.planfile.proofs.Head.{c-nobody, c-modules, c-links, c-length
 use borrow.Author.Needs.{needs}
 use Rattle.planfile.proofs.counts_check.Statement.{statement}
 use Rattle.planfile.proofs.counts_check.Tie as tie
-use Rattle.planfile.proofs.counts_check.Reads as reads
-use Rattle.planfile.proofs.counts_check.Lts as lts
 
--- src/lib.rt:29:9
 returns : tie.Need-returns
 returns c = c-nobody _ _ _ (c .if1 .taken)
 
--- src/lib.rt:32:9
 returns-2 : tie.Need-returns-2
 returns-2 c = c-modules _ _ _ (c .before .if1 .left) (c .if2 .taken)
 
--- src/lib.rt:35:9
 returns-3 : tie.Need-returns-3
 returns-3 c = let e2 = c .before in c-links _ _ _ (e2 .before .if1 .left) (e2 .if2 .left) (c .if3 .taken)
 
--- src/lib.rt:37:19
 mul-if4 : tie.Need-mul-if4
 mul-if4 c = search needs
 
--- src/lib.rt:37:15
 add-if4 : tie.Need-add-if4
 add-if4 c = search needs
 
--- src/lib.rt:38:9
 returns-4 : tie.Need-returns-4
 returns-4 c = let e3 = c .before in let e2 = e3 .before in c-length _ _ _ (e2 .before .if1 .left) (e2 .if2 .left) (e3 .if3 .left) (c .if4 .taken)
 
--- src/lib.rt:25:1
 returns-5 : tie.Need-returns-5
 returns-5 c = let e3 = c .before in let e2 = e3 .before in c-fine _ _ _ (e2 .before .if1 .left) (e2 .if2 .left) (e3 .if3 .left) (c .if4 .left)
 

@@ -1,15 +1,11 @@
-use Prim.Native.Nat.{_<_}
-use Prim.Native.Nat.{ℕ, _≤_, _-_}
+use Prim.Native.Nat.{_<_, _≤_, _-_}
 use native.Mathlib.Omega.{arith}
-use mathlib.Core.Path.{_≡_, refl, sym, ap, _∙_}
+use mathlib.Core.Path.{_≡_}
 use Rattle.planfile.specs.Layout.{column}
 use Rattle.planfile.proofs.Columns.{column-start, column-turn}
 use borrow.Author.Needs.{needs}
 use Rattle.planfile.proofs.fill.Statement.{statement}
 use Rattle.planfile.proofs.fill.Tie as tie
-use Rattle.planfile.proofs.fill.Reads as reads
-use Rattle.planfile.proofs.fill.Lts as lts
-use Rattle.planfile.proofs.word.Reads as word-reads
 
 abbrev Inv-loop : tie.InvT-loop
 Inv-loop s l lower₀ higher₀ near₀ far₀ k₀ lower higher near far k = (k ≤ l) × (lower ≡ column s k 0) × (higher ≡ column s k 1) × (near ≡ column s k 2) × (far ≡ column s k 3)
@@ -17,88 +13,67 @@ Inv-loop s l lower₀ higher₀ near₀ far₀ k₀ lower higher near far k = (k
 abbrev μ-loop : tie.MeasureT-loop
 μ-loop s l lower₀ higher₀ near₀ far₀ k₀ lower higher near far k = l - k
 
--- src/lib.rt:77:5
 loop-holds : tie.Need-loop-holds Inv-loop μ-loop
 loop-holds c = let p = c .before .pre in
     (omega arith, column-start _ 0 _ (p .2), column-start _ 1 _ (p .3), column-start _ 2 _ (p .4), column-start _ 3 _ (p .5))
 
--- src/lib.rt:78:21
 mul-i : tie.Need-mul-i Inv-loop μ-loop
 mul-i c = search needs
 
--- src/lib.rt:78:17
 add-i : tie.Need-add-i Inv-loop μ-loop
 add-i c = search needs
 
--- src/lib.rt:79:20
 word-requires : tie.Need-word-requires Inv-loop μ-loop
 word-requires c κs = search needs
 
--- src/lib.rt:79:9
 mul-lower : tie.Need-mul-lower Inv-loop μ-loop
 mul-lower c = search needs
 
--- src/lib.rt:79:9
 element-write-lower : tie.Need-element-write-lower Inv-loop μ-loop
 element-write-lower c = search needs
 
--- src/lib.rt:80:29
 add-word : tie.Need-add-word Inv-loop μ-loop
 add-word c = search needs
 
--- src/lib.rt:80:21
 word-requires-2 : tie.Need-word-requires-2 Inv-loop μ-loop
 word-requires-2 c κs = search needs
 
--- src/lib.rt:80:9
 mul-higher : tie.Need-mul-higher Inv-loop μ-loop
 mul-higher c = search needs
 
--- src/lib.rt:80:9
 element-write-higher : tie.Need-element-write-higher Inv-loop μ-loop
 element-write-higher c = search needs
 
--- src/lib.rt:81:27
 add-word-2 : tie.Need-add-word-2 Inv-loop μ-loop
 add-word-2 c = search needs
 
--- src/lib.rt:81:19
 word-requires-3 : tie.Need-word-requires-3 Inv-loop μ-loop
 word-requires-3 c κs = search needs
 
--- src/lib.rt:81:9
 mul-near : tie.Need-mul-near Inv-loop μ-loop
 mul-near c = search needs
 
--- src/lib.rt:81:9
 element-write-near : tie.Need-element-write-near Inv-loop μ-loop
 element-write-near c = search needs
 
--- src/lib.rt:82:26
 add-word-3 : tie.Need-add-word-3 Inv-loop μ-loop
 add-word-3 c = search needs
 
--- src/lib.rt:82:18
 word-requires-4 : tie.Need-word-requires-4 Inv-loop μ-loop
 word-requires-4 c κs = search needs
 
--- src/lib.rt:82:9
 mul-far : tie.Need-mul-far Inv-loop μ-loop
 mul-far c = search needs
 
--- src/lib.rt:82:9
 element-write-far : tie.Need-element-write-far Inv-loop μ-loop
 element-write-far c = search needs
 
--- src/lib.rt:83:9
 add-k : tie.Need-add-k Inv-loop μ-loop
 add-k c = search needs
 
--- src/lib.rt:77:5
 loop-less : tie.Need-loop-less Inv-loop μ-loop
 loop-less c = search needs
 
--- src/lib.rt:77:5
 loop-again : tie.Need-loop-again Inv-loop μ-loop
 loop-again c = let w3 = c .before in
     let w2 = w3 .before in
@@ -113,7 +88,6 @@ loop-again c = let w3 = c .before in
       column-turn _ 3 _ _ _ _ l (e .loop .inv .4) (c .word4 .ensures) (omega arith),
     )
 
--- src/lib.rt:64:1
 returns : tie.Need-returns Inv-loop μ-loop
 returns c = let e = c .before in
     let q : e .loop .k ≡ e .before .before .args .l = omega arith in

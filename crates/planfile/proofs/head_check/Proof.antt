@@ -1,63 +1,47 @@
-use mathlib.Core.Path.{sym, _∙_}
+use mathlib.Core.Path.{_∙_}
 use Rattle.planfile.proofs.Head.{h-short, h-version, h-length, h-least, h-counts}
 use borrow.Author.Needs.{needs}
 use Rattle.planfile.proofs.head_check.Statement.{statement}
 use Rattle.planfile.proofs.head_check.Tie as tie
-use Rattle.planfile.proofs.head_check.Reads as reads
-use Rattle.planfile.proofs.head_check.Lts as lts
-use Rattle.planfile.proofs.counts_check.Reads as counts-check-reads
-use Rattle.planfile.proofs.word.Reads as word-reads
 
--- src/lib.rt:48:9
 returns : tie.Need-returns
 returns c = h-short _ _ _ _ (c .if1 .taken)
 
--- src/lib.rt:50:8
 shared-slice-read-if2 : tie.Need-shared-slice-read-if2
 shared-slice-read-if2 c = search needs
 
--- src/lib.rt:51:9
 returns-2 : tie.Need-returns-2
 returns-2 c = h-version _ _ _ _ (c .before .before .if1 .left) (c .if2 .taken)
 
--- src/lib.rt:53:15
 word-requires : tie.Need-word-requires
 word-requires c κs = search needs
 
--- src/lib.rt:53:15
 cast-len : tie.Need-cast-len
 cast-len c = search needs
 
--- src/lib.rt:54:15
 sub-if3 : tie.Need-sub-if3
 sub-if3 c = search needs
 
--- src/lib.rt:55:9
 returns-3 : tie.Need-returns-3
 returns-3 c = let w = c .before in
     let e2 = w .before in
     h-length _ _ _ _ (e2 .before .before .if1 .left) (e2 .if2 .left) (rw (w .word .ensures) at (c .if3 .taken))
 
--- src/lib.rt:58:9
 returns-4 : tie.Need-returns-4
 returns-4 c = let e3 = c .before in
     let w = e3 .before in
     let e2 = w .before in
     h-least _ _ _ _ (e2 .before .before .if1 .left) (e2 .if2 .left) (rw (w .word .ensures) at (e3 .if3 .left)) (rw (w .word .ensures) at (c .if4 .taken))
 
--- src/lib.rt:60:23
 word-requires-2 : tie.Need-word-requires-2
 word-requires-2 c κs = search needs
 
--- src/lib.rt:60:35
 word-requires-3 : tie.Need-word-requires-3
 word-requires-3 c κs = search needs
 
--- src/lib.rt:60:5
 counts-check-requires : tie.Need-counts-check-requires
 counts-check-requires c κs = search needs
 
--- src/lib.rt:44:1
 returns-5 : tie.Need-returns-5
 returns-5 c = let w3 = c .before in
     let w2 = w3 .before in

@@ -3,36 +3,24 @@ use Rattle.planfile.proofs.Answers.{load-head, word-inside, links-insid
 use borrow.Author.Needs.{needs}
 use Rattle.planfile.proofs.load.Statement.{statement}
 use Rattle.planfile.proofs.load.Tie as tie
-use Rattle.planfile.proofs.load.Reads as reads
-use Rattle.planfile.proofs.load.Lts as lts
-use Rattle.plan.proofs.check_columns.Reads as check-columns-reads
-use Rattle.planfile.proofs.fill.Reads as fill-reads
-use Rattle.planfile.proofs.head_check.Reads as head-check-reads
-use Rattle.planfile.proofs.word.Reads as word-reads
 
--- src/lib.rt:116:9
 head-check-requires : tie.Need-head-check-requires
 head-check-requires c κs = search needs
 
--- src/lib.rt:118:9
 returns : tie.Need-returns
 returns c = load-head _ _ (c .before .head-check .ensures) (c .if1 .taken)
 
--- src/lib.rt:120:9
 word-requires : tie.Need-word-requires
 word-requires c κs = let h = c .before in word-inside (h .before .before .args .s .now) _ (h .head-check .ensures) (c .if1 .left) 1 (omega arith)
 
--- src/lib.rt:121:9
 word-requires-2 : tie.Need-word-requires-2
 word-requires-2 c κs = let e = c .before in
     let h = e .before in
     word-inside (h .before .before .args .s .now) _ (h .head-check .ensures) (e .if1 .left) 2 (omega arith)
 
--- src/lib.rt:122:13
 cast-fill : tie.Need-cast-fill
 cast-fill c = search needs
 
--- src/lib.rt:122:5
 fill-requires : tie.Need-fill-requires
 fill-requires c κs = let w2 = c .before .before .before .before in
     let e = w2 .before .before in
@@ -41,11 +29,9 @@ fill-requires c κs = let w2 = c .before .before .before .before in
     let f = links-inside (h .before .before .args .s .now) _ (h .head-check .ensures) (e .if1 .left) (w2 .word2 .result) (w2 .word2 .ensures) in
     (f .0, f .1, p .0, p .1, p .2, p .3)
 
--- src/lib.rt:123:5
 check-columns-requires : tie.Need-check-columns-requires
 check-columns-requires c κs = search needs
 
--- src/lib.rt:106:1
 returns-2 : tie.Need-returns-2
 returns-2 c = let f = c .before .before .before .before .before in
     let w2 = f .before .before .before .before .before in

@@ -4,42 +4,31 @@ use lib.ListN.{length-set}
 use borrow.Author.Needs.{needs}
 use Rattle.planfile.proofs.put_head.Statement.{statement}
 use Rattle.planfile.proofs.put_head.Tie as tie
-use Rattle.planfile.proofs.put_head.Reads as reads
-use Rattle.planfile.proofs.put_head.Lts as lts
-use Rattle.int16.proofs.put.Reads as put-reads
 
--- src/lib.rt:182:5
 slice-write-out : tie.Need-slice-write-out
 slice-write-out c = search needs
 
--- src/lib.rt:183:28
 mul-put : tie.Need-mul-put
 mul-put c = search needs
 
--- src/lib.rt:183:24
 add-put : tie.Need-add-put
 add-put c = search needs
 
--- src/lib.rt:183:5
 put-requires : tie.Need-put-requires
 put-requires c κs = simp length-set (omega arith)
 
--- src/lib.rt:184:5
 put-requires-2 : tie.Need-put-requires-2
 put-requires-2 c κs = omega (arith, simp length-set at (c .before .before .before .put .kept .0))
 
--- src/lib.rt:185:5
 put-requires-3 : tie.Need-put-requires-3
 put-requires-3 c κs = omega (arith, c .before .before .before .put2 .kept .0, simp length-set at (c .before .before .before .before .before .before .before .put .kept .0))
 
--- src/lib.rt:178:1
 same-length : tie.Need-same-length
 same-length c = let q3 = c .before .before in
     let q2 = q3 .before .before .before .before in
     let q1 = q2 .before .before .before .before in
     omega (arith, q3 .put3 .kept .0, q2 .put2 .kept .0, simp length-set at (q1 .put .kept .0))
 
--- src/lib.rt:178:1
 returns : tie.Need-returns
 returns c = let q3 = c .before .before in
     let q2 = q3 .before .before .before .before in

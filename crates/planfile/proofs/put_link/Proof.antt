@@ -2,43 +2,31 @@ use Rattle.planfile.proofs.Stores.{four}
 use borrow.Author.Needs.{needs}
 use Rattle.planfile.proofs.put_link.Statement.{statement}
 use Rattle.planfile.proofs.put_link.Tie as tie
-use Rattle.planfile.proofs.put_link.Reads as reads
-use Rattle.planfile.proofs.put_link.Lts as lts
-use Rattle.int16.proofs.put.Reads as put-reads
 
--- src/lib.rt:171:5
 put-requires : tie.Need-put-requires
 put-requires c κs = search needs
 
--- src/lib.rt:172:21
 add-put : tie.Need-add-put
 add-put c = search needs
 
--- src/lib.rt:172:5
 put-requires-2 : tie.Need-put-requires-2
 put-requires-2 c κs = search needs
 
--- src/lib.rt:173:21
 add-put-2 : tie.Need-add-put-2
 add-put-2 c = search needs
 
--- src/lib.rt:173:5
 put-requires-3 : tie.Need-put-requires-3
 put-requires-3 c κs = search needs
 
--- src/lib.rt:174:21
 add-put-3 : tie.Need-add-put-3
 add-put-3 c = search needs
 
--- src/lib.rt:174:5
 put-requires-4 : tie.Need-put-requires-4
 put-requires-4 c κs = search needs
 
--- src/lib.rt:167:1
 same-length : tie.Need-same-length
 same-length c = search needs
 
--- src/lib.rt:167:1
 returns : tie.Need-returns
 returns c = let q4 = c .before .before in
     let q3 = q4 .before .before .before .before in

@@ -1,6 +1,6 @@
-use Prim.Native.Nat.{ℕ, _≤_, _-_}
+use Prim.Native.Nat.{_≤_, _-_}
 use native.Mathlib.Omega.{arith}
-use mathlib.Core.Path.{_≡_, refl, sym, ap, _∙_}
+use mathlib.Core.Path.{_≡_, refl, _∙_}
 use lib.ListN.{length}
 use lib.Seq.{sets}
 use Rattle.plan.specs.Links.{planOf}
@@ -9,10 +9,6 @@ use Rattle.planfile.proofs.Stores.{put-start, put-turn, put-end}
 use borrow.Author.Needs.{needs}
 use Rattle.planfile.proofs.put_plan.Statement.{statement}
 use Rattle.planfile.proofs.put_plan.Tie as tie
-use Rattle.planfile.proofs.put_plan.Reads as reads
-use Rattle.planfile.proofs.put_plan.Lts as lts
-use Rattle.planfile.proofs.put_head.Reads as put-head-reads
-use Rattle.planfile.proofs.put_link.Reads as put-link-reads
 
 abbrev Inv-loop : tie.InvT-loop
 Inv-loop out₀ n l lower higher near far end k₀ out k = (k ≤ l) × (end ≡ l) × (length out ≡ length out₀) × (out ≡ sets out₀ 7 (bytesOf (linksNumbers (planOf n l lower higher near far) k)))
@@ -20,80 +16,62 @@ Inv-loop out₀ n l lower higher near far end k₀ out k = (k ≤ l) × (end ≡
 abbrev μ-loop : tie.MeasureT-loop
 μ-loop out₀ n l lower higher near far end k₀ out k = end - k
 
--- src/lib.rt:201:5
 put-head-requires : tie.Need-put-head-requires Inv-loop μ-loop
 put-head-requires c κs = search needs
 
--- src/lib.rt:204:5
 loop-holds : tie.Need-loop-holds Inv-loop μ-loop
 loop-holds c = (omega arith, refl, refl, put-start _ _)
 
--- src/lib.rt:205:27
 mul-put-link : tie.Need-mul-put-link Inv-loop μ-loop
 mul-put-link c = search needs
 
--- src/lib.rt:205:23
 add-put-link : tie.Need-add-put-link Inv-loop μ-loop
 add-put-link c = search needs
 
--- src/lib.rt:205:34
 mul-put-link-2 : tie.Need-mul-put-link-2 Inv-loop μ-loop
 mul-put-link-2 c = search needs
 
--- src/lib.rt:205:34
 element-copy-out-put-link : tie.Need-element-copy-out-put-link Inv-loop μ-loop
 element-copy-out-put-link c = search needs
 
--- src/lib.rt:205:44
 mul-put-link-3 : tie.Need-mul-put-link-3 Inv-loop μ-loop
 mul-put-link-3 c = search needs
 
--- src/lib.rt:205:44
 element-copy-out-put-link-2 : tie.Need-element-copy-out-put-link-2 Inv-loop μ-loop
 element-copy-out-put-link-2 c = search needs
 
--- src/lib.rt:205:55
 mul-put-link-4 : tie.Need-mul-put-link-4 Inv-loop μ-loop
 mul-put-link-4 c = search needs
 
--- src/lib.rt:205:55
 element-copy-out-put-link-3 : tie.Need-element-copy-out-put-link-3 Inv-loop μ-loop
 element-copy-out-put-link-3 c = search needs
 
--- src/lib.rt:205:64
 mul-put-link-5 : tie.Need-mul-put-link-5 Inv-loop μ-loop
 mul-put-link-5 c = search needs
 
--- src/lib.rt:205:64
 element-copy-out-put-link-4 : tie.Need-element-copy-out-put-link-4 Inv-loop μ-loop
 element-copy-out-put-link-4 c = search needs
 
--- src/lib.rt:205:9
 put-link-requires : tie.Need-put-link-requires Inv-loop μ-loop
 put-link-requires c κs = let e = c .before .before .before .before .before .before in
     let h = e .before .before .before in
     omega (arith, e .loop .inv .2, h .put-head .kept .0)
 
--- src/lib.rt:206:9
 add-k : tie.Need-add-k Inv-loop μ-loop
 add-k c = search needs
 
--- src/lib.rt:204:5
 loop-less : tie.Need-loop-less Inv-loop μ-loop
 loop-less c = search needs
 
--- src/lib.rt:204:5
 loop-again : tie.Need-loop-again Inv-loop μ-loop
 loop-again c = let q = c .before .before in
     let e = q .before .before .before .before .before .before .before in
     (omega arith, omega arith, q .put-link .kept .0 ∙ e .loop .inv .2, q .put-link .ensures ∙ put-turn _ _ _ _ (e .loop .inv .3))
 
--- src/lib.rt:189:1
 same-length : tie.Need-same-length Inv-loop μ-loop
 same-length c = let e = c .before in
     e .loop .inv .2 ∙ e .before .before .before .put-head .kept .0
 
--- src/lib.rt:189:1
 returns : tie.Need-returns Inv-loop μ-loop
 returns c = let e = c .before in
     let k : e .loop .k ≡ e .before .before .before .before .before .before .args .l = omega arith in

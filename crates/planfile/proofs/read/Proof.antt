@@ -4,35 +4,24 @@ use Rattle.planfile.proofs.Answers.{head-inside, not-read, is-read}
 use borrow.Author.Needs.{needs}
 use Rattle.planfile.proofs.read.Statement.{statement}
 use Rattle.planfile.proofs.read.Tie as tie
-use Rattle.planfile.proofs.read.Reads as reads
-use Rattle.planfile.proofs.read.Lts as lts
-use Rattle.planfile.proofs.load.Reads as load-reads
-use Rattle.planfile.proofs.refused.Reads as refused-reads
-use Rattle.planfile.proofs.word.Reads as word-reads
 
--- src/lib.rt:145:9
 load-requires : tie.Need-load-requires
 load-requires c κs = search needs
 
--- src/lib.rt:147:9
 refused-requires : tie.Need-refused-requires
 refused-requires c κs = search needs
 
--- src/lib.rt:147:9
 returns : tie.Need-returns
 returns c = let d = c .before .before in c .refused .ensures ∙ not-read _ _ (d .load .ensures .right) (c .before .if1 .taken)
 
--- src/lib.rt:150:18
 word-requires : tie.Need-word-requires
 word-requires c κs = let d = c .before in head-inside (d .before .before .before .before .before .before .args .s .now) _ (d .load .ensures .right) (c .if1 .left) 1 (omega arith)
 
--- src/lib.rt:151:16
 word-requires-2 : tie.Need-word-requires-2
 word-requires-2 c κs = let e = c .before in
     let d = e .before in
     head-inside (d .before .before .before .before .before .before .args .s .now) _ (d .load .ensures .right) (e .if1 .left) 2 (omega arith)
 
--- src/lib.rt:138:1
 returns-2 : tie.Need-returns-2
 returns-2 c = let e = c .before .before in
     let d = e .before in

@@ -2,46 +2,33 @@ use Rattle.planfile.proofs.Stores.{w-refused, w-links, w-short, w-writt
 use borrow.Author.Needs.{needs}
 use Rattle.planfile.proofs.write.Statement.{statement}
 use Rattle.planfile.proofs.write.Tie as tie
-use Rattle.planfile.proofs.write.Reads as reads
-use Rattle.planfile.proofs.write.Lts as lts
-use Rattle.plan.proofs.check_columns.Reads as check-columns-reads
-use Rattle.planfile.proofs.put_plan.Reads as put-plan-reads
 
--- src/lib.rt:216:9
 check-columns-requires : tie.Need-check-columns-requires
 check-columns-requires c κs = search needs
 
--- src/lib.rt:218:9
 returns : tie.Need-returns
 returns c = w-refused _ _ _ (c .before .check-columns .ensures) (c .if1 .taken)
 
--- src/lib.rt:220:29
 cast-if2 : tie.Need-cast-if2
 cast-if2 c = search needs
 
--- src/lib.rt:220:24
 mul-if2 : tie.Need-mul-if2
 mul-if2 c = search needs
 
--- src/lib.rt:220:20
 add-if2 : tie.Need-add-if2
 add-if2 c = search needs
 
--- src/lib.rt:221:9
 returns-2 : tie.Need-returns-2
 returns-2 c = let e = c .before in w-short _ _ _ (e .before .check-columns .ensures) (e .if1 .left) (c .if2 .taken)
 
--- src/lib.rt:223:5
 put-plan-requires : tie.Need-put-plan-requires
 put-plan-requires c κs = let e2 = c .before .before .before .before .before .before in
     let e1 = e2 .before in
     (w-links (e1 .before .before .before .before .before .before .before .before .args .t1) _ (e1 .before .check-columns .ensures) (e1 .if1 .left), e2 .if2 .left)
 
--- src/lib.rt:211:1
 same-length : tie.Need-same-length
 same-length c = search needs
 
--- src/lib.rt:211:1
 returns-3 : tie.Need-returns-3
 returns-3 c = let q = c .before .before in
     let e2 = q .before .before .before .before .before .before .before in

@@ -1,24 +1,16 @@
-use Prim.Native.Nat.{_<_}
 use native.Mathlib.Omega.{arith}
 use mathlib.Core.Path.{_∙_}
 use Rattle.plan.proofs.Labels.{one-part-is}
 use borrow.Author.Needs.{needs}
 use Rattle.plan.proofs.parts.connected.Statement.{statement}
 use Rattle.plan.proofs.parts.connected.Tie as tie
-use Rattle.plan.proofs.parts.connected.Reads as reads
-use Rattle.plan.proofs.parts.connected.Lts as lts
-use Rattle.plan.proofs.parts.merge.Reads as merge-reads
-use Rattle.plan.proofs.parts.one_part.Reads as one-part-reads
 
--- src/parts.rt:89:5
 merge-requires : tie.Need-merge-requires
 merge-requires c κs = search needs
 
--- src/parts.rt:90:5
 one-part-requires : tie.Need-one-part-requires
 one-part-requires c κs = search needs
 
--- src/parts.rt:84:1
 returns : tie.Need-returns
 returns c = c .one-part .ensures ∙ one-part-is _ _ 192 (c .before .before .before .before .pre .0) (omega arith) _ (c .before .before .merge .ensures)
 

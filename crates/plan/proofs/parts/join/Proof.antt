@@ -2,19 +2,13 @@ use Rattle.plan.proofs.Labels.{rename-same}
 use borrow.Author.Needs.{needs}
 use Rattle.plan.proofs.parts.join.Statement.{statement}
 use Rattle.plan.proofs.parts.join.Tie as tie
-use Rattle.plan.proofs.parts.join.Reads as reads
-use Rattle.plan.proofs.parts.join.Lts as lts
-use Rattle.plan.proofs.parts.relabel.Reads as relabel-reads
 
--- src/parts.rt:49:9
 relabel-requires : tie.Need-relabel-requires
 relabel-requires c κs = search needs
 
--- src/parts.rt:44:1
 returns : tie.Need-returns
 returns c = search needs
 
--- src/parts.rt:44:1
 returns-2 : tie.Need-returns-2
 returns-2 c = rename-same _ _ 192 _ (c .before .pre) (c .if1 .left)
 

@@ -1,8 +1,8 @@
-use Prim.Native.Nat.{ℕ, _≤_, _<_, _-_}
+use Prim.Native.Nat.{_≤_, _<_, _-_}
 use native.Mathlib.Omega.{arith}
 use native.Mathlib.Numerals.{add-one}
-use mathlib.Core.Path.{_≡_, refl, sym, ap, _∙_}
-use lib.ListN.{length, getD}
+use mathlib.Core.Path.{_≡_, _∙_}
+use lib.ListN.{getD}
 use Rattle.graph.specs.Decide.{label}
 use Rattle.base.specs.Table.{tabulate, length-tabulate}
 use Rattle.plan.specs.Links.{edges}
@@ -10,10 +10,6 @@ use Rattle.plan.proofs.Labels.{all, merge-turn}
 use borrow.Author.Needs.{needs}
 use Rattle.plan.proofs.parts.merge.Statement.{statement}
 use Rattle.plan.proofs.parts.merge.Tie as tie
-use Rattle.plan.proofs.parts.merge.Reads as reads
-use Rattle.plan.proofs.parts.merge.Lts as lts
-use Rattle.plan.proofs.parts.join.Reads as join-reads
-use Rattle.plan.proofs.parts.number.Reads as number-reads
 
 abbrev Inv-loop : tie.InvT-loop
 Inv-loop l lower higher parts₀ k₀ parts k = (k ≤ l) × (parts ≡ tabulate 192 (label (edges l lower higher) all k))
@@ -26,67 +22,52 @@ ends : (c : tie.In-loop Inv-loop μ-loop) →
     (getD (c .before .before .before .before .args .lower .now) (c .before .loop .k) 0 < 192) × (getD (c .before .before .before .before .args .higher .now) (c .before .loop .k) 0 < 192)
 ends c = c .before .before .before .before .pre .2 (c .before .loop .k) (c .loop-test .taken)
 
--- src/parts.rt:58:5
 number-requires : tie.Need-number-requires Inv-loop μ-loop
 number-requires c κs = c .before .pre .0
 
--- src/parts.rt:60:5
 loop-holds : tie.Need-loop-holds Inv-loop μ-loop
 unfolding label
 loop-holds c = (omega arith, c .number .ensures)
 
--- src/parts.rt:61:23
 mul-a : tie.Need-mul-a Inv-loop μ-loop
 mul-a c = search needs
 
--- src/parts.rt:61:23
 element-copy-out-a : tie.Need-element-copy-out-a Inv-loop μ-loop
 element-copy-out-a c = omega arith
 
--- src/parts.rt:61:23
 cast-a : tie.Need-cast-a Inv-loop μ-loop
 cast-a c = omega (arith, ends (c .before) .0)
 
--- src/parts.rt:61:17
 element-copy-out-a-2 : tie.Need-element-copy-out-a-2 Inv-loop μ-loop
 element-copy-out-a-2 c = ends (c .before) .0
 
--- src/parts.rt:62:23
 mul-b : tie.Need-mul-b Inv-loop μ-loop
 mul-b c = search needs
 
--- src/parts.rt:62:23
 element-copy-out-b : tie.Need-element-copy-out-b Inv-loop μ-loop
 element-copy-out-b c = search needs
 
--- src/parts.rt:62:23
 cast-b : tie.Need-cast-b Inv-loop μ-loop
 cast-b c = omega (arith, ends (c .before .before .before) .1)
 
--- src/parts.rt:62:17
 element-copy-out-b-2 : tie.Need-element-copy-out-b-2 Inv-loop μ-loop
 element-copy-out-b-2 c = ends (c .before .before .before) .1
 
--- src/parts.rt:63:9
 join-requires : tie.Need-join-requires Inv-loop μ-loop
 join-requires c κs = let e = c .before .before .before .before .before .before in rw (e .loop .inv .1) (length-tabulate 192 _)
 
--- src/parts.rt:64:9
 add-k : tie.Need-add-k Inv-loop μ-loop
 add-k c = search needs
 
--- src/parts.rt:60:5
 loop-less : tie.Need-loop-less Inv-loop μ-loop
 loop-less c = search needs
 
--- src/parts.rt:60:5
 loop-again : tie.Need-loop-again Inv-loop μ-loop
 loop-again c = let turn = c .before .before .before .before .before .before in
     let e = turn .before in
     let both = ends turn in
     (omega arith, rw add-one (c .join .ensures ∙ merge-turn _ _ 192 _ (e .loop .inv .1) (both .0) (both .1)))
 
--- src/parts.rt:54:1
 returns : tie.Need-returns Inv-loop μ-loop
 returns c = let e = c .before in rw (let q : e .loop .k ≡ e .before .before .before .args .l = omega arith in q) at (e .loop .inv .1)
 

@@ -1,14 +1,12 @@
-use Prim.Native.Nat.{ℕ, _≤_, _-_}
+use Prim.Native.Nat.{_≤_, _-_}
 use native.Mathlib.Omega.{arith}
 use native.Mathlib.Numerals.{add-one}
-use mathlib.Core.Path.{_≡_, refl, sym, _∙_}
+use mathlib.Core.Path.{_≡_, refl, _∙_}
 use lib.ListN.{getD}
 use Rattle.base.specs.Table.{tabulate, upto, fill-start, fill-turn, fill-end}
 use borrow.Author.Needs.{needs}
 use Rattle.plan.proofs.parts.number.Statement.{statement}
 use Rattle.plan.proofs.parts.number.Tie as tie
-use Rattle.plan.proofs.parts.number.Reads as reads
-use Rattle.plan.proofs.parts.number.Lts as lts
 
 abbrev Inv-loop : tie.InvT-loop
 Inv-loop parts₀ v₀ parts v = (v ≤ 192) × (parts ≡ tabulate 192 (upto v (λ k. k) (λ k. getD parts₀ k 0)))
@@ -16,31 +14,24 @@ Inv-loop parts₀ v₀ parts v = (v ≤ 192) × (parts ≡ tabulate 192 (upto v 
 abbrev μ-loop : tie.MeasureT-loop
 μ-loop parts₀ v₀ parts v = 192 - v
 
--- src/parts.rt:25:5
 loop-holds : tie.Need-loop-holds Inv-loop μ-loop
 loop-holds c = (omega arith, fill-start 192 _ _ _ (c .pre) (λ k l. refl))
 
--- src/parts.rt:26:15
 cast-parts : tie.Need-cast-parts Inv-loop μ-loop
 cast-parts c = search needs
 
--- src/parts.rt:26:9
 element-write-parts : tie.Need-element-write-parts Inv-loop μ-loop
 element-write-parts c = search needs
 
--- src/parts.rt:27:9
 add-v : tie.Need-add-v Inv-loop μ-loop
 add-v c = search needs
 
--- src/parts.rt:25:5
 loop-less : tie.Need-loop-less Inv-loop μ-loop
 loop-less c = search needs
 
--- src/parts.rt:25:5
 loop-again : tie.Need-loop-again Inv-loop μ-loop
 loop-again c = let e = c .before in (omega arith, rw (e .loop .inv .1, add-one) (fill-turn 192 _ _ _ _ (c .loop-test .taken) refl))
 
--- src/parts.rt:21:1
 returns : tie.Need-returns Inv-loop μ-loop
 returns c = let e = c .before in e .loop .inv .1 ∙ fill-end 192 _ _ _ (c .loop-test .left)
 

@@ -1,6 +1,5 @@
-use Rattle.plan.proofs.Laws.{every-of-none}
+use Rattle.plan.proofs.Laws.{every-of-none, every-goes-on, every-stops}
 use borrow.Author.Tests.{eq-eqb, ne-eqb}
-use Rattle.plan.proofs.Laws.{every-goes-on, every-stops}
 use Prim.Native.Nat.{ℕ, _≤_, _-_}
 use native.Mathlib.Omega.{arith}
 use mathlib.Core.Path.{_≡_, refl, sym, _∙_}
@@ -12,8 +11,6 @@ use Rattle.base.specs.Test.{every}
 use borrow.Author.Needs.{needs}
 use Rattle.plan.proofs.parts.one_part.Statement.{statement}
 use Rattle.plan.proofs.parts.one_part.Tie as tie
-use Rattle.plan.proofs.parts.one_part.Reads as reads
-use Rattle.plan.proofs.parts.one_part.Lts as lts
 
 abbrev same : List ℕ → ℕ → Bool
 same parts v = eqb (getD parts 0 0) (getD parts v 0)
@@ -24,35 +21,27 @@ Inv-loop parts n v₀ v = (v ≤ n) × (every n (same parts) ≡ every v (same p
 abbrev μ-loop : tie.MeasureT-loop
 μ-loop parts n v₀ v = v
 
--- src/parts.rt:71:5
 loop-holds : tie.Need-loop-holds Inv-loop μ-loop
 loop-holds c = (omega arith, refl)
 
--- src/parts.rt:72:9
 sub-v : tie.Need-sub-v Inv-loop μ-loop
 sub-v c = search needs
 
--- src/parts.rt:73:12
 element-copy-out-if1 : tie.Need-element-copy-out-if1 Inv-loop μ-loop
 element-copy-out-if1 c = search needs
 
--- src/parts.rt:73:24
 element-copy-out-if1-2 : tie.Need-element-copy-out-if1-2 Inv-loop μ-loop
 element-copy-out-if1-2 c = search needs
 
--- src/parts.rt:74:13
 returns : tie.Need-returns Inv-loop μ-loop
 returns c = let e = c .before .before .before .before in sym (e .loop .inv .1 ∙ every-stops _ _ (c .before .before .before .loop-test .taken) (ne-eqb _ _ (c .if1 .taken)))
 
--- src/parts.rt:71:5
 loop-less : tie.Need-loop-less Inv-loop μ-loop
 loop-less c = search needs
 
--- src/parts.rt:71:5
 loop-again : tie.Need-loop-again Inv-loop μ-loop
 loop-again c = let e = c .before .before .before .before in (omega arith, e .loop .inv .1 ∙ every-goes-on _ _ (c .before .before .before .loop-test .taken) (eq-eqb _ _ (c .if1 .left)))
 
--- src/parts.rt:66:1
 returns-2 : tie.Need-returns-2 Inv-loop μ-loop
 returns-2 c = sym (c .before .loop .inv .1 ∙ every-of-none _ _ (c .loop-test .left))
 

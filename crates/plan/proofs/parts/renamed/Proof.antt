@@ -1,17 +1,12 @@
 use mathlib.Core.Path.{sym}
 use borrow.Author.Tests.{ne-eqb}
 use Rattle.graph.specs.Labels.{rename, rename-from}
-use borrow.Author.Needs.{needs}
 use Rattle.plan.proofs.parts.renamed.Statement.{statement}
 use Rattle.plan.proofs.parts.renamed.Tie as tie
-use Rattle.plan.proofs.parts.renamed.Reads as reads
-use Rattle.plan.proofs.parts.renamed.Lts as lts
 
--- src/parts.rt:14:1
 returns : tie.Need-returns
 returns c = rw (c .if1 .taken) (sym (rename-from _ _))
 
--- src/parts.rt:14:1
 returns-2 : tie.Need-returns-2
 unfolding rename
 returns-2 c = simp (ne-eqb _ _ (c .if1 .left))
