@@ -14,8 +14,12 @@ use Rattle.graph.specs.Order.{Order}
 use Rattle.plan.specs.declared.Plan.{Plan}
 
 -- "A link's cost is the sum of its readings."
+abbrev pub costOf : ℕ → ℕ → ℕ
+costOf near far = near + far
+
+-- of link k, from the columns of readings
 unfoldable pub costIn : List ℕ → List ℕ → ℕ → ℕ
-costIn near far k = getD near k 0 + getD far k 0
+costIn near far k = costOf (getD near k 0) (getD far k 0)
 
 -- "Link a is earlier than b if its cost is less, or costs are equal and its number is less"
 unfoldable pub earlierIn : List ℕ → List ℕ → ℕ → ℕ → Bool

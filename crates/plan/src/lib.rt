@@ -1,12 +1,12 @@
 // Plans: the plan value, the order of its links, its check, the ceiling.
 ghost use mathlib.Core.Path.{_≡_};
 ghost use mathlib.Core.Logic.{_⊎_};
-ghost use Prim.Native.Nat.{_+_, _<_, _≤_};
+ghost use Prim.Native.Nat.{_<_, _≤_};
 ghost use Rattle.base.specs.Log.{log2};
 ghost use Rattle.plan.specs.Ceiling.{ceiling};
 ghost use Rattle.plan.specs.Links.{planOf};
 ghost use Rattle.plan.specs.Refusal.{ascends, inOrder, linkVerdict, linksRefusal, planRefusal};
-ghost use Rattle.plan.specs.Weights.{earlierIn, beforeIn};
+ghost use Rattle.plan.specs.Weights.{costOf, earlierIn, beforeIn};
 
 mod parts;
 
@@ -42,7 +42,7 @@ pub fn ceiling(n: u16, l: u16) -> u32
 
 // A link's cost.
 pub fn cost(near: u16, far: u16) -> u32
-    ensures { λ r. ⌜ r ≡ near + far ⌝ }
+    ensures { λ r. ⌜ r ≡ costOf near far ⌝ }
 {
     near as u32 + far as u32
 }
