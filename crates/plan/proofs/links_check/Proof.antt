@@ -1,3 +1,4 @@
+-- The refusal of all links is that of the links from k on.
 use Prim.Native.Nat.{_≤_, _-_}
 use native.Mathlib.Omega.{arith}
 use mathlib.Core.Path.{_≡_, refl, sym, _∙_}

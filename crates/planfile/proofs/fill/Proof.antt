@@ -1,3 +1,4 @@
+-- After k links each column has its numbers of the first k links, zeros past them.
 use Prim.Native.Nat.{_<_, _≤_, _-_}
 use native.Mathlib.Omega.{arith}
 use mathlib.Core.Path.{_≡_}

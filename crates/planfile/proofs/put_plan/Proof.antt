@@ -1,3 +1,4 @@
+-- After k links the stores are those of the first k links, past the head.
 use Prim.Native.Nat.{_≤_, _-_}
 use native.Mathlib.Omega.{arith}
 use mathlib.Core.Path.{_≡_, refl, _∙_}

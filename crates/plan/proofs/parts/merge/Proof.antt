@@ -1,3 +1,4 @@
+-- After k links the labels are the graph's labels of the first k links.
 use Prim.Native.Nat.{_≤_, _<_, _-_}
 use native.Mathlib.Omega.{arith}
 use native.Mathlib.Numerals.{add-one}

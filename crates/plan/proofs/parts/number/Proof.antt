@@ -1,3 +1,4 @@
+-- The first v labels are their own numbers.
 use Prim.Native.Nat.{_≤_, _-_}
 use native.Mathlib.Omega.{arith}
 use native.Mathlib.Numerals.{add-one}

@@ -1,3 +1,4 @@
+-- The test of all n is the test of the v that are left.
 use Rattle.plan.proofs.Laws.{every-of-none, every-goes-on, every-stops}
 use borrow.Author.Tests.{eq-eqb, ne-eqb}
 use Prim.Native.Nat.{ℕ, _≤_, _-_}

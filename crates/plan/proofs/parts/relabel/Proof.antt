@@ -1,3 +1,4 @@
+-- The first v labels are renamed, the others as they were.
 use mathlib.Core.Path.{ap, _≡_, refl, _∙_}
 use Rattle.base.specs.Table.{fill-next, tabulate, upto, fill-start, fill-turn, fill-end}
 use Prim.Native.Nat.{_≤_, _-_}
