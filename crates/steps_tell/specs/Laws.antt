@@ -1,6 +1,7 @@
 -- Laws for the steps that send Initiates.
-use Rattle.protocol.specs.Prelude.{ℕ, _<_, arith, up, down, _≡_, sym, ap, subst, _∙_, inl, inr, ⊎-elim, List, Msg, report, initiate, sumL}
-use Rattle.protocol.specs.Prelude.{Plan, Ends, Graph, Joins, ends-same, State, set-ch, isCI, arg1, arg2, arg3, In, Bef, GL, Child, CoreEnds, Spent}
+use Rattle.protocol.specs.Prelude.{ℕ, _<_, arith, up, down, _≡_, refl, sym, ap, subst, _∙_, inl, inr, ⊎-elim, List, Msg, report, initiate, sumL, Plan, Ends}
+use Rattle.protocol.specs.Prelude.{Graph, Joins, ends-same, State, set-ch, isCI, arg1, arg2, arg3, In, Bef, GL, Child, CoreEnds, Spent, Bool, true, false, _≢_}
+use Rattle.protocol.specs.Prelude.{_⊎_, [], _∷_, _++_, fan, fan-elim, fill, fill-elim}
 use Rattle.protocol.specs.Traffic.{Reports}
 
 -- an end of an edge is a node
@@ -11,6 +12,9 @@ ends-node p {k} (down l e f) = omega (arith, p.ends-lt k l .1)
 -- the other ends of an edge, met twice
 pub beyond : {g : Graph} {k j u w v z : ℕ} → Joins g k u v → Joins g j w z → u ≡ w → k ≡ j → v ≡ z
 beyond {g} {j} {u} {z} a b e f = ends-same a (subst (λ d. Joins g d u z) (sym f) (subst (λ d. Joins g j d z) (sym e) b))
+
+pub ends-at : {g : Graph} {j v w y : ℕ} → v ≡ w → Joins g j w y → Joins g j v y
+ends-at {g} {j} {y} e h = subst (λ n. Joins g j n y) (sym e) h
 
 pub init-eq : {a b f c x d : ℕ} → a ≡ b → f ≡ c → x ≡ d → initiate a f x ≡ initiate b c d
 init-eq {a} {b} {f} {c} {x} {d} p q r = ap (λ n. initiate n f x) p ∙ ap (λ n. initiate b n x) q ∙ ap (λ n. initiate b c n) r
@@ -23,6 +27,21 @@ pub six {κ} : (P : ℕ → ℕ → ℕ → ℕ → ℕ → ℕ → Type κ) {k 
     → P k v u a f x → P j w z b c d
 six P {k} {j} {v} {w} {u} {z} {a} {b} {f} {c} {x} {d} o y n e h =
     three (λ m g e. P j w z m g e) (sym (ap arg1 e)) (sym (ap arg2 e)) (sym (ap arg3 e)) (three (λ m g e. P m g e a f x) o y n h)
+
+-- what is sent, and what is filled in, where v sends a copy
+module _ (v : ℕ) (f : ℕ → Bool) (j : ℕ) (h : f j ≡ true) where
+  clash : (v ≢ v) ⊎ (f j ≡ false) → ⊥
+  clash (inl n) = n refl
+  clash (inr e) = let z : _≡_ {A = ℕ} 0 1 = absurd-bool (sym h ∙ e) in omega arith
+    where
+      absurd-bool : true ≡ false → _≡_ {A = ℕ} 0 1
+      absurd-bool q = cc
+
+  pub fan-here : (c : ℕ → ℕ → List Msg) (m : Msg) → fan c v f m v j ≡ c v j ++ (m ∷ [])
+  fan-here c m = fan-elim (λ l. l ≡ c v j ++ (m ∷ [])) c v f m v j (λ a b. refl) (λ n. absurd (clash n))
+
+  pub fill-here : (t : ℕ → ℕ → ℕ) (x : ℕ) → fill t v f x v j ≡ x
+  fill-here t x = fill-elim (λ y. y ≡ x) t v f x v j (λ a b. refl) (λ n. absurd (clash n))
 
 -- channels c′ of which those that hold a Report are as they were: the clauses on Reports stay
 module _ (p : Plan) (s : State) (c′ : ℕ → ℕ → List Msg) where

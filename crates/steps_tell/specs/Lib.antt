@@ -4,3 +4,7 @@ pub mod CoreReply
 pub mod Sunk
 pub mod AbsorbTables
 pub mod Absorb
+pub mod Heard
+pub mod TellTables
+pub mod TellReports
+pub mod Tell
