@@ -6,7 +6,7 @@ use mathlib.Core.Logic.{_≢_, _⊎_, inl, inr}
 use mathlib.Core.Bool.{Bool, cond}
 use lib.Dec.{eqb}
 use Rattle.base.specs.Cond.{eqb-cases}
-use Rattle.graph.specs.Graph.{Graph, Joins}
+use Rattle.graph.specs.Graph.{Graph, Joins, up, down}
 use Rattle.graph.specs.Order.{Order, InTree}
 use Rattle.graph.specs.Ways.{joins-lt, ends-diff}
 use Rattle.graph.specs.Rank as R
@@ -69,3 +69,8 @@ module _ (p : Plan) where
 
   pub ends-rank : {k u v : ℕ} → Ends p k u v → rank p k < p.g.L
   ends-rank {k} e = rank-lt k (joins-lt e)
+
+  -- an end of an edge is a node
+  pub end-lt : {k u v : ℕ} → Ends p k u v → u < p.N
+  end-lt {k} (up l a b) = omega (arith, p.ends-lt k l .0)
+  end-lt {k} (down l a b) = omega (arith, p.ends-lt k l .1)

@@ -9,7 +9,7 @@ use Rattle.protocol.specs.Prelude.{GL, GC, DK, Inf, Jn, Half, Told, Root, Inv, 
 use Rattle.protocol.specs.Traffic.{Tokens, Telling, Testing, Ordered}
 
 -- what is put back is no Initiate
-not-initiate : (s : State) (v k : ℕ) (m : Msg) → Blocked s v k m → isI m ≡ 0
+pub not-initiate : (s : State) (v k : ℕ) (m : Msg) → Blocked s v k m → isI m ≡ 0
 not-initiate s v k (connect l) h = refl
 not-initiate s v k (initiate l f x) h = absurd h
 not-initiate s v k (test l f) h = refl

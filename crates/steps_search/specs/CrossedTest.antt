@@ -17,10 +17,10 @@ module _ {p : Plan} {s : State} (i : Inv p s) {u v k l f c : ℕ} {r : List Msg}
   within = inside i ends head low same
 
   -- u waits on k too and is not Rejected, or it crossed and is Rejected at u
-  abbrev Meets : Type 0
+  abbrev pub Meets : Type 0
   Meets = (Waits s u k × (s.mark u k ≢ 2)) ⊎ ((s.te u ≢ k) × (s.mark u k ≡ 2))
 
-  meets : Meets
+  pub meets : Meets
   meets = ⊎-elim (λ t. inl (t .0, t .1)) (λ t. inr (⊎-elim (λ n. n) (λ o. absurd (omega (arith, idle .0))) (t .0), t .1)) (i.E1.e1w k u v l f ends head)
 
   -- so k is Basic at v: joined it would not be both their test edges
@@ -31,11 +31,11 @@ module _ {p : Plan} {s : State} (i : Inv p s) {u v k l f c : ℕ} {r : List Msg}
       let b = branch-v i ends head low same o in
       absurd (⊎-elim (λ t. i.E2.e2i k v u (flip ends) wait (o, b) .1 (t .0 .0)) (λ t. omega (arith, t .1)) meets))
 
-  one : 1 ≤ sumL isT (s.ch u k)
+  pub one : 1 ≤ sumL isT (s.ch u k)
   one = in-sum isT head
 
   -- no answer is on its way to v
-  unanswered : sumL isA (s.ch u k) ≡ 0
+  pub unanswered : sumL isA (s.ch u k) ≡ 0
   unanswered = ⊎-elim
       (λ t. no-answers (s.ch u k) (λ n. i.A1.a1 k u v ends n .a1f within) (λ n. t .1 (i.A1.j1 k u v ends n .j1m basic)))
       (λ t. omega (arith, i.E1.e2c k v u (flip ends) wait (inl (t .0)), one)) meets

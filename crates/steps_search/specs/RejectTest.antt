@@ -45,7 +45,7 @@ module _ {p : Plan} {s : State} (i : Inv p s) {u v k l f c : ℕ} {r : List Msg}
   head : In (test l f) (s.ch u k)
   head = pop-head s.ch u k q
 
-  one : 1 ≤ sumL isT (s.ch u k)
+  pub one : 1 ≤ sumL isT (s.ch u k)
   one = in-sum isT head
 
   pub within : s.fr v ≡ s.fr u
@@ -75,10 +75,10 @@ module _ {p : Plan} {s : State} (i : Inv p s) {u v k l f c : ℕ} {r : List Msg}
       (λ t. absurd (omega (arith, branch-v i ends head low same (omega (arith, i.W0.mark-le v k, open-v, t .0))))) strike
 
   -- the Test was the one of three, and v has sent none over k
-  no-own : sumL isT (s.ch v k) ≡ 0
+  pub no-own : sumL isT (s.ch v k) ≡ 0
   no-own = no-tests (s.ch v k) (λ a b h. ⊎-elim (λ t. other (t .0 .0)) (λ t. open-v (t .1)) (i.E1.e1w k v u a b (flip ends) h))
 
-  alone : sumL isT (s.ch u k) + sumL isA (s.ch v k) + sumL isT (s.ch v k) ≡ 1
+  pub alone : sumL isT (s.ch u k) + sumL isA (s.ch v k) + sumL isT (s.ch v k) ≡ 1
   alone = i.E1.e2c k u v ends waits (inl other)
 
   pub unanswered : sumL isA (s.ch v k) ≡ 0

@@ -1,6 +1,6 @@
 -- In a stuck state an undecided fragment waits for one of a lower level, and one that is half for one that is half on an earlier edge.
 use Rattle.protocol.specs.Prelude.{ℕ, zero, suc, _+_, _-_, _≤_, _<_, arith, _≡_, refl, sym, ap, subst, _∙_, _≢_, _⊎_, inl, inr, ⊎-elim, by-eq, sum, sumL, le-sum}
-use Rattle.protocol.specs.Prelude.{Msg, none, connect, initiate, test, accept, reject, report, change, Plan, Ends, up, down, joins-lt, flip, ends-two, ends-irr, edge-some, State}
+use Rattle.protocol.specs.Prelude.{Msg, none, connect, initiate, test, accept, reject, report, change, Plan, Ends, end-lt, up, joins-lt, flip, ends-two, ends-irr, edge-some, State}
 use Rattle.protocol.specs.Prelude.{rank, rank-inj, isT, isR, In, some-test, some-report, GL, GC, DK, Inf, Jn, Half, Waits, Inv, down-core, half-of}
 use mathlib.Core.Logic.{Dec·and}
 use native.Mathlib.Decide.{ℕ-discrete}
@@ -13,11 +13,6 @@ some-term zero f h = absurd (h refl)
 some-term (suc n) f h = by-eq (f n) 0
     (λ z. let t = some-term n f (λ e. h (omega arith)) in (t .0, omega (arith, t .1), t .2))
     (λ z. (n, omega arith, z))
-
--- an end of an edge is a node
-pub end-lt : (p : Plan) {k u v : ℕ} → Ends p k u v → u < p.N
-end-lt p {k} (up l a b) = omega (arith, p.ends-lt k l .0)
-end-lt p {k} (down l a b) = omega (arith, p.ends-lt k l .1)
 
 module _ {p : Plan} {s : State} (i : Inv p s) (t : Stuck p s) where
   -- a Report is waited for by a Find node, over its in-branch

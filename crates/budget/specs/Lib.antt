@@ -1,0 +1,6 @@
+pub mod Paid
+pub mod Height
+pub mod Still
+pub mod AcceptTest
+pub mod RejectTest
+pub mod Again
