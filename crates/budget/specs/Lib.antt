@@ -4,3 +4,5 @@ pub mod Still
 pub mod AcceptTest
 pub mod RejectTest
 pub mod Again
+pub mod TestNext
+pub mod Report
