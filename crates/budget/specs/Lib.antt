@@ -6,3 +6,4 @@ pub mod RejectTest
 pub mod Again
 pub mod TestNext
 pub mod Report
+pub mod Half

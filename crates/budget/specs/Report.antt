@@ -21,8 +21,8 @@ module _ {p : Plan} {z n : ℕ} {s : State} (i : Inv p s) (h : Paid p z s n) whe
         H = heights-send s.ch v k (report (s.bw v)) refl (h.H);
         D = record {
           rp1 = λ w a. by-eq v w
-            (λ e. omega (arith, ap (upd s.due v 0) e, upd-same s.due v 0))
-            (λ d. omega (arith, upd-other s.due v 0 w d, upd-other (h.rp) v 0 w d, h.D .rp1 w a));
+              (λ e. omega (arith, ap (upd s.due v 0) e, upd-same s.due v 0))
+              (λ d. omega (arith, upd-other s.due v 0 w d, upd-other (h.rp) v 0 w d, h.D .rp1 w a));
           rt0 = h.D .rt0;
           rt1 = h.D .rt1;
           rt2 = h.D .rt2;
@@ -31,8 +31,8 @@ module _ {p : Plan} {z n : ℕ} {s : State} (i : Inv p s) (h : Paid p z s n) whe
         T = record {
           ts0 = h.T .ts0;
           ts1 = λ w a b c. by-eq v w
-            (λ e. absurd (omega (arith, c, ap (upd s.due v 0) e, upd-same s.due v 0)))
-            (λ d. h.T .ts1 w a b (sym (upd-other s.due v 0 w d) ∙ c));
+              (λ e. absurd (omega (arith, c, ap (upd s.due v 0) e, upd-same s.due v 0)))
+              (λ d. h.T .ts1 w a b (sym (upd-other s.due v 0 w d) ∙ c));
           ts2 = h.T .ts2;
         };
         L = links-send s.ch v k (report (s.bw v)) (record { no-init = refl; no-test = refl; no-yes = refl }) (h.L);
@@ -56,19 +56,19 @@ module _ {p : Plan} {z n : ℕ} {s : State} (i : Inv p s) (h : Paid p z s n) whe
         D = record {
           rp1 = h.D .rp1;
           rt0 = λ w a. upd-elim (λ y. (y ≡ 0) ⊎ (y ≡ 4) → 1 ≤ upd (h.rt) v 0 w) s.dk (s.fr v) 2 (s.fr w)
-            (λ e b. absurd (⊎-elim two-not two-not4 b))
-            (λ d b. omega (arith, upd-other (h.rt) v 0 w (λ e. d (ap s.fr e)), h.D .rt0 w a b));
+              (λ e b. absurd (⊎-elim two-not two-not4 b))
+              (λ d b. omega (arith, upd-other (h.rt) v 0 w (λ e. d (ap s.fr e)), h.D .rt0 w a b));
           rt1 = λ w a. upd-elim (λ y. y ≤ 2 → s.lev w < GL s w → 1 ≤ upd (h.rt) v 0 w) s.dk (s.fr v) 2 (s.fr w)
-            (λ e b l. omega (arith, upd-other (h.rt) v 0 w (low v f w l), h.D .rt1 w a (omega (arith, t .0, ap s.dk e)) l))
-            (λ d b l. omega (arith, upd-other (h.rt) v 0 w (low v f w l), h.D .rt1 w a b l));
+              (λ e b l. omega (arith, upd-other (h.rt) v 0 w (low v f w l), h.D .rt1 w a (omega (arith, t .0, ap s.dk e)) l))
+              (λ d b l. omega (arith, upd-other (h.rt) v 0 w (low v f w l), h.D .rt1 w a b l));
           rt2 = λ w a. by-eq (s.fr v) (s.fr w)
-            (λ e b. absurd (omega (arith, b, ap (upd s.dk (s.fr v) 2) e, upd-same s.dk (s.fr v) 2)))
-            (λ d b l. omega (arith, upd-other (h.rt) v 0 w (λ e. d (ap s.fr e)), h.D .rt2 w a (sym (upd-other s.dk (s.fr v) 2 (s.fr w) d) ∙ b) (omega (arith, ap s.dep (upd-other s.dn (s.fr v) v (s.fr w) d)))));
+              (λ e b. absurd (omega (arith, b, ap (upd s.dk (s.fr v) 2) e, upd-same s.dk (s.fr v) 2)))
+              (λ d b l. omega (arith, upd-other (h.rt) v 0 w (λ e. d (ap s.fr e)), h.D .rt2 w a (sym (upd-other s.dk (s.fr v) 2 (s.fr w) d) ∙ b) (omega (arith, ap s.dep (upd-other s.dn (s.fr v) v (s.fr w) d)))));
           rt3 = λ w a. by-eq (s.fr v) (s.fr w)
-            (λ e b l.
+              (λ e b l.
               let dv : s.dep v < s.dep w = omega (arith, ap s.dep (ap (upd s.dn (s.fr v) v) (sym e) ∙ upd-same s.dn (s.fr v) v)) in
               omega (arith, upd-other (h.rt) v 0 w (λ q. irr v w q dv), h.D .rt2 w a (ap s.dk (sym e) ∙ t .0) (omega (arith, ap s.dep (ap s.dn (sym e) ∙ t .1)))))
-            (λ d b l. omega (arith, upd-other (h.rt) v 0 w (λ e. d (ap s.fr e)), h.D .rt3 w a (sym (upd-other s.dk (s.fr v) 2 (s.fr w) d) ∙ b) (omega (arith, ap s.dep (upd-other s.dn (s.fr v) v (s.fr w) d)))));
+              (λ d b l. omega (arith, upd-other (h.rt) v 0 w (λ e. d (ap s.fr e)), h.D .rt3 w a (sym (upd-other s.dk (s.fr v) 2 (s.fr w) d) ∙ b) (omega (arith, ap s.dep (upd-other s.dn (s.fr v) v (s.fr w) d)))));
         };
         T = h.T;
         L = links-send s.ch v k change (record { no-init = refl; no-test = refl; no-yes = refl }) (h.L);
@@ -91,9 +91,9 @@ module _ {p : Plan} {z n : ℕ} {s : State} (i : Inv p s) (h : Paid p z s n) whe
       turned : (v k c : ℕ) → Ends p k v c → Inf s v → Heights p s.lev (upd s.ub v k) (snoc s.ch v k change) (h.tb)
       turned v k c ends f = heights-send s.ch v k change refl (record {
         tb0 = λ w. upd-elim (λ y. y ≡ none → h.tb w ≡ s.lev w) s.ub v k w
-          (λ e b. ap (h.tb) (sym e) ∙ tb-inf i (h.H) v f ∙ sym (f .1) ∙ ap s.lev e) (λ d b. h.H .tb0 w b);
+            (λ e b. ap (h.tb) (sym e) ∙ tb-inf i (h.H) v f ∙ sym (f .1) ∙ ap s.lev e) (λ d b. h.H .tb0 w b);
         tb1 = λ j x w e. upd-elim (λ y. y ≡ j → h.tb w ≡ top (s.lev w) (s.ch x j)) s.ub v k w
-          (λ o b. ap (h.tb) (sym o) ∙ tb-inf i (h.H) v f ∙ sym (f .1) ∙ ap s.lev o
+            (λ o b. ap (h.tb) (sym o) ∙ tb-inf i (h.H) v f ∙ sym (f .1) ∙ ap s.lev o
             ∙ sym (top-none (s.lev w) (s.ch x j) (λ l g y n. no-initiate i j x w l g y e (subst (λ d. Inf s d) o f) n)))
-          (λ d b. h.H .tb1 j x w e b);
+            (λ d b. h.H .tb1 j x w e b);
       })

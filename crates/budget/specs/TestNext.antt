@@ -65,13 +65,13 @@ module _ {p : Plan} {z n : ℕ} {s : State} (i : Inv p s) (h : Paid p z s n) {v 
     };
     L = record {
       ts3 = λ j w x e a c. waits j w a
-        (λ o y. omega (arith, two, sent, ap (λ d. sumL isT (c′ d j)) o, ap (λ d. sumL isT (c′ v d)) y, upd-same (h.ts) v (h.ts v - 1), ap (upd (h.ts) v (h.ts v - 1)) o))
-        (λ d o. omega (arith, upd-other (h.ts) v (h.ts v - 1) w d, h.L .ts3 j w x e o c, off w j (inl d), yes x j));
+          (λ o y. omega (arith, two, sent, ap (λ d. sumL isT (c′ d j)) o, ap (λ d. sumL isT (c′ v d)) y, upd-same (h.ts) v (h.ts v - 1), ap (upd (h.ts) v (h.ts v - 1)) o))
+          (λ d o. omega (arith, upd-other (h.ts) v (h.ts v - 1) w d, h.L .ts3 j w x e o c, off w j (inl d), yes x j));
       lk1 = λ j w x e a c. omega (arith, h.L .lk1 j w x e a c, same w j, same x j);
       lk2 = λ j w x e a c. waits j w a
-        (λ o y. subst (λ d. 2 ≤ h.lk j + LT z s.lev c′ w j + LT z s.lev c′ d j) (beyond j w x e o y)
+          (λ o y. subst (λ d. 2 ≤ h.lk j + LT z s.lev c′ w j + LT z s.lev c′ d j) (beyond j w x e o y)
           (subst (λ d. 2 ≤ h.lk j + LT z s.lev c′ d j + LT z s.lev c′ u j) o (subst (λ d. 2 ≤ h.lk d + LT z s.lev c′ v d + LT z s.lev c′ u d) y (omega (arith, have, same v k, same u k)))))
-        (λ d o. omega (arith, h.L .lk2 j w x e o (omega (arith, off w j (inl d))), same w j, same x j));
+          (λ d o. omega (arith, h.L .lk2 j w x e o (omega (arith, off w j (inl d))), same w j, same x j));
     };
     bal = omega (arith, h.bal, two, sum-upd p.N v (h.ts v - 1) (h.ts) (end-lt p ends));
   }
@@ -101,7 +101,7 @@ module _ {p : Plan} {z n : ℕ} {s : State} (i : Inv p s) (h : Paid p z s n) {v 
       ts3 = λ j w x e a c. waits j w a (λ o y. absurd (c (ap s.lev (sym o) ∙ b))) (λ d o. omega (arith, h.L .ts3 j w x e o c, off w j (inl d), yes x j));
       lk1 = λ j w x e a c. by-eq k j (λ y. on-k j w x e y) (λ d. omega (arith, upd-other (h.lk) k (h.lk k - 1) j d, h.L .lk1 j w x e a c, lt w j (inr d), lt x j (inr d)));
       lk2 = λ j w x e a c. by-eq k j (λ y. on-k j w x e y)
-        (λ d. waits j w a (λ o y. absurd (d y)) (λ f o. omega (arith, upd-other (h.lk) k (h.lk k - 1) j d, h.L .lk2 j w x e o (omega (arith, off w j (inr d))), lt w j (inr d), lt x j (inr d))));
+          (λ d. waits j w a (λ o y. absurd (d y)) (λ f o. omega (arith, upd-other (h.lk) k (h.lk k - 1) j d, h.L .lk2 j w x e o (omega (arith, off w j (inr d))), lt w j (inr d), lt x j (inr d))));
     };
     bal = omega (arith, h.bal, some, sum-upd p.g.L k (h.lk k - 1) (h.lk) (joins-lt ends));
   }
@@ -124,11 +124,11 @@ module _ {p : Plan} {z n : ℕ} {s : State} (i : Inv p s) (h : Paid p z s n) {v 
       on-k : (j w x : ℕ) → Ends p j w x → k ≡ j → 2 ≤ upd (h.lk) k (h.lk k - 1) j + LT z s.lev c′ w j + LT z s.lev c′ x j
       on-k j w x e y = subst (λ d. 2 ≤ upd (h.lk) k (h.lk k - 1) d + LT z s.lev c′ w d + LT z s.lev c′ x d) y
           (⊎-elim
-            (λ o. subst (λ d. 2 ≤ upd (h.lk) k (h.lk k - 1) k + LT z s.lev c′ w k + LT z s.lev c′ d k) (o .1)
-              (subst (λ d. 2 ≤ upd (h.lk) k (h.lk k - 1) k + LT z s.lev c′ d k + LT z s.lev c′ u k) (o .0) full))
-            (λ o. subst (λ d. 2 ≤ upd (h.lk) k (h.lk k - 1) k + LT z s.lev c′ w k + LT z s.lev c′ d k) (o .0)
-              (subst (λ d. 2 ≤ upd (h.lk) k (h.lk k - 1) k + LT z s.lev c′ d k + LT z s.lev c′ v k) (o .1) (omega (arith, full))))
-            (ends-two ends (subst (λ d. Ends p d w x) (sym y) e)))
+          (λ o. subst (λ d. 2 ≤ upd (h.lk) k (h.lk k - 1) k + LT z s.lev c′ w k + LT z s.lev c′ d k) (o .1)
+          (subst (λ d. 2 ≤ upd (h.lk) k (h.lk k - 1) k + LT z s.lev c′ d k + LT z s.lev c′ u k) (o .0) full))
+          (λ o. subst (λ d. 2 ≤ upd (h.lk) k (h.lk k - 1) k + LT z s.lev c′ w k + LT z s.lev c′ d k) (o .0)
+          (subst (λ d. 2 ≤ upd (h.lk) k (h.lk k - 1) k + LT z s.lev c′ d k + LT z s.lev c′ v k) (o .1) (omega (arith, full))))
+          (ends-two ends (subst (λ d. Ends p d w x) (sym y) e)))
 
   pub paid-test-next : Paid p z S′ (n + 1)
   paid-test-next = by-eq (s.lev v) z high low
