@@ -7,3 +7,5 @@ pub mod Again
 pub mod TestNext
 pub mod Report
 pub mod Half
+pub mod Raise
+pub mod Absorb
