@@ -9,3 +9,5 @@ pub mod Report
 pub mod Half
 pub mod Raise
 pub mod Absorb
+pub mod Pick
+pub mod Tell
