@@ -11,3 +11,5 @@ pub mod Raise
 pub mod Absorb
 pub mod Pick
 pub mod Tell
+pub mod Steps
+pub mod Ceiling

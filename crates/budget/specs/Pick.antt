@@ -7,6 +7,10 @@ use lib.Dec.{eqb}
 use Rattle.base.specs.Cond.{bit, by-eq, eqb-same, eqb-diff}
 use Rattle.base.specs.Sum.{sum, sum-le, sum-swap, le-sum}
 
+pub sum-times : (n c : ℕ) (f : ℕ → ℕ) → sum n (λ w. c * f w) ≡ c * sum n f
+sum-times zero c f = omega arith
+sum-times (suc n) c f = omega (arith, sum-times n c f)
+
 -- of all j only a counts
 once : (f : ℕ → ℕ) (a n : ℕ) → sum n (λ j. f j * bit (eqb a j)) ≤ f a
 once f a n = omega (arith, both n)

@@ -6,7 +6,7 @@ use Rattle.protocol.specs.Prelude.{isI, isT, isA, isY, top, top-app, In, fan, f
 use Rattle.protocol.specs.Traffic.{InitOk}
 use Rattle.budget.specs.Paid.{LT, Heights, Dues, Tries, Links, Paid, lt-none, lt-same}
 use Rattle.budget.specs.Height.{tb-le, tb-init}
-use Rattle.budget.specs.Pick.{sum-map}
+use Rattle.budget.specs.Pick.{sum-map, sum-times}
 
 module _ {p : Plan} {z n : ℕ} {s : State} (i : Inv p s) (h : Paid p z s n) {u v k l f x a b d e : ℕ} {r : List Msg} (idle : Idle s) (ends : Ends p k u v)
     (q : s.ch u k ≡ initiate l f x ∷ r) (mode : Mode v x a b) (place : Place s u v k d e) where
@@ -218,13 +218,6 @@ module _ {p : Plan} {z n : ℕ} {s : State} (i : Inv p s) (h : Paid p z s n) {u 
       hit : (j : ℕ) → copy s₁ v k j ≡ true → (w : ℕ) × (w < p.N) × (s.ub w ≡ j)
       hit j t = let y = i.M1.own v j (λ o. omega (arith, copy-yes s₁ v k j t .1)) in (y .0, end-lt p (flip (y .1)), child j (y .0) (y .1) t .0)
 
-  times : (c : ℕ) → sum p.N (λ w. c * bit (kid w)) ≡ c * sum p.N (λ w. bit (kid w))
-  times c = at p.N
-    where
-      at : (j : ℕ) → sum j (λ w. c * bit (kid w)) ≡ c * sum j (λ w. bit (kid w))
-      at zero = omega arith
-      at (suc j) = omega (arith, at j)
-
   pub paid-tell : Paid p z S′ (n + sum p.g.L (λ j. bit (copy s₁ v k j)))
   unfolding ts′ rt′ rp′
   paid-tell = record {
@@ -246,7 +239,7 @@ module _ {p : Plan} {z n : ℕ} {s : State} (i : Inv p s) (h : Paid p z s n) {u 
       sum-add p.N (h.rp) (λ w. 1 * bit (kid w)),
       sum-add p.N (h.ts) (λ w. 2 * bit (kid w)),
       sum-add p.N (h.rt) (λ w. 1 * bit (kid w)),
-      times 1,
-      times 2,
+      sum-times p.N 1 (λ w. bit (kid w)),
+      sum-times p.N 2 (λ w. bit (kid w)),
     );
   }

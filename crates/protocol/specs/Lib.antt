@@ -1,6 +1,7 @@
 pub mod Plan
 pub mod State
 pub mod Step
+pub mod Run
 pub mod Kind
 pub mod Chan
 pub mod Notion

@@ -52,3 +52,4 @@ pub use Rattle.protocol.specs.Post.{before, post-alike, post-top, post-h
 pub use Rattle.protocol.specs.Quiet.{parent-find, climb, no-find, no-due}
 pub use Rattle.protocol.specs.Wake.{upd-id, woken-same}
 pub use Rattle.protocol.specs.Best.{rated, hush-best, connects-best, initiates-best, telling-best, owing-best, ordered-best, tokens-best, reports-best}
+pub use Rattle.protocol.specs.Run.{sends, Steps, done, then}
