@@ -16,7 +16,7 @@ use Rattle.search.specs.Own.{marksIn, marked}
 use Rattle.search.specs.Laws.{mark-own}
 use Rattle.field.specs.Edges.{ownOf, isOwn, over, from, linkOf}
 use Rattle.field.specs.State.{newMark, putMarks}
-use Rattle.fieldlaws.specs.Accepted.{Accepted}
+use Rattle.plan.specs.Accepted.{Accepted}
 use Rattle.fieldlaws.specs.Lists.{OwnOrNone}
 use Rattle.fieldlaws.specs.Places.{mark-at, length-new, over-from, from-own, link-over, over-below, from-over, own-below}
 use Rattle.cells.specs.Marks.{markPut}
@@ -64,4 +64,4 @@ module _ (p : Plan) (a : Accepted p) (marks : List ℕ) (v : ℕ) where
   pub mark-put : 2 * p .links ≤ length marks → (k c : ℕ) → OwnOrNone (ownOf p v) k → markPut (p .lower) marks v k c ≡ putMarks p marks v (marked (marksOf p marks v) k c)
   unfolding markPut marked
   mark-put sized k c (inl e) = rw (eq-eqb k none e) kept
-  mark-put sized k c (inr o) = rw (ne-eqb k none (λ e. omega (arith, own-below p v k o, a .links))) (one-mark sized k o c)
+  mark-put sized k c (inr o) = rw (ne-eqb k none (λ e. omega (arith, own-below p v k o, a .linksOk))) (one-mark sized k o c)

@@ -7,7 +7,7 @@ use lib.Seq.{length-take-le}
 use borrow.Author.Tests.{not-true, not-false}
 use borrow.Author.Needs.{needs}
 use Rattle.field.specs.Valid.{allOf, fits}
-use Rattle.fieldlaws.specs.Accepted.{accepted}
+use Rattle.plan.specs.Accepted.{accepted}
 use Rattle.plan.specs.Links.{planOf}
 use Rattle.fieldcheck.specs.Checked.{stateIn, heldIn}
 use Rattle.fieldcheck.proofs.Outcomes.{checked, valid-plan, valid-few, valid-gap, valid-fits}
@@ -81,7 +81,7 @@ state-fits-requires : tie.Need-state-fits-requires
 state-fits-requires c κs =
     let k = c .before .before .before .before .before .before .before in
     let e = accepted _ (sym (k .check-columns .ensures) ∙ c .before .before .before .before .before .before .if1 .left) in
-    (e .modules, e .links, λ i l. (e .ascends i l, omega (arith, e .within i l, e .modules)))
+    (e .modulesOk, e .linksOk, λ i l. (e .each i l .ordered, omega (arith, e .each i l .inside, e .modulesOk)))
 
 returns-4 : tie.Need-returns-4
 returns-4 c =
