@@ -70,6 +70,11 @@ module _ (p : Plan) (v : ℕ) (w : Work) (s : State) (words back : List ℕ) whe
       (λ l. kept 33 (inr (inl refl)))
       (λ l. took (record { fine = n; room = l; is = refl })))
 
+  settled-answer : (settle p v w s words back .answer ≡ 0) ⊎ (settle p v w s words back .answer ≡ 32) ⊎ (settle p v w s words back .answer ≡ 33)
+  unfolding settle
+  settled-answer = bool-cases (eqb (w .answer) REFUSED) (λ e. rw e (inr (inl refl)))
+      (λ e. rw e (bool-cases (ltb (ceilingOf p) (s .sent + length (w .sends))) (λ b. rw b (inr (inr refl))) (λ b. rw b (inl refl))))
+
 -- the same outcome, told with more facts
 pub outcome-map : {s : State} {P Q : State → Type 0} {a : After State} → ((s′ : State) → P s′ → Q s′) → Outcome s P a → Outcome s Q a
 outcome-map f (took {s′} h) = took (f s′ h)
@@ -127,3 +132,31 @@ module _ (p : Plan) (s : State) where
       (λ n₂. rw (eqb-diff kind 2 n₂) (by-eq kind 3
       (λ e. rw e (outcome-map (λ s′ h. serve-step h) (serves number)))
       (λ n₃. rw (eqb-diff kind 3 n₃) (kept 54 (inr (inr (inr refl)))))))))
+
+-- an outcome whose answer is 0 was taken
+pub took-it : {s : State} {Took : State → Type 0} {a : After State} → Outcome s Took a → a .answer ≡ 0 → Took (a .state)
+took-it (took h) e = h
+took-it (kept r h) e = absurd (refusal-some r h e)
+
+-- ---- a step that is not refused
+
+module _ (p : Plan) (s : State) where
+  -- a word is there to hand over
+  pub hand-fine : (d : ℕ) → d < 2 * p .links → 1 ≤ length (keep (inAir d) (s .words)) → hand p d s .answer ≡ 0
+  unfolding hand
+  hand-fine d l h = rw (lt-leb (2 * p .links) d l, lt-leb (length (s .words)) (place (inAir d) (s .words)) (place-some (inAir d) (s .words) h)) refl
+
+  -- a word is in the queue, and the response is not refused
+  pub serve-fine : (v : ℕ) → v < p .modules → 1 ≤ length (keep (inQueue p v) (s .words)) → serve p v s .answer ≢ 32 → serve p v s .answer ≢ 33 → serve p v s .answer ≡ 0
+  unfolding serve
+  serve-fine v l h = rw (lt-leb (p .modules) v l, lt-leb (length (s .words)) (place (inQueue p v) (s .words)) (place-some (inQueue p v) (s .words) h))
+      (let i = place (inQueue p v) (s .words) in
+      let x = getD (s .words) i 0 in
+      let w = serveWork p v x s in
+      fine (settled-answer p v w s (without i (s .words)) (backOf w x)))
+    where
+      fine : {r : ℕ} → (r ≡ 0) ⊎ (r ≡ 32) ⊎ (r ≡ 33) → r ≢ 32 → r ≢ 33 → r ≡ 0
+      fine (inl e) a b = e
+      fine (inr (inl e)) a b = absurd (a e)
+      fine (inr (inr e)) a b = absurd (b e)
+

@@ -41,13 +41,13 @@ chan d s = ups d s ++ downs d s
 both : (b : Bool) (x d : ℕ) → (b && eqb x d) ≡ true → (b ≡ true) × (x ≡ d)
 both b x d e = let a = and-eq-true-iff b (eqb x d) .0 e in (a .0, eqb-true x d (a .1))
 
-made : (b : Bool) (x d : ℕ) → b ≡ true → x ≡ d → (b && eqb x d) ≡ true
+pub made : (b : Bool) (x d : ℕ) → b ≡ true → x ≡ d → (b && eqb x d) ≡ true
 made b x d e q = ap₂ _&&_ e (eq-eqb x d q)
 
-not-left : (b : Bool) (x d : ℕ) → b ≡ false → (b && eqb x d) ≡ false
+pub not-left : (b : Bool) (x d : ℕ) → b ≡ false → (b && eqb x d) ≡ false
 not-left b x d e = rw e
 
-not-right : (b : Bool) (x d : ℕ) → x ≢ d → (b && eqb x d) ≡ false
+pub not-right : (b : Bool) (x d : ℕ) → x ≢ d → (b && eqb x d) ≡ false
 not-right true x d n = eqb-diff x d n
 not-right false x d n = refl
 

@@ -1,5 +1,5 @@
 -- A response placed in the field: what is read there afterwards. And the numbers of directed links.
-use Prim.Native.Nat.{ℕ, zero, suc, _+_, _*_, _/_, _%_, _≤_, _<_}
+use Prim.Native.Nat.{ℕ, zero, suc, _+_, _-_, _*_, _/_, _%_, _≤_, _<_}
 use native.Mathlib.Nat.{not-suc-le-zero, add-zero}
 use native.Mathlib.Omega.{arith}
 use mathlib.Core.Path.{_≡_, refl, sym, ap, ap₂, subst, _∙_}
@@ -7,7 +7,7 @@ use mathlib.Core.Logic.{_≢_, _⊎_, inl, inr}
 use mathlib.Core.Bool.{Bool, true, false, not, cond, _&&_, _||_, and-eq-true-iff}
 use mathlib.Core.List.{List, [], _∷_}
 use lib.ListN.{length, getD, set, length-set}
-use lib.Seq.{sets, length-sets, getD-set-same, getD-set-other}
+use lib.Seq.{sets, length-sets, getD-set-same, getD-set-other, ext-getD}
 use lib.Dec.{eqb, ltb}
 use borrow.Author.Tests.{ltb-true, eqb-true, eq-eqb, ne-eqb, lt-ltb}
 use Rattle.base.specs.Cond.{bool-cases, eqb-cases, ltb-cases, eqb-diff, by-eq}
@@ -173,3 +173,49 @@ module _ (p : Plan) (v : ℕ) (m : ℕ → ℕ) where
         ∙ rw (lt-ltb (over p u k) (2 * p .links) (over-below p u k o), ne-eqb (from p (over p u k)) v (λ q. d (sym (from-over p u k o) ∙ q)))
         (sym (mark-own (p .links) (p .lower) (p .higher) u k marks o)))
         (λ o. mark-not (p .links) (p .lower) (p .higher) u k (putMarks p marks v m) o ∙ sym (mark-not (p .links) (p .lower) (p .higher) u k marks o))
+
+-- ---- nothing changed: what was read, put back, is what was there
+
+module _ (cells : List ℕ) (v : ℕ) where
+  values-at : (j : ℕ) → j < 9 → getD (values (nodeIn cells (v * 9))) j 0 ≡ getD cells (v * 9 + j) 0
+  values-at zero l = ap (λ k. getD cells k 0) (sym (add-zero (v * 9)))
+  values-at (suc zero) l = refl
+  values-at (suc (suc zero)) l = refl
+  values-at (suc (suc (suc zero))) l = refl
+  values-at (suc (suc (suc (suc zero)))) l = refl
+  values-at (suc (suc (suc (suc (suc zero))))) l = refl
+  values-at (suc (suc (suc (suc (suc (suc zero)))))) l = refl
+  values-at (suc (suc (suc (suc (suc (suc (suc zero))))))) l = refl
+  values-at (suc (suc (suc (suc (suc (suc (suc (suc zero)))))))) l = refl
+  values-at (suc (suc (suc (suc (suc (suc (suc (suc (suc j))))))))) l = absurd (omega arith)
+
+  pub node-back : v * 9 + 9 ≤ length cells → putNode cells v (nodeIn cells (v * 9)) ≡ cells
+  node-back h = ext-getD 0 (putNode cells v n) cells (length-sets cells (v * 9) (values n)) at
+    where
+      n : Node
+      n = nodeIn cells (v * 9)
+
+      at : (k : ℕ) → k < length (putNode cells v n) → getD (putNode cells v n) k 0 ≡ getD cells k 0
+      at k l = ltb-cases k (v * 9) (λ b. getD (putNode cells v n) k 0 ≡ getD cells k 0)
+          (λ a. sets-out 0 (values n) cells (v * 9) k (inl a))
+          (λ a. ltb-cases k (v * 9 + 9) (λ b. getD (putNode cells v n) k 0 ≡ getD cells k 0)
+          (λ b. let e : v * 9 + (k - v * 9) ≡ k = omega arith in
+          ap (λ i. getD (putNode cells v n) i 0) (sym e) ∙ sets-in 0 (values n) cells (v * 9) (k - v * 9) (omega arith) h ∙ values-at (k - v * 9) (omega arith) ∙ ap (λ i. getD cells i 0) e)
+          (λ b. sets-out 0 (values n) cells (v * 9) k (inr b)))
+
+module _ (p : Plan) (a : Accepted p) (v : ℕ) (marks : List ℕ) (sized : 2 * p .links ≤ length marks) where
+  abbrev read : ℕ → ℕ
+  read k = O.marksIn (p .links) (p .lower) (p .higher) marks v k
+
+  pub marks-back : putMarks p marks v read ≡ marks
+  marks-back = ext-getD 0 (putMarks p marks v read) marks (length-new p v read 0 marks)
+      (λ d l. mark-at p v read marks d (omega (arith, length-new p v read 0 marks)) ∙ at d)
+    where
+      at : (d : ℕ) → newMark p v read d (getD marks d 0) ≡ getD marks d 0
+      at d = bool-cases (ltb d (2 * p .links) && eqb (from p d) v)
+          (λ t. let h = and-eq-true-iff (ltb d (2 * p .links)) (eqb (from p d) v) .0 t in
+          let l = ltb-true d (2 * p .links) (h .0) in
+          let f = eqb-true (from p d) v (h .1) in
+          rw t (mark-own (p .links) (p .lower) (p .higher) v (linkOf d) marks (subst (λ u. isOwn p u (linkOf d) ≡ true) f (from-own p a d l))
+          ∙ ap (λ i. getD marks i 0) (subst (λ u. over p u (linkOf d) ≡ d) f (over-from p a d l))))
+          (λ t. rw t refl)

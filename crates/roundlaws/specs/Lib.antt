@@ -1,0 +1,4 @@
+pub mod Steady
+pub mod Progress
+pub mod Calm
+pub mod Handing

@@ -1,0 +1,118 @@
+-- A response wakes its node or leaves it awake; it puts a message back only where it does nothing else.
+use Prim.Native.Nat.{ℕ, zero, suc, _+_, _-_}
+use native.Mathlib.Omega.{arith}
+use mathlib.Core.Path.{_≡_, refl, sym, ap, subst, _∙_}
+use mathlib.Core.Logic.{_≢_, _⊎_, inl, inr}
+use mathlib.Core.Bool.{Bool, true, false, cond, _&&_}
+use mathlib.Core.List.{List}
+use lib.Dec.{eqb, ltb, leb}
+use Rattle.base.specs.Cond.{eqb-cases, by-eq}
+use Rattle.base.specs.LoopLaws.{by-test}
+use Rattle.message.specs.Msg.{Msg, none, connect, initiate, test, accept, reject, report, change}
+use Rattle.node.specs.declared.Node.{Node}
+use Rattle.node.specs.Work.{Own, Work, ASLEEP, FIND, FOUND, BASIC, BRANCH, TAKEN, BACK, REFUSED, before, start, putBack, refused, send, setMark, withNode, setStatus, setTest, setCount, setHalted, number, earliest, every, basic, branches, degree}
+use Rattle.node.specs.Rules.{woken, wakeOn, wakeup, awake, doReport, testOn, doTest, changeRoot, countUp, joined, absorb, coreEnd, onConnect, told, seek, onInitiate, strike, onTest, better, onAccept, onReject, childReport, coreReport, onReport, onChange, unlessAsleep, respondTo}
+use Rattle.node.specs.Laws.{awake-wakes, awake-is, asleep-refused, asleep-not}
+
+-- not put back, and awake
+pub record Steady (w : Work) : Type 0 where
+  pub answer : w .answer ≢ BACK
+  pub awake : w .node .status ≢ ASLEEP
+
+either : (b : Bool) (w r : Work) → Steady w → Steady r → Steady (cond b w r)
+either true w r h i = h
+either false w r h i = i
+
+-- refused, it is not put back
+stopped : (w : Work) → Steady w → Steady (refused w)
+stopped w h = record { answer = λ e. omega arith; awake = h .awake }
+
+-- the node changes, and is awake
+now : (n : Node) (w : Work) → n .status ≢ ASLEEP → Steady w → Steady (withNode n w)
+now n w a h = record { answer = h .answer; awake = a }
+
+steady-report : (w : Work) → Steady w → Steady (doReport w)
+unfolding doReport
+steady-report w h = either (eqb (w .node .count) 0 && eqb (w .node .test) none) _ w
+    (either (eqb (w .node .branch) none) _ _ (stopped w h) (record { answer = h .answer; awake = λ e. omega arith })) h
+
+steady-test : (k : ℕ) (w : Work) → Steady w → Steady (testOn k w)
+unfolding testOn
+steady-test k w h = either (eqb k none) _ _ (steady-report _ (now (setTest none (w .node)) w (h .awake) h))
+    (either (eqb (w .node .level) 0) _ _ (stopped w h) (record { answer = h .answer; awake = h .awake }))
+
+steady-root : (w : Work) → Steady w → Steady (changeRoot w)
+unfolding changeRoot
+steady-root w h = either (eqb (w .node .best) none) _ _ (stopped w h)
+    (either (eqb (w .mark (w .node .best)) BRANCH) _ _ (record { answer = h .answer; awake = h .awake }) (record { answer = h .answer; awake = h .awake }))
+
+-- waking: Found
+steady-wake : (o : Own) (w : Work) → w .answer ≢ BACK → Steady (wakeup o w)
+unfolding wakeOn
+steady-wake o w h = either (eqb (earliest o every (o.edges)) none) _ _ (record { answer = h; awake = λ e. omega arith }) (record { answer = h; awake = λ e. omega arith })
+
+-- what a response to an awake node is: steady, or put back and nothing else
+abbrev pub Ends : Work → Work → Type 0
+Ends w r = Steady r ⊎ (r ≡ putBack w)
+
+ends-if : (b : Bool) (w x y : Work) → Ends w x → Ends w y → Ends w (cond b x y)
+ends-if true w x y h i = h
+ends-if false w x y h i = i
+
+module _ (o : Own) (limit j : ℕ) (w : Work) (h : Steady w) where
+  ends-connect : (l : ℕ) → Ends w (onConnect o limit l j w)
+  unfolding onConnect absorb countUp coreEnd
+  ends-connect l = ends-if (ltb l (w .node .level)) w _ _
+      (inl (either (eqb (w .node .status) FIND) _ _
+      (either (ltb (degree o) (w .node .count + 1)) _ _ (record { answer = λ e. omega arith; awake = h .awake }) (record { answer = h .answer; awake = h .awake }))
+      (record { answer = h .answer; awake = h .awake })))
+      (ends-if (eqb (w .mark j) BASIC) w _ _ (inr refl) (inl (either (leb limit (w .node .level)) _ _ (stopped w h) (record { answer = h .answer; awake = h .awake }))))
+
+  steady-initiate : (l f find : ℕ) → Steady (onInitiate o l f find j w)
+  unfolding onInitiate seek
+  steady-initiate l f find =
+      let t = told o l f find j w in
+      let k : Steady t = record { answer = h .answer; awake = by-test (eqb find 1) (λ b. cond b FIND FOUND ≢ ASLEEP) (λ e. omega arith) (λ e. omega arith) } in
+      let c = w .node .count + number o (branches j w) (o.edges) in
+      either (eqb find 1) _ t (either (ltb (degree o) c) _ _ (stopped t k) (steady-test _ _ (now (setCount c (t .node)) t (k .awake) k))) k
+
+  ends-test : (l f : ℕ) → Ends w (onTest o l f j w)
+  unfolding onTest
+  ends-test l f = ends-if (ltb (w .node .level) l) w _ _ (inr refl)
+      (inl (either (eqb f (w .node .identity)) _ _
+      (either (eqb (w .node .test) j) _ _ (steady-test _ _ (record { answer = h .answer; awake = h .awake })) (record { answer = h .answer; awake = h .awake }))
+      (record { answer = h .answer; awake = h .awake })))
+
+  ends-report : (x : ℕ) → Ends w (onReport o x j w)
+  unfolding onReport childReport coreReport
+  ends-report x = ends-if (eqb j (w .node .branch)) w _ _
+      (ends-if (eqb (w .node .status) FIND) w _ _ (inr refl)
+      (inl (either (before o (w .node .weight) x) _ _ (steady-root w h) (either (eqb x none && eqb (w .node .weight) none) _ w (record { answer = h .answer; awake = h .awake }) h))))
+      (inl (either (eqb (w .node .count) 0) _ _ (stopped w h) (steady-report _ (record { answer = h .answer; awake = h .awake }))))
+
+-- THE LAW for a node that is awake ..
+pub ends-awake : (o : Own) (limit j : ℕ) (m : Msg) (w : Work) → Steady w → Ends w (respondTo o limit m j w)
+unfolding respondTo
+ends-awake o limit j (connect l) w h = rw (awake-is o w (h .awake)) (ends-connect o limit j w h l)
+ends-awake o limit j (initiate l f find) w h = inl (rw (asleep-not w _ (h .awake)) (steady-initiate o limit j w h l f find))
+ends-awake o limit j (test l f) w h = rw (awake-is o w (h .awake)) (ends-test o limit j w h l f)
+ends-awake o limit j accept w h = inl (rw (asleep-not w _ (h .awake)) (steady-report _ (record { answer = h .answer; awake = h .awake })))
+ends-awake o limit j reject w h = inl (rw (asleep-not w _ (h .awake)) (steady-test _ _ (record { answer = h .answer; awake = h .awake })))
+ends-awake o limit j (report x) w h = rw (asleep-not w _ (h .awake)) (ends-report o limit j w h x)
+ends-awake o limit j change w h = inl (rw (asleep-not w _ (h .awake)) (steady-root w h))
+
+-- .. and for one that is asleep: it is refused, or awake afterwards
+up : (w r : Work) → Steady w → Ends w r → r .node .status ≢ ASLEEP
+up w r h (inl s) = s .awake
+up w r h (inr e) = subst (λ x. x .node .status ≢ ASLEEP) (sym e) (h .awake)
+
+pub ends-asleep : (o : Own) (limit j : ℕ) (m : Msg) (w : Work) → w .answer ≢ BACK → w .node .status ≡ ASLEEP
+    → (respondTo o limit m j w .answer ≡ REFUSED) ⊎ (respondTo o limit m j w .node .status ≢ ASLEEP)
+unfolding respondTo
+ends-asleep o limit j (connect l) w a e = let k = steady-wake o w a in inr (rw (awake-wakes o w e) (up (wakeup o w) _ k (ends-connect o limit j (wakeup o w) k l)))
+ends-asleep o limit j (initiate l f find) w a e = inl (rw (asleep-refused w _ e) refl)
+ends-asleep o limit j (test l f) w a e = let k = steady-wake o w a in inr (rw (awake-wakes o w e) (up (wakeup o w) _ k (ends-test o limit j (wakeup o w) k l f)))
+ends-asleep o limit j accept w a e = inl (rw (asleep-refused w _ e) refl)
+ends-asleep o limit j reject w a e = inl (rw (asleep-refused w _ e) refl)
+ends-asleep o limit j (report x) w a e = inl (rw (asleep-refused w _ e) refl)
+ends-asleep o limit j change w a e = inl (rw (asleep-refused w _ e) refl)
