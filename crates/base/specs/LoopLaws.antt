@@ -1,14 +1,14 @@
 -- Laws of `loop` and `runs`, for any state and any turns.
-use Prim.Native.Nat.{ℕ, zero, suc, _+_, _≤_, _<_, zero-le}
-use native.Mathlib.Nat.{not-suc-le-zero, add-zero}
+use Prim.Native.Nat.{ℕ, zero, suc, _+_, _≤_, _<_}
+use native.Mathlib.Nat.{not-suc-le-zero}
 use native.Mathlib.Numerals.{add-one}
 use native.Mathlib.Omega.{arith}
-use mathlib.Core.Path.{_≡_, refl, sym, ap, subst, _∙_}
+use mathlib.Core.Path.{_≡_, refl, sym, ap, _∙_}
 use mathlib.Core.Logic.{_≢_}
 use mathlib.Core.Bool.{Bool, true, false, cond, not, _&&_}
 use mathlib.Core.List.{List, [], _++_}
 use lib.Dec.{eqb}
-use Rattle.base.specs.Cond.{eqb-cases, eqb-same, eqb-diff, by-eq, bool-cases}
+use Rattle.base.specs.Cond.{eqb-cases, eqb-diff, by-eq}
 use Rattle.base.specs.Search.{lt-suc-cases}
 use Rattle.base.specs.Loop.{After, Ran, taken, then, loop, counted, runs, tale, tales}
 

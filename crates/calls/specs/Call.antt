@@ -1,9 +1,9 @@
 -- The calls that a host makes on a field, and lists of them.
 use Prim.Native.Nat.{ℕ}
-use mathlib.Core.Bool.{Bool, cond, not}
+use mathlib.Core.Bool.{cond, not}
 use mathlib.Core.List.{List, [], _∷_}
 use lib.Dec.{eqb}
-use Rattle.base.specs.Loop.{After, Ran, counted}
+use Rattle.base.specs.Loop.{Ran, counted}
 use Rattle.field.specs.State.{State}
 use Rattle.field.specs.Held.{Held, stateOf, heldOf, valid, stepAlone}
 use Rattle.calls.specs.Schedule.{scheduleRefusal, scheduleRun}

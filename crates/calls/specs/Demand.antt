@@ -3,9 +3,8 @@ use Prim.Native.Nat.{ℕ, _+_, _≤_, _<_}
 use mathlib.Core.Path.{_≡_}
 use mathlib.Core.Logic.{_≢_, _⊎_, _↔_}
 use mathlib.Core.List.{List, []}
-use lib.ListN.{length}
 use Rattle.base.specs.Pool.{All}
-use Rattle.base.specs.Loop.{After, Ran}
+use Rattle.base.specs.Loop.{Ran}
 use Rattle.graph.specs.Order.{InTree}
 use Rattle.plan.specs.declared.Plan.{Plan}
 use Rattle.plan.specs.Links.{low, high, graphOf}
@@ -14,7 +13,7 @@ use Rattle.node.specs.Work.{BRANCH, REJECTED}
 use Rattle.field.specs.Edges.{ceilingOf}
 use Rattle.field.specs.State.{State, nodeAt, markAt}
 use Rattle.field.specs.Held.{Held, stateOf, setUp}
-use Rattle.calls.specs.Call.{Call, one, run, rounds, Answer, after, answers, runRounds}
+use Rattle.calls.specs.Call.{Call, one, run, rounds, after, answers, runRounds}
 use Rattle.calls.specs.Trail.{trail, messagesSent, wokenIn}
 
 -- "A link is a tree link exactly if no other way between its ends, over the plan's links, uses only earlier links."

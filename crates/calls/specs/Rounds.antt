@@ -1,9 +1,9 @@
 -- Rounds (synchronous rounds), and a run of them.
-use Prim.Native.Nat.{ℕ, zero, suc, _+_, _*_}
-use mathlib.Core.Bool.{Bool, cond}
+use Prim.Native.Nat.{ℕ, _+_, _*_}
+use mathlib.Core.Bool.{Bool}
 use mathlib.Core.List.{List, [], _∷_}
 use lib.ListN.{length}
-use lib.Dec.{eqb, leb}
+use lib.Dec.{eqb}
 use Rattle.base.specs.Cond.{bit}
 use Rattle.base.specs.Loop.{After, Ran, then, loop, runs}
 use Rattle.plan.specs.declared.Plan.{Plan}

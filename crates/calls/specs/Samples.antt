@@ -1,14 +1,11 @@
 -- Small runs, computed: the reporting program's two modules, document 01's sleeper that serves a Test, and refusals.
-use Prim.Native.Nat.{ℕ, zero, suc}
+use Prim.Native.Nat.{ℕ}
 use mathlib.Core.Path.{_≡_, refl}
-use mathlib.Core.List.{List, [], _∷_, _++_, map}
-use lib.ListN.{getD, length, take}
+use mathlib.Core.List.{List, [], _∷_, map}
+use lib.ListN.{getD, take}
 use Rattle.base.specs.None.{none}
-use Rattle.base.specs.Loop.{Ran}
 use Rattle.word.specs.Word.{packed}
 use Rattle.plan.specs.declared.Plan.{Plan}
-use Rattle.field.specs.declared.Field.{Field}
-use Rattle.field.specs.State.{State}
 use Rattle.field.specs.Held.{Held, stateOf, setUp}
 use Rattle.calls.specs.Call.{Call, one, run, rounds, does, after}
 use Rattle.calls.specs.Trail.{trail, messagesSent, wokenIn}

@@ -1,10 +1,10 @@
 -- The steps that a list of calls takes, each with the state it was taken in; the messages sent and the modules woken in them.
 use Prim.Native.Nat.{ℕ, _*_}
-use mathlib.Core.Bool.{Bool, cond, not, _&&_, _||_}
+use mathlib.Core.Bool.{Bool, cond, _&&_, _||_}
 use mathlib.Core.List.{List, [], _∷_, _++_}
 use lib.ListN.{length, getD}
 use lib.Dec.{eqb}
-use Rattle.base.specs.Loop.{After, loop, tale, tales}
+use Rattle.base.specs.Loop.{tale, tales}
 use Rattle.base.specs.Pool.{sumL}
 use Rattle.message.specs.Header.{kindAt}
 use Rattle.word.specs.Word.{headerIn}

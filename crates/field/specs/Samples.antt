@@ -1,14 +1,12 @@
 -- Steps given alone, computed: document 01's sleeper that serves a Test, each kind of step taken, each refusal.
-use Prim.Native.Nat.{ℕ, zero, suc}
+use Prim.Native.Nat.{ℕ}
 use mathlib.Core.Path.{_≡_, refl}
 use mathlib.Core.List.{List, [], _∷_, _++_, map}
 use Rattle.base.specs.None.{none}
 use Rattle.base.specs.Loop.{After}
 use Rattle.word.specs.Word.{packed}
 use Rattle.plan.specs.declared.Plan.{Plan}
-use Rattle.field.specs.declared.Field.{Field}
-use Rattle.field.specs.State.{State}
-use Rattle.field.specs.Held.{Held, stateOf, stepAlone}
+use Rattle.field.specs.Held.{Held, stepAlone}
 use Rattle.base.specs.Cond as base1
 use Rattle.base.specs.Keep as base2
 use Rattle.base.specs.Log as base3

@@ -1,11 +1,10 @@
 -- What a step changes: the cells of the modules, the marks, the waiting words in their order, the sent count. The plan stands beside it.
-use Prim.Native.Nat.{ℕ, zero, suc, _+_, _*_, _/_}
-use mathlib.Core.Bool.{Bool, cond, _&&_}
+use Prim.Native.Nat.{ℕ, suc, _+_, _*_}
+use mathlib.Core.Bool.{cond, _&&_}
 use mathlib.Core.List.{List, [], _∷_, _++_, map}
 use lib.ListN.{length, getD}
 use lib.Seq.{sets}
 use lib.Dec.{eqb, ltb}
-use Rattle.base.specs.Cond.{bit}
 use Rattle.message.specs.Msg.{Msg}
 use Rattle.message.specs.Header.{headerOf, carriedOf, meant}
 use Rattle.word.specs.Word.{packed, headerIn, carriedIn}

@@ -1,5 +1,5 @@
 -- The three steps: wake, hand over, serve. Each answers 0 and leaves the new state, or answers the refusal's number and leaves the state as it was.
-use Prim.Native.Nat.{ℕ, zero, suc, _+_, _*_}
+use Prim.Native.Nat.{ℕ, suc, _+_, _*_}
 use mathlib.Core.Bool.{Bool, cond, not, _&&_}
 use mathlib.Core.List.{List, [], _∷_, _++_}
 use lib.ListN.{length, getD, take, drop}

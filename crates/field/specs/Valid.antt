@@ -11,7 +11,6 @@ use Rattle.base.specs.Test.{every}
 use Rattle.message.specs.Header.{levelAt}
 use Rattle.word.specs.Word.{headerIn, carriedIn, linkIn, laidOut}
 use Rattle.plan.specs.declared.Plan.{Plan}
-use Rattle.plan.specs.Refusal.{planRefusal}
 use Rattle.node.specs.declared.Node.{Node}
 use Rattle.node.specs.Work.{FOUND, REJECTED, degree}
 use Rattle.field.specs.Edges.{isOwn, ownOf, limitOf, ceilingOf}

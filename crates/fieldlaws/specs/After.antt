@@ -3,34 +3,34 @@ use Prim.Native.Nat.{ℕ, zero, suc, _+_, _*_, _≤_, _<_}
 use native.Mathlib.Omega.{arith}
 use native.Mathlib.Nat.{not-suc-le-zero, add-zero}
 use mathlib.Core.Path.{_≡_, refl, sym, ap, ap₂, subst, _∙_}
-use mathlib.Core.Logic.{_≢_, _⊎_, inl, inr}
-use mathlib.Core.Bool.{Bool, true, false, not, cond, _&&_}
+use mathlib.Core.Logic.{inl}
+use mathlib.Core.Bool.{Bool, true, not, cond, _&&_}
 use mathlib.Core.List.{List, [], _∷_, _++_}
 use lib.ListN.{length, getD, replicate, List·getD-append, length-replicate, getD-replicate}
 use lib.Seq.{getD-append-add}
-use lib.Dec.{eqb, ltb, leb}
-use borrow.Author.Tests.{ltb-false, le-leb, eq-eqb, eqb-false, not-false}
+use lib.Dec.{ltb}
+use borrow.Author.Tests.{le-leb, eq-eqb}
 use Rattle.base.specs.Cond.{eqb-cases, ltb-cases}
-use Rattle.base.specs.Loop.{After, Ran, taken, refused}
-use Rattle.base.specs.Pool.{All, nil, con}
+use Rattle.base.specs.Loop.{After, taken, refused}
+use Rattle.base.specs.Pool.{nil}
 use Rattle.plan.specs.declared.Plan.{Plan}
 use Rattle.plan.specs.Refusal.{planRefusal}
 use Rattle.plan.specs.Accepted.{Accepted, accepted}
-use Rattle.node.specs.Work.{setup, REJECTED}
+use Rattle.node.specs.Work.{setup}
 use Rattle.field.specs.Edges.{ownOf, limitOf, ceilingOf}
-use Rattle.field.specs.State.{State, values, nodeIn, nodeAt}
+use Rattle.field.specs.State.{State, values, nodeIn}
 use Rattle.field.specs.Step.{step}
-use Rattle.field.specs.Valid.{waitingIn, zeroAfter, enough, fits}
-use Rattle.field.specs.Held.{Held, stateOf, heldOf, valid, freshCells, fresh, setUp}
-use Rattle.calls.specs.Call.{Call, one, run, rounds, does, after, Answer, answers}
-use Rattle.calls.specs.Trail.{Taken, stepsOf, trail, messagesSent, ifTaken}
+use Rattle.field.specs.Valid.{zeroAfter}
+use Rattle.field.specs.Held.{Held, stateOf, valid, freshCells, fresh, setUp}
+use Rattle.calls.specs.Call.{Call, does, after}
+use Rattle.calls.specs.Trail.{Taken, stepsOf, trail, ifTaken}
 use Rattle.fieldlaws.specs.Places.{node-is}
 use Rattle.fieldlaws.specs.Lists.{NodeOk}
 use Rattle.fieldlaws.specs.Fits.{Fits, facts-fits}
 use Rattle.fieldlaws.specs.Keeps.{Sound, step-keeps}
 use Rattle.fieldlaws.specs.Trace.{onState, call-tells}
 use Rattle.fieldlaws.specs.Counts.{Counted, counted-none, counted-more, step-counts}
-use Rattle.fieldlaws.specs.Laid.{waiting-zeros, zeros-all, Live, live-plan, live-sound, does-live, state-of-does, plan-of-does, answer-of-does}
+use Rattle.fieldlaws.specs.Laid.{waiting-zeros, zeros-all, Live, live-plan, live-sound, does-live, state-of-does, plan-of-does}
 
 -- ---- setup
 

@@ -1,22 +1,22 @@
 -- THE way to reason on a step: it is refused and leaves the state, or it is taken and these are the facts.
-use Prim.Native.Nat.{ℕ, zero, suc, _+_, _*_, _≤_, _<_}
+use Prim.Native.Nat.{ℕ, _+_, _*_, _≤_, _<_}
 use native.Mathlib.Omega.{arith}
-use mathlib.Core.Path.{_≡_, refl, sym, ap, subst, _∙_}
+use mathlib.Core.Path.{_≡_, refl}
 use mathlib.Core.Logic.{_≢_, _⊎_, inl, inr}
-use mathlib.Core.Bool.{Bool, true, false, not, cond}
+use mathlib.Core.Bool.{not, cond}
 use mathlib.Core.List.{List, [], _∷_, _++_}
 use lib.ListN.{length, getD}
 use lib.Dec.{eqb, ltb, leb}
-use borrow.Author.Tests.{leb-true, leb-false, ltb-false, eqb-true, eq-eqb, ne-eqb, lt-leb, le-leb, le-ltb}
+use borrow.Author.Tests.{leb-false, lt-leb}
 use Rattle.base.specs.Cond.{bool-cases, eqb-cases, ltb-cases, eqb-diff, by-eq}
 use Rattle.base.specs.Loop.{After, taken, refused}
-use Rattle.base.specs.Keep.{keep, First, place, place-first, place-none, place-some}
-use Rattle.word.specs.Word.{linkIn, handOver}
+use Rattle.base.specs.Keep.{keep, First, place, place-first, place-some}
+use Rattle.word.specs.Word.{handOver}
 use Rattle.plan.specs.declared.Plan.{Plan}
-use Rattle.node.specs.Work.{Work, ASLEEP, BACK, REFUSED}
+use Rattle.node.specs.Work.{Work, ASLEEP, REFUSED}
 use Rattle.field.specs.Edges.{ceilingOf}
 use Rattle.field.specs.State.{State, nodeAt, placed}
-use Rattle.field.specs.Step.{inAir, inQueue, without, settle, wakeWork, wake, moved, hand, serveWork, backOf, serveAt, serve, step}
+use Rattle.field.specs.Step.{inAir, inQueue, without, settle, wakeWork, wake, hand, serveWork, backOf, serve, step}
 
 -- a response that was placed
 pub record Placed (p : Plan) (v : ℕ) (w : Work) (s : State) (words back : List ℕ) (s′ : State) : Type 0 where
@@ -159,4 +159,3 @@ module _ (p : Plan) (s : State) where
       fine (inl e) a b = e
       fine (inr (inl e)) a b = absurd (a e)
       fine (inr (inr e)) a b = absurd (b e)
-

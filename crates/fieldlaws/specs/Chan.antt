@@ -1,17 +1,15 @@
 -- The channel of a directed link: its handed-over words in store order, then its others. Four laws connect it with the store.
-use Prim.Native.Nat.{ℕ, zero, suc, _+_, _/_, _%_, _^_, _≤_, _<_}
-use native.Mathlib.Omega.{arith}
+use Prim.Native.Nat.{ℕ, _+_, _/_, _^_}
 use mathlib.Core.Path.{_≡_, refl, sym, ap, ap₂, subst, _∙_}
 use mathlib.Core.Logic.{_≢_}
-use mathlib.Core.Bool.{Bool, true, false, not, cond, _&&_, and-eq-true-iff, true≢false}
+use mathlib.Core.Bool.{Bool, true, false, not, _&&_, and-eq-true-iff, true≢false}
 use mathlib.Core.List.{List, [], _∷_, _++_, map, append-assoc, append-nil}
-use lib.ListN.{length}
 use lib.Dec.{eqb}
 use borrow.Author.Tests.{eqb-true, eq-eqb}
-use Rattle.base.specs.Cond.{bool-cases, eqb-cases, eqb-same, eqb-diff, by-eq}
-use Rattle.base.specs.Keep.{keep, keep-yes, keep-no, keep-app, keep-one, keep-none, keep-nil, First, first-passes, head-of, others}
+use Rattle.base.specs.Cond.{bool-cases, eqb-diff, by-eq}
+use Rattle.base.specs.Keep.{keep, keep-app, keep-one, keep-none, First, first-passes, head-of, others}
 use Rattle.message.specs.Msg.{Msg}
-use Rattle.message.specs.Header.{kindAt, levelAt, findAt, msgOf, meant}
+use Rattle.message.specs.Header.{kindAt, levelAt, findAt, msgOf}
 use Rattle.word.specs.Word.{headerIn, carriedIn, linkIn, handedIn, shaped, handOver}
 use Rattle.word.proofs.Laws.{Unpacked, over}
 use Rattle.plan.specs.declared.Plan.{Plan}

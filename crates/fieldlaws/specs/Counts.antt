@@ -1,28 +1,25 @@
 -- "the sent count is exact": it grows by the sends of each step that is taken, and by nothing else. "A message waits, in one word, from its send
 -- until a service that does not put it back": so waiting is sent less those services. A put-back is no send.
-use Prim.Native.Nat.{ℕ, zero, suc, _+_, _*_, _≤_, _<_}
+use Prim.Native.Nat.{ℕ, _+_}
 use native.Mathlib.Omega.{arith}
-use mathlib.Core.Path.{_≡_, refl, sym, ap, subst, _∙_}
-use mathlib.Core.Logic.{_≢_, _⊎_, inl, inr, ⊎-elim}
-use mathlib.Core.Bool.{Bool, true, false, not, cond, _&&_}
+use mathlib.Core.Path.{_≡_, refl, sym, ap, subst}
+use mathlib.Core.Bool.{not, cond, _&&_}
 use mathlib.Core.List.{List, [], _∷_, _++_}
 use lib.ListN.{length, length-append}
 use lib.Dec.{eqb}
-use Rattle.base.specs.Cond.{bit, eqb-cases, eqb-diff}
-use Rattle.base.specs.Loop.{After, taken, refused, then, loop, tale, tales, runs}
-use Rattle.base.specs.LoopLaws.{by-test, then-elim, loop-tells, runs-tell}
+use Rattle.base.specs.Cond.{bit, eqb-diff}
+use Rattle.base.specs.Loop.{After}
+use Rattle.base.specs.LoopLaws.{by-test}
 use Rattle.base.specs.Pool.{sumL, sumL-app}
-use Rattle.base.specs.Keep.{First, first-out}
+use Rattle.base.specs.Keep.{first-out}
 use Rattle.word.specs.Word.{handOver}
 use Rattle.plan.specs.declared.Plan.{Plan}
 use Rattle.node.specs.Work.{Work, BACK}
 use Rattle.field.specs.State.{State, posted}
-use Rattle.field.specs.Step.{inAir, inQueue, wakeWork, serveWork, backOf, hand, serve, step}
-use Rattle.calls.specs.Schedule.{scheduleRefusal, scheduleRun, stepsIn, kindOf, numberOf, stepAt, never}
-use Rattle.calls.specs.Rounds.{many, handTurn, handPhase, serveTurn, servePhase, round, atRest, roundsRun}
-use Rattle.calls.specs.Call.{Call, one, run, rounds}
-use Rattle.calls.specs.Trail.{Taken, ifTaken, handTurnSteps, serveTurnSteps, roundSteps, stepsOf, servedWord, sendsOf, messagesSent}
-use Rattle.fieldlaws.specs.Cases.{Placed, Woke, Handed, Served, refusal-some, Outcome, took, kept, Step, wake-step, hand-step, serve-step, steps}
+use Rattle.field.specs.Step.{wakeWork, serveWork, backOf, step}
+use Rattle.calls.specs.Call.{Call}
+use Rattle.calls.specs.Trail.{Taken, ifTaken, stepsOf, servedWord, sendsOf, messagesSent}
+use Rattle.fieldlaws.specs.Cases.{refusal-some, Outcome, took, kept, Step, wake-step, hand-step, serve-step, steps}
 use Rattle.fieldlaws.specs.Sends.{length-posted}
 use Rattle.fieldlaws.specs.Keeps.{out-length}
 use Rattle.fieldlaws.specs.Trace.{onState, call-tells}

@@ -1,16 +1,16 @@
 -- Refusal 31 as facts: what the test `fits` says of a state, both ways.
-use Prim.Native.Nat.{ℕ, zero, suc, _+_, _*_, _/_, _^_, _≤_, _<_}
+use Prim.Native.Nat.{ℕ, _*_, _/_, _^_, _≤_, _<_}
 use native.Mathlib.Omega.{arith}
 use native.Mathlib.Decide.{decLt}
-use mathlib.Core.Path.{_≡_, refl, sym, ap, ap₂, subst, _∙_}
+use mathlib.Core.Path.{_≡_, refl, ap, _∙_}
 use mathlib.Core.Logic.{_≢_, _⊎_, inl, inr, ⊎-elim, by-cases}
-use mathlib.Core.Bool.{Bool, true, false, not, cond, _&&_, _||_, and-eq-true-iff, true≢false}
-use mathlib.Core.List.{List, [], _∷_, _++_}
+use mathlib.Core.Bool.{Bool, true, false, not, cond, _&&_, _||_, and-eq-true-iff}
+use mathlib.Core.List.{List, [], _∷_}
 use lib.ListN.{length, getD}
 use lib.Dec.{eqb, ltb, leb}
 use lib.Pow.{pow-mono}
 use borrow.Author.Tests.{ltb-true, leb-true, eqb-true, eqb-false, not-true, lt-ltb, le-leb, eq-eqb, ne-eqb}
-use Rattle.base.specs.Cond.{bool-cases, eqb-cases}
+use Rattle.base.specs.Cond.{eqb-cases}
 use Rattle.base.specs.None.{none}
 use Rattle.base.specs.Log.{log2, log2-low}
 use Rattle.base.specs.Test.{every, every-all, all-every}
@@ -21,10 +21,10 @@ use Rattle.message.specs.Listed.{Listed, listed}
 use Rattle.message.proofs.Byte.{parts-of-byte}
 use Rattle.message.proofs.Listed.{Means, means, in-bits, header-lt}
 use Rattle.word.specs.Word.{headerIn, carriedIn, linkIn, laidOut, shaped, handOver}
-use Rattle.word.proofs.Laws.{Unpacked, unpacked, over, over-laid-out, packs-laid-out}
+use Rattle.word.proofs.Laws.{unpacked, over, over-laid-out, packs-laid-out}
 use Rattle.plan.specs.declared.Plan.{Plan}
 use Rattle.node.specs.declared.Node.{Node}
-use Rattle.node.specs.Work.{Own, Send, FOUND, REJECTED, degree}
+use Rattle.node.specs.Work.{Own, Send, FOUND, REJECTED}
 use Rattle.search.specs.Laws.{end-small}
 use Rattle.field.specs.Edges as O
 use Rattle.field.specs.Edges.{isOwn, ownOf, limitOf, ceilingOf}

@@ -1,32 +1,31 @@
 -- A step that is taken keeps the field valid in the sense of 31, from any valid field; one that is refused leaves it. So a run checks 31 once.
-use Prim.Native.Nat.{ℕ, zero, suc, _+_, _*_, _≤_, _<_}
+use Prim.Native.Nat.{ℕ, suc, _+_, _*_, _≤_, _<_}
 use native.Mathlib.Omega.{arith}
-use mathlib.Core.Path.{_≡_, refl, sym, ap, subst, _∙_}
-use mathlib.Core.Logic.{_≢_, _⊎_, inl, inr}
-use mathlib.Core.Bool.{Bool, true, false, cond, _&&_}
+use mathlib.Core.Path.{_≡_, refl, sym, ap, subst}
+use mathlib.Core.Bool.{true, cond, _&&_}
 use mathlib.Core.List.{List, [], _∷_, _++_}
 use lib.ListN.{length, getD, length-append}
 use lib.Seq.{length-sets}
 use lib.Dec.{eqb, ltb}
 use Rattle.base.specs.Cond.{bool-cases, by-eq}
-use Rattle.base.specs.Loop.{After, taken, refused}
+use Rattle.base.specs.Loop.{After}
 use Rattle.base.specs.LoopLaws.{by-test}
-use Rattle.base.specs.Pool.{All, nil, con, All-app, All-one, All-here, All-rest, Out, here, there}
-use Rattle.base.specs.Keep.{First, first-out, first-passes}
+use Rattle.base.specs.Pool.{All, nil, All-app, All-one, All-here, All-rest, Out, here, there}
+use Rattle.base.specs.Keep.{first-out, first-passes}
 use Rattle.word.specs.Word.{linkIn, handOver}
 use Rattle.plan.specs.declared.Plan.{Plan}
 use Rattle.node.specs.Work.{Work, REJECTED, BACK}
 use Rattle.search.specs.Laws.{mark-own, mark-not}
-use Rattle.field.specs.Edges.{isOwn, ownOf, over, linkOf, from, dest, limitOf, ceilingOf}
-use Rattle.field.specs.State.{State, values, nodeAt, markAt, newMark, placed, posted}
+use Rattle.field.specs.Edges.{isOwn, ownOf, over, linkOf, from, limitOf, ceilingOf}
+use Rattle.field.specs.State.{State, values, nodeAt, markAt, placed, posted}
 use Rattle.field.specs.Step.{inQueue, wakeWork, serveWork, backOf, step}
 use Rattle.field.specs.Valid.{wordFits}
 use Rattle.plan.specs.Accepted.{Accepted}
 use Rattle.fieldlaws.specs.Chan.{queue-parts}
 use Rattle.fieldlaws.specs.Sends.{length-posted}
-use Rattle.fieldlaws.specs.Cases.{Placed, Woke, Handed, Served, Outcome, took, kept, Step, wake-step, hand-step, serve-step, steps}
+use Rattle.fieldlaws.specs.Cases.{Outcome, took, kept, Step, wake-step, hand-step, serve-step, steps}
 use Rattle.fieldlaws.specs.Places.{node-same, node-other, mark-at, length-new, over-below, dest-own, own-below}
-use Rattle.fieldlaws.specs.Lists.{NodeOk, MsgOk, WorkOk, ok-wakeup, ok-respond}
+use Rattle.fieldlaws.specs.Lists.{NodeOk, WorkOk, ok-wakeup, ok-respond}
 use Rattle.fieldlaws.specs.Fits.{Fits, word-link, word-msg, hand-fits, sends-fit}
 
 -- room for N modules and the marks of L links: so in a field, whose arrays hold 192 and 600

@@ -1,33 +1,30 @@
 -- The lent words and the field: waiting words are laid out and read back, a call on what the host holds is the call on its state, and a field
 -- that passes 31 passes it ever after.
-use Prim.Native.Nat.{ℕ, zero, suc, _+_, _-_, _*_, _≤_, _<_}
-use native.Mathlib.Nat.{not-suc-le-zero}
+use Prim.Native.Nat.{ℕ, zero, suc, _+_, _-_, _≤_}
 use native.Mathlib.Omega.{arith}
-use mathlib.Core.Path.{_≡_, refl, sym, ap, ap₂, subst, _∙_}
-use mathlib.Core.Logic.{_≢_, _⊎_, inl, inr}
-use mathlib.Core.Bool.{Bool, true, false, not, cond, _&&_, and-eq-true-iff, true≢false}
+use mathlib.Core.Path.{_≡_, refl, sym, ap, ap₂, _∙_}
+use mathlib.Core.Logic.{_≢_}
+use mathlib.Core.Bool.{true, false, not, cond, _&&_, and-eq-true-iff}
 use mathlib.Core.List.{List, [], _∷_, _++_}
-use lib.ListN.{length, drop, replicate, length-append, length-replicate, take-append-drop}
+use lib.ListN.{length, drop, replicate, length-append, length-replicate}
 use lib.Seq.{drop-append-seam}
 use lib.Dec.{eqb, leb}
-use borrow.Author.Tests.{eqb-true, leb-true, le-leb, eq-eqb}
-use Rattle.base.specs.Cond.{bool-cases, eqb-cases, eqb-diff}
-use Rattle.base.specs.Loop.{After, Ran, taken, refused, counted}
+use borrow.Author.Tests.{eqb-true, leb-true, eq-eqb}
+use Rattle.base.specs.Cond.{eqb-cases, eqb-diff}
+use Rattle.base.specs.Loop.{After}
 use Rattle.base.specs.Pool.{All, nil, con, All-map}
 use Rattle.plan.specs.declared.Plan.{Plan}
 use Rattle.plan.specs.Refusal.{planRefusal}
 use Rattle.plan.specs.Accepted.{Accepted, accepted}
-use Rattle.field.specs.declared.Field.{Field}
 use Rattle.field.specs.Edges.{ceilingOf}
 use Rattle.field.specs.State.{State}
-use Rattle.field.specs.Step.{step}
-use Rattle.field.specs.Valid.{allOf, waitingIn, zeroAfter, enough, wordFits, fits}
+use Rattle.field.specs.Valid.{allOf, waitingIn, zeroAfter, enough, fits}
 use Rattle.field.specs.Held.{Held, layout, stateOf, heldOf, valid, stepAlone}
 use Rattle.calls.specs.Schedule.{scheduleRefusal, scheduleRun}
 use Rattle.calls.specs.Call.{Call, one, run, rounds, refusedRun, putBack, runBytes, runRounds, does}
 use Rattle.fieldlaws.specs.Cases.{Outcome, took, kept, Step, steps}
-use Rattle.fieldlaws.specs.Fits.{Fits, word-nonzero, fits-facts, facts-fits}
-use Rattle.fieldlaws.specs.Keeps.{Sized, Sound, Alike, step-keeps, step-lengths}
+use Rattle.fieldlaws.specs.Fits.{word-nonzero, fits-facts, facts-fits}
+use Rattle.fieldlaws.specs.Keeps.{Sound, Alike, step-keeps, step-lengths}
 use Rattle.fieldlaws.specs.Trace.{onState, call-keeps}
 
 -- ---- words laid out

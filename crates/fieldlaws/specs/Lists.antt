@@ -1,20 +1,19 @@
 -- A node's values, its marks and its sends stay within document 01's lists: every response keeps them there, also one that is refused.
 use Prim.Native.Nat.{ℕ, zero, suc, _+_, _-_, _≤_, _<_}
 use native.Mathlib.Omega.{arith}
-use mathlib.Core.Path.{_≡_, refl, sym, ap, subst, _∙_}
+use mathlib.Core.Path.{_≡_, refl}
 use mathlib.Core.Logic.{_≢_, _⊎_, inl, inr, ⊎-elim}
-use mathlib.Core.Bool.{Bool, true, false, not, cond, _&&_}
-use mathlib.Core.List.{List, [], _∷_, _++_}
+use mathlib.Core.Bool.{Bool, true, false, cond, _&&_}
+use mathlib.Core.List.{List, [], _∷_}
 use lib.Dec.{eqb, ltb, leb}
-use borrow.Author.Tests.{leb-true, leb-false}
-use Rattle.base.specs.Cond.{bool-cases, eqb-cases, ltb-cases, upd, upd-elim, by-eq}
+use borrow.Author.Tests.{leb-false}
+use Rattle.base.specs.Cond.{bool-cases, eqb-cases, ltb-cases, upd-elim}
 use Rattle.base.specs.LoopLaws.{by-test}
-use Rattle.base.specs.Pool.{All, nil, con, All-app, All-one}
+use Rattle.base.specs.Pool.{All, nil, All-app, All-one}
 use Rattle.message.specs.Msg.{Msg, none, connect, initiate, test, accept, reject, report, change}
 use Rattle.node.specs.declared.Node.{Node}
-use Rattle.node.specs.Work.{Own, Work, Send, ASLEEP, FIND, FOUND, BASIC, BRANCH, REJECTED, before, start, putBack, refused, send, setMark, withNode, setStatus, setBest, setTest, setCount, setHalted, earliest, number, onEach, every, basic, branches, degree}
-use Rattle.node.specs.Rules.{woken, wakeOn, wakeup, awake, doReport, testOn, doTest, changeRoot, countUp, joined, absorb, coreEnd, onConnect, informed, copies, copied, told, seek, onInitiate, strike, onTest, better, onAccept, onReject, childReport, coreReport, onReport, onChange, unlessAsleep, respondTo}
-use Rattle.node.specs.First.{Empty, Earliest, first}
+use Rattle.node.specs.Work.{Own, Work, Send, ASLEEP, FIND, FOUND, BASIC, BRANCH, REJECTED, before, putBack, refused, send, setMark, withNode, setStatus, setBest, setTest, setCount, setHalted, earliest, number, onEach, every, basic, branches, degree}
+use Rattle.node.specs.Rules.{woken, wakeOn, wakeup, awake, doReport, testOn, doTest, changeRoot, countUp, joined, absorb, coreEnd, onConnect, copied, told, seek, onInitiate, strike, onTest, better, onAccept, childReport, coreReport, onReport, unlessAsleep, respondTo}
 
 -- a link number or none; an own link or none
 abbrev pub LinkOrNone : Own → ℕ → Type 0

@@ -1,23 +1,23 @@
 -- A response placed in the field: what is read there afterwards. And the numbers of directed links.
-use Prim.Native.Nat.{ℕ, zero, suc, _+_, _-_, _*_, _/_, _%_, _≤_, _<_}
+use Prim.Native.Nat.{ℕ, zero, suc, _+_, _-_, _*_, _%_, _≤_, _<_}
 use native.Mathlib.Nat.{not-suc-le-zero, add-zero}
 use native.Mathlib.Omega.{arith}
-use mathlib.Core.Path.{_≡_, refl, sym, ap, ap₂, subst, _∙_}
+use mathlib.Core.Path.{_≡_, refl, sym, ap, subst, _∙_}
 use mathlib.Core.Logic.{_≢_, _⊎_, inl, inr}
-use mathlib.Core.Bool.{Bool, true, false, not, cond, _&&_, _||_, and-eq-true-iff}
+use mathlib.Core.Bool.{true, cond, _&&_, and-eq-true-iff}
 use mathlib.Core.List.{List, [], _∷_}
 use lib.ListN.{length, getD, set, length-set}
 use lib.Seq.{sets, length-sets, getD-set-same, getD-set-other, ext-getD}
 use lib.Dec.{eqb, ltb}
 use borrow.Author.Tests.{ltb-true, eqb-true, eq-eqb, ne-eqb, lt-ltb}
-use Rattle.base.specs.Cond.{bool-cases, eqb-cases, ltb-cases, eqb-diff, by-eq}
+use Rattle.base.specs.Cond.{bool-cases, eqb-cases, ltb-cases, by-eq}
 use Rattle.plan.specs.declared.Plan.{Plan}
 use Rattle.plan.specs.Links.{low, high}
 use Rattle.node.specs.declared.Node.{Node}
 use Rattle.search.specs.Own as O
 use Rattle.search.specs.Laws.{end-lower, end-higher, own-lower, own-higher, mark-own, mark-not}
 use Rattle.field.specs.Edges.{isOwn, over, linkOf, from, dest}
-use Rattle.field.specs.State.{State, values, nodeIn, putNode, markAt, newMark, newMarks, putMarks}
+use Rattle.field.specs.State.{values, nodeIn, putNode, newMark, newMarks, putMarks}
 use Rattle.plan.specs.Accepted.{Accepted}
 
 -- ---- a run of stores

@@ -1,18 +1,16 @@
 -- All sends of a response at once, in the words and in the channels.
-use Prim.Native.Nat.{ℕ, zero, suc, _+_, _*_, _≤_, _<_}
+use Prim.Native.Nat.{ℕ, suc, _+_, _<_}
 use native.Mathlib.Omega.{arith}
-use mathlib.Core.Path.{_≡_, refl, sym, ap, ap₂, subst, _∙_}
-use mathlib.Core.Logic.{_≢_}
-use mathlib.Core.Bool.{Bool, true, false, not, cond}
-use mathlib.Core.List.{List, [], _∷_, _++_, map, append-assoc, append-nil}
+use mathlib.Core.Path.{_≡_, refl, sym, ap, _∙_}
+use mathlib.Core.Bool.{false, cond}
+use mathlib.Core.List.{List, [], _∷_, _++_, append-assoc, append-nil}
 use lib.ListN.{length}
 use lib.Dec.{eqb}
-use borrow.Author.Tests.{eq-eqb}
 use Rattle.base.specs.Cond.{eqb-cases}
 use Rattle.base.specs.Pool.{All, nil, con}
 use Rattle.message.specs.Msg.{Msg}
 use Rattle.message.specs.Listed.{Listed}
-use Rattle.word.specs.Word.{Waiting, linkIn, handedIn, waitingOf, packWaiting}
+use Rattle.word.specs.Word.{Waiting, linkIn, handedIn}
 use Rattle.word.proofs.Laws.{waiting-back}
 use Rattle.plan.specs.declared.Plan.{Plan}
 use Rattle.node.specs.Work.{Send}

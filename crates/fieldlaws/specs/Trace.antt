@@ -1,10 +1,9 @@
 -- From steps to calls: what holds of each step, taken or refused, holds of each turn, round, run and call.
-use Prim.Native.Nat.{ℕ, zero, suc, _+_, _*_, _≤_, _<_}
-use mathlib.Core.Path.{_≡_, refl}
-use mathlib.Core.Bool.{Bool, true, false, cond}
-use mathlib.Core.List.{List, [], _∷_, _++_}
+use Prim.Native.Nat.{ℕ, _+_, _*_}
+use mathlib.Core.Bool.{cond}
+use mathlib.Core.List.{List, [], _++_}
 use lib.Dec.{eqb}
-use Rattle.base.specs.Loop.{After, Ran, then, loop, counted, runs, tale, tales}
+use Rattle.base.specs.Loop.{Ran, then, counted, tale, tales}
 use Rattle.base.specs.LoopLaws.{by-test, loop-tells, runs-tell}
 use Rattle.plan.specs.declared.Plan.{Plan}
 use Rattle.field.specs.State.{State}

@@ -1,16 +1,15 @@
 -- What the protocol has to say for rounds to come to rest; and what a state that stands still keeps.
-use Prim.Native.Nat.{ℕ, zero, suc, _+_, _-_, _*_, _≤_, _<_}
+use Prim.Native.Nat.{ℕ, _+_, _-_}
 use native.Mathlib.Omega.{arith}
-use mathlib.Core.Path.{_≡_, refl, sym, ap, ap₂, subst, _∙_}
+use mathlib.Core.Path.{_≡_, refl, ap, ap₂, subst, _∙_}
 use mathlib.Core.Logic.{_≢_}
-use mathlib.Core.Bool.{Bool, true, false, not, cond}
-use mathlib.Core.List.{List, [], _∷_, _++_}
+use mathlib.Core.Bool.{Bool, cond}
+use mathlib.Core.List.{List, [], _∷_}
 use lib.ListN.{length}
-use lib.Dec.{eqb}
 use Rattle.base.specs.Cond.{bit}
 use Rattle.base.specs.Sum.{sum}
 use Rattle.base.specs.LoopLaws.{by-test}
-use Rattle.base.specs.Pool.{All, All-map}
+use Rattle.base.specs.Pool.{All}
 use Rattle.base.specs.Keep.{keep}
 use Rattle.word.specs.Word.{linkIn}
 use Rattle.plan.specs.declared.Plan.{Plan}
@@ -50,7 +49,7 @@ still-progress p x y h e =
 pub still-blocked : (p : Plan) (x y : State) → Still x y → (w : ℕ) → Blocked p y w → Blocked p x w
 still-blocked p x y h w b = record {
   back = subst (λ m. serveWork p v w (record { cells = x .cells; marks = m; words = x .words; sent = x .sent }) .answer ≡ BACK) (h .marks)
-    (subst (λ c. serveWork p v w (record { cells = c; marks = y .marks; words = x .words; sent = x .sent }) .answer ≡ BACK) (h .cells) (b .back));
+      (subst (λ c. serveWork p v w (record { cells = c; marks = y .marks; words = x .words; sent = x .sent }) .answer ≡ BACK) (h .cells) (b .back));
   awake = subst (λ c. nodeAt (record { cells = c; marks = x .marks; words = x .words; sent = x .sent }) v .status ≢ ASLEEP) (h .cells) (b .awake);
 }
   where

@@ -1,20 +1,19 @@
 -- The first half of a round: every directed link hands over all that it holds. No hand-over is refused, and afterwards every word is in a queue.
-use Prim.Native.Nat.{ℕ, zero, suc, _+_, _*_, _/_, _%_, _^_, _≤_, _<_}
+use Prim.Native.Nat.{ℕ, suc, _+_, _*_, _/_, _^_, _<_}
 use native.Mathlib.Omega.{arith}
 use native.Mathlib.Nat.{not-suc-le-zero}
 use mathlib.Core.Path.{_≡_, refl, sym, ap, subst, _∙_}
-use mathlib.Core.Logic.{_≢_, _⊎_, inl, inr}
-use mathlib.Core.Bool.{Bool, true, false, not, cond, _&&_, true≢false}
+use mathlib.Core.Logic.{_≢_}
+use mathlib.Core.Bool.{true, false, not, _&&_}
 use mathlib.Core.List.{List, [], _∷_, _++_, append-nil}
 use lib.ListN.{length, length-append}
 use lib.Dec.{eqb}
 use borrow.Author.Tests.{eqb-true, eq-eqb}
-use Rattle.base.specs.Cond.{bool-cases, by-eq, eqb-same}
+use Rattle.base.specs.Cond.{bool-cases}
 use Rattle.base.specs.Search.{lt-suc-cases}
-use Rattle.base.specs.Loop.{After, loop}
 use Rattle.base.specs.LoopLaws.{Ok, loop-ok}
 use Rattle.base.specs.Pool.{All, nil, con, All-here, Out, here, there}
-use Rattle.base.specs.Keep.{keep, keep-yes, keep-app, keep-none, keep-no, First, first-out, first-passes, head-of, others}
+use Rattle.base.specs.Keep.{keep, keep-yes, keep-app, keep-none, keep-no, first-out, first-passes, head-of, others}
 use Rattle.word.specs.Word.{headerIn, carriedIn, linkIn, handedIn, shaped, handOver}
 use Rattle.word.proofs.Laws.{Unpacked, over}
 use Rattle.plan.specs.declared.Plan.{Plan}
@@ -22,8 +21,8 @@ use Rattle.plan.specs.Accepted.{Accepted}
 use Rattle.field.specs.State.{State}
 use Rattle.field.specs.Step.{inAir, hand, step}
 use Rattle.field.specs.Valid.{wordFits}
-use Rattle.calls.specs.Rounds.{many, handTurn, handPhase}
-use Rattle.fieldlaws.specs.Cases.{Handed, hands, took-it, hand-fine}
+use Rattle.calls.specs.Rounds.{handTurn, handPhase}
+use Rattle.fieldlaws.specs.Cases.{hands, took-it, hand-fine}
 use Rattle.fieldlaws.specs.Chan.{air-parts, made, not-right}
 use Rattle.fieldlaws.specs.Fits.{word-shaped, word-link}
 use Rattle.fieldlaws.specs.Keeps.{Sound, step-keeps, out-length}
@@ -87,7 +86,7 @@ module _ (p : Plan) (a : Accepted p) (Good : State → Type 0) (calm : Calm p Go
         let shape = word-shaped p x f in
         let words : hand p d z .state .words ≡ r ++ (handOver x ∷ []) = ap (λ (q : State). q .words) (h .is) in
         let kept : (e : ℕ) → keep (inAir e) (hand p d z .state .words) ≡ keep (inAir e) r =
-            λ e. ap (keep (inAir e)) words ∙ keep-app (inAir e) r (handOver x ∷ []) ∙ ap (λ m. keep (inAir e) r ++ m) (keep-none (inAir e) (handOver x) (not-air x shape e)) ∙ append-nil (keep (inAir e) r) in
+        λ e. ap (keep (inAir e)) words ∙ keep-app (inAir e) r (handOver x ∷ []) ∙ ap (λ m. keep (inAir e) r ++ m) (keep-none (inAir e) (handOver x) (not-air x shape e)) ∙ append-nil (keep (inAir e) r) in
         let head : keep (inAir d) (z .words) ≡ x ∷ keep (inAir d) r = head-of (inAir d) (λ w q. q) (first-passes (h .first)) (h .first) in
         record {
           fine = fine;
@@ -137,8 +136,8 @@ module _ (p : Plan) (a : Accepted p) (Good : State → Type 0) (calm : Calm p Go
           good = u .good;
           still = still-on (t .still) (u .still);
           empty = λ e less. lt-suc-cases e k less
-            (λ q. subst (λ i. keep (inAir i) (handTurn p k y .state .words) ≡ []) (sym q) (no-length _ (omega (arith, u .own))))
-            (λ lt. u .other e (λ q. omega arith) ∙ t .empty e lt);
+              (λ q. subst (λ i. keep (inAir i) (handTurn p k y .state .words) ≡ []) (sym q) (no-length _ (omega (arith, u .own))))
+              (λ lt. u .other e (λ q. omega arith) ∙ t .empty e lt);
           long = u .long ∙ t .long;
           back = λ b. t .back (u .back b);
         };

@@ -1,29 +1,29 @@
 -- Progress: messages consumed and nodes awake. A service raises it, or puts back a message that is blocked and changes nothing else.
-use Prim.Native.Nat.{ℕ, zero, suc, _+_, _-_, _*_, _≤_, _<_}
+use Prim.Native.Nat.{ℕ, suc, _+_, _-_, _*_, _≤_, _<_}
 use native.Mathlib.Omega.{arith}
 use mathlib.Core.Path.{_≡_, refl, sym, ap, ap₂, subst, _∙_}
 use mathlib.Core.Logic.{_≢_, _⊎_, inl, inr, ⊎-elim}
-use mathlib.Core.Bool.{Bool, true, false, not, cond}
-use mathlib.Core.List.{List, [], _∷_, _++_, append-nil}
+use mathlib.Core.Bool.{not}
+use mathlib.Core.List.{[], _∷_, _++_, append-nil}
 use lib.ListN.{length, length-append}
 use lib.Dec.{eqb}
 use borrow.Author.Tests.{eq-eqb, ne-eqb}
-use Rattle.base.specs.Cond.{bit, eqb-cases, eqb-same, eqb-diff, by-eq}
+use Rattle.base.specs.Cond.{bit, eqb-cases, eqb-diff, by-eq}
 use Rattle.base.specs.Sum.{sum, sum-le, sum-lt, sum-const}
-use Rattle.base.specs.Keep.{First, first-out, first-passes}
+use Rattle.base.specs.Keep.{first-out, first-passes}
 use Rattle.word.specs.Word.{linkIn}
 use Rattle.plan.specs.declared.Plan.{Plan}
 use Rattle.plan.specs.Accepted.{Accepted}
 use Rattle.node.specs.declared.Node.{Node}
-use Rattle.node.specs.Work.{Work, ASLEEP, BACK, REFUSED, start, putBack}
+use Rattle.node.specs.Work.{Work, ASLEEP, BACK, start, putBack}
 use Rattle.field.specs.Edges.{ownOf, linkOf, dest, limitOf, ceilingOf}
 use Rattle.field.specs.State.{State, nodeAt, markAt, msgIn, posted, placed}
-use Rattle.field.specs.Step.{inQueue, serveWork, backOf}
+use Rattle.field.specs.Step.{serveWork, backOf}
 use Rattle.fieldlaws.specs.Chan.{queue-parts}
 use Rattle.fieldlaws.specs.Sends.{length-posted}
-use Rattle.fieldlaws.specs.Cases.{Placed, Served}
+use Rattle.fieldlaws.specs.Cases.{Served}
 use Rattle.fieldlaws.specs.Places.{node-same, node-other, node-back, marks-back}
-use Rattle.fieldlaws.specs.Keeps.{Sized, Sound, out-length}
+use Rattle.fieldlaws.specs.Keeps.{Sound, out-length}
 use Rattle.roundlaws.specs.Steady.{Steady, ends-awake, ends-asleep}
 
 -- 1 for a node that is awake
@@ -39,9 +39,12 @@ up-one s v n = ap (λ b. bit (not b)) (eqb-diff _ ASLEEP n)
 up-le : (s : State) (v : ℕ) → up s v ≤ 1
 up-le s v = eqb-cases (nodeAt s v .status) ASLEEP (λ b. bit (not b) ≤ 1) (λ e. omega arith) (λ e. omega arith)
 
+pub awake-le : (p : Plan) (s : State) → sum (p .modules) (up s) ≤ p .modules
+awake-le p s = omega (arith, sum-le (p .modules) (up s) (λ v. 1) (λ v l. up-le s v), sum-const (p .modules) 1)
+
 pub progress-le : (p : Plan) (s : State) → Sound p s → progress p s ≤ ceilingOf p + p .modules
 unfolding progress
-progress-le p s i = omega (arith, i .fits .ceiling, sum-le (p .modules) (up s) (λ v. 1) (λ v l. up-le s v), sum-const (p .modules) 1)
+progress-le p s i = omega (arith, i .fits .ceiling, awake-le p s)
 
 -- the word would be put back by its node, which is awake
 pub record Blocked (p : Plan) (s : State) (x : ℕ) : Type 0 where
@@ -67,7 +70,7 @@ module _ (p : Plan) (a : Accepted p) (s s′ : State) (v : ℕ) (i : Sound p s) 
   node-after : nodeAt s′ v ≡ w .node
   node-after = ap (λ t. nodeAt t v) (h .responds .is) ∙ node-same (s .cells) v (w .node) in-range
 
-  other-after : (u : ℕ) → u ≢ v → nodeAt s′ u ≡ nodeAt s u
+  pub other-after : (u : ℕ) → u ≢ v → nodeAt s′ u ≡ nodeAt s u
   other-after u n = ap (λ t. nodeAt t u) (h .responds .is) ∙ node-other (s .cells) v (w .node) u n
 
   -- nothing done yet: not put back
@@ -81,8 +84,11 @@ module _ (p : Plan) (a : Accepted p) (s s′ : State) (v : ℕ) (i : Sound p s) 
       (λ n. ⊎-elim (λ k. k .awake) (λ e. subst (λ (r : Work). r .node .status ≢ ASLEEP) (sym e) n)
       (ends-awake (ownOf p v) (limitOf p) (linkOf (linkIn x)) (msgIn x) (start (nodeAt s v) (markAt p s v)) (begins n)))
 
+  pub awake-now : nodeAt s′ v .status ≢ ASLEEP
+  awake-now e = awake-after (sym (ap (λ (n : Node). n .status) node-after) ∙ e)
+
   up-v : up s′ v ≡ 1
-  up-v = up-one s′ v (λ e. awake-after (sym (ap (λ (n : Node). n .status) node-after) ∙ e))
+  up-v = up-one s′ v awake-now
 
   up-all : (u : ℕ) → u < p .modules → up s u ≤ up s′ u
   up-all u l = by-eq u v

@@ -1,17 +1,15 @@
 -- A response wakes its node or leaves it awake; it puts a message back only where it does nothing else.
-use Prim.Native.Nat.{ℕ, zero, suc, _+_, _-_}
+use Prim.Native.Nat.{ℕ, _+_, _-_}
 use native.Mathlib.Omega.{arith}
-use mathlib.Core.Path.{_≡_, refl, sym, ap, subst, _∙_}
+use mathlib.Core.Path.{_≡_, refl, sym, subst}
 use mathlib.Core.Logic.{_≢_, _⊎_, inl, inr}
 use mathlib.Core.Bool.{Bool, true, false, cond, _&&_}
-use mathlib.Core.List.{List}
 use lib.Dec.{eqb, ltb, leb}
-use Rattle.base.specs.Cond.{eqb-cases, by-eq}
 use Rattle.base.specs.LoopLaws.{by-test}
 use Rattle.message.specs.Msg.{Msg, none, connect, initiate, test, accept, reject, report, change}
 use Rattle.node.specs.declared.Node.{Node}
-use Rattle.node.specs.Work.{Own, Work, ASLEEP, FIND, FOUND, BASIC, BRANCH, TAKEN, BACK, REFUSED, before, start, putBack, refused, send, setMark, withNode, setStatus, setTest, setCount, setHalted, number, earliest, every, basic, branches, degree}
-use Rattle.node.specs.Rules.{woken, wakeOn, wakeup, awake, doReport, testOn, doTest, changeRoot, countUp, joined, absorb, coreEnd, onConnect, told, seek, onInitiate, strike, onTest, better, onAccept, onReject, childReport, coreReport, onReport, onChange, unlessAsleep, respondTo}
+use Rattle.node.specs.Work.{Own, Work, ASLEEP, FIND, FOUND, BASIC, BRANCH, BACK, REFUSED, before, putBack, refused, withNode, setTest, setCount, number, earliest, every, branches, degree}
+use Rattle.node.specs.Rules.{wakeOn, wakeup, awake, doReport, testOn, changeRoot, countUp, absorb, coreEnd, onConnect, told, seek, onInitiate, onTest, childReport, coreReport, onReport, respondTo}
 use Rattle.node.specs.Laws.{awake-wakes, awake-is, asleep-refused, asleep-not}
 
 -- not put back, and awake
@@ -47,7 +45,7 @@ steady-root w h = either (eqb (w .node .best) none) _ _ (stopped w h)
     (either (eqb (w .mark (w .node .best)) BRANCH) _ _ (record { answer = h .answer; awake = h .awake }) (record { answer = h .answer; awake = h .awake }))
 
 -- waking: Found
-steady-wake : (o : Own) (w : Work) → w .answer ≢ BACK → Steady (wakeup o w)
+pub steady-wake : (o : Own) (w : Work) → w .answer ≢ BACK → Steady (wakeup o w)
 unfolding wakeOn
 steady-wake o w h = either (eqb (earliest o every (o.edges)) none) _ _ (record { answer = h; awake = λ e. omega arith }) (record { answer = h; awake = λ e. omega arith })
 
