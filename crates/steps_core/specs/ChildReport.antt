@@ -1,0 +1,235 @@
+-- Report w from u at v over k, which is not v's in-branch: v counts down, weighs w against its best, procedure report comes next.
+use Rattle.protocol.specs.Prelude.{ℕ, suc, _-_, _≤_, arith, _≡_, refl, sym, ap, subst, _∙_, _≢_, _⊎_, inl, inr, ⊎-elim, by-eq}
+use Rattle.protocol.specs.Prelude.{List, _∷_, upd, upd-elim, upd-same, upd-other, upd2, upd2-elim, sumL, sum, le-sum, sum-row, row-else}
+use Rattle.protocol.specs.Prelude.{Msg, none, report}
+use Rattle.protocol.specs.Prelude.{Plan, Ends, key, rank, joins-lt, flip, ends-two, ends-same, key-none, key-edge, rank-lt}
+use Rattle.protocol.specs.Prelude.{State, Idle, Better, pop, bested, set-ch, set-fc, set-owe, set-op}
+use Rattle.protocol.specs.Prelude.{isR, kinds, In, in-sum, else-same, here-new, pop-in, in-pop, pop-le, pop-all}
+use Rattle.protocol.specs.Prelude.{GL, GC, Inf, Jn, Outst, Live, Covered, Child, Inv, no-root, rest-none, reports-same, reports-best}
+use Rattle.protocol.specs.Search.{Pending, Counts}
+use Rattle.protocol.specs.Traffic.{Tokens, Reports, Owing, Bests}
+use Rattle.steps_core.specs.Late.{Kept, late-report, late-alike, kept}
+use Rattle.steps_core.specs.Core as C
+use Rattle.steps_core.specs.Weigh as W
+use Rattle.steps_core.specs.Weigh.{Leaves}
+
+module _ {p : Plan} {s : State} (i : Inv p s) {u v k w b e : ℕ} {r : List Msg} (idle : Idle s) (ends : Ends p k u v) (q : s.ch u k ≡ report w ∷ r)
+    (away : s.ib v ≢ k) (better : Better p s v w k b e) where
+  abbrev S′ : State
+  S′ = set-op (set-owe (set-fc (bested (pop s u k r) v b e) (upd s.fc v (s.fc v - 1))) (upd2 s.owe v k 0)) (suc v)
+
+  abbrev c′ : ℕ → ℕ → List Msg
+  c′ = upd2 s.ch u k r
+
+  others : Kept p S′
+  others = kept i q (late-report w) S′.bw S′.be S′.fc s.halt s.dk s.dn S′.owe (suc v) s.oo
+
+  -- it is a child's
+  pub child : Child s u v k w
+  child = ⊎-elim (λ t. t)
+      (⊎-elim
+      (λ t. absurd (away (i.T1.t1e k v u (flip ends) (C.core-inf i ends q t) (sym (ap s.gc (C.inside i ends q)) ∙ t .0))))
+      (λ t. absurd (away (t .0))))
+      (i.R1.r1 k u v w ends (C.head i ends q))
+
+  pub inf-u : Inf s u
+  inf-u = child .0
+
+  pub found-u : s.st u ≡ 2
+  found-u = child .3
+
+  pub best-u : s.bw u ≡ w
+  best-u = child .4
+
+  pub inf-v : Inf s v
+  inf-v = child .5
+
+  pub find : s.st v ≡ 1
+  find = child .6
+
+  pub joined : Jn s k v u
+  joined = let t = C.joined i ends q in (t .1, t .0)
+
+  -- and is counted
+  pub owed : s.owe v k ≡ 1
+  owed = i.F4c.f4n k v u (flip ends) inf-v joined away (inl (inf-u, inr (in-sum isR (C.head i ends q))))
+
+  pub count : 1 ≤ s.fc v
+  count = omega (arith, owed, i.F4.f4 v, le-sum p.g.L k (s.owe v) (joins-lt ends))
+
+  -- it was the only one
+  pub silent : sumL isR (c′ u k) ≡ 0
+  silent = ap (sumL isR) (here-new s.ch u k r) ∙ rest-none i isR ends q (λ n f. f)
+
+  -- ---- v's best
+
+  -- w leaves the fragment, from u's side, which is v's
+  pub leaves : w ≢ none → Leaves p s v w
+  leaves n =
+      let t = i.B1.b1 u inf-u (λ z. n (sym best-u ∙ z)) in
+      let f = C.inside i ends q in (
+        t .0,
+        t .1,
+        subst (λ a. Ends p a (t .0) (t .1)) best-u (t .2),
+        t .3 ∙ f,
+        λ z. t .4 (z ∙ sym f),
+        omega (arith, t .5, ap s.gl f),
+        t .6,
+        t .7 ∙ i.T1.t1p k u v ends inf-u (child .1) (child .2) .2,
+      )
+
+  -- so it is not k, which is joined
+  k-inner : w ≢ none → k ≢ w
+  k-inner n z =
+      let t = leaves n in
+      let f = C.inside i ends q in
+      ⊎-elim (λ o. t .4 (ap s.fr (sym (o .1)))) (λ o. t .4 (ap s.fr (sym (o .0)) ∙ f)) (ends-two ends (subst (λ j. Ends p j (t .0) (t .1)) (sym z) (t .2)))
+
+  F2′ : Pending s.st s.te S′.fc s.ot (suc v)
+  F2′ = record {
+    f2 = λ x h. by-eq v x (λ z. inr (inr (inr (ap suc z))))
+        (λ n. ⊎-elim (λ c. inl (λ z. c (sym (upd-other s.fc v (s.fc v - 1) x n) ∙ z)))
+        (⊎-elim (λ c. inr (inl c)) (⊎-elim (λ c. inr (inr (inl c))) (λ c. absurd (omega (arith, idle .1))))) (i.F2.f2 x h));
+    f3t = i.F2.f3t;
+    f3c = λ x n. upd-elim (λ a. a ≡ 0) s.fc v (s.fc v - 1) x (λ z. absurd (n (ap s.st (sym z) ∙ find))) (λ d. i.F2.f3c x n);
+    f5t = i.F2.f5t;
+    f5p = λ x h. subst (λ a. s.st a ≡ 1) (omega arith) find;
+  }
+
+  F4′ : Counts p S′.fc S′.owe
+  F4′ = record {
+    f4 = λ x. upd-elim (λ a. a ≡ sum p.g.L (S′.owe x)) s.fc v (s.fc v - 1) x
+        (λ z. subst (λ a. s.fc v - 1 ≡ sum p.g.L (S′.owe a)) z (omega (arith, sum-row p.g.L v k 0 s.owe (joins-lt ends), i.F4.f4 v, owed)))
+        (λ n. subst (λ a. s.fc x ≡ sum p.g.L a) (sym (row-else v k 0 s.owe x n)) (i.F4.f4 x));
+    f4l = λ x j. upd2-elim (λ a. a ≤ 1) s.owe v k 0 x j (λ a c. omega arith) (λ n. i.F4.f4l x j);
+    f4o = λ x j. upd2-elim (λ a. a ≢ 0 → (c : ℕ) × Ends p j x c) s.owe v k 0 x j (λ a c n. absurd (n refl)) (λ d n. i.F4.f4o x j n);
+  }
+
+  Dc′ : Tokens p S′
+  Dc′ = record {
+    d1c = λ j z y f t. in-pop s.ch u k q z j (kinds (λ a. omega arith)) (i.Dc.d1c j z y f t);
+    d1a = λ j z y f t. pop-all s.ch u k q z j (i.Dc.d1a j z y f t);
+    d2c = λ j a x f t. in-pop s.ch u k q a j (kinds (λ z. omega arith)) (i.Dc.d2c j a x f t);
+    k1 = λ j a x f n. i.Dc.k1 j a x f (pop-in s.ch u k q a j n);
+    d3r = λ j x y f t. absurd (no-root i x (idle .2) (t .0));
+    d4h = λ j x y f g d l t n. i.Dc.d4h j x y f g d l t (pop-in s.ch u k q y j n);
+    d4r = λ j x y f g d l t. subst (λ a. In (report none) a) (sym (core-off j y x (flip f) (core-other j x y f g l))) (i.Dc.d4r j x y f g d l t);
+    d7 = λ j x y f g d h o. ⊎-elim
+        (λ t. inl (subst (λ a. 1 ≤ sumL isR a) (sym (core-off j x y f g)) t))
+        (λ t. inr (
+          t .0,
+          t .1,
+          omega (arith, ap (key p) (W.bw-found i (idle .2) find (flip ends) better leaves x o), ap (key p) (W.bw-found i (idle .2) find (flip ends) better leaves y (t .1)), t .2),
+          subst (λ a. 1 ≤ sumL isR a) (sym (core-off j y x (flip f) (core-other j x y f g (h .0)))) (t .3),
+        ))
+        (i.Dc.d7 j x y f g d h o);
+  }
+    where
+      -- the other end of the core is in the fragment
+      core-other : (j x y : ℕ) → Ends p j x y → GC s x ≡ j → 1 ≤ GL s x → GC s y ≡ j
+      core-other j x y f g l = ap s.gc (i.G5.g5 x y x l (subst (λ a. Ends p a y x) (sym g) (flip f)) .1) ∙ g
+
+      -- k is no core
+      core-off : (j x y : ℕ) → Ends p j x y → GC s x ≡ j → c′ x j ≡ s.ch x j
+      core-off j x y f g = else-same s.ch u k r x j (by-eq k j (λ z. inl (λ a. child .2 (ap (λ a. GC s a) a ∙ g ∙ sym z))) (λ n. inr n))
+
+  R1′ : Reports p S′
+  R1′ =
+      let o = reports-best p (set-ch s c′) S′.bw S′.be (W.bw-found i (idle .2) find (flip ends) better leaves) (reports-same p s c′ (late-alike i q (late-report w)) i.R1) in
+      record { r1r = o.r1r; r1j = o.r1j; r1 = o.r1; r1c = o.r1c }
+
+  F4c′ : Owing p S′
+  F4c′ = record {
+    f4y = λ j x c f. upd2-elim (λ a. a ≢ 0 → Inf s x × Jn s j x c × (s.ib x ≢ j) × Outst S′ c j) s.owe v k 0 x j
+        (λ a d n. absurd (n refl))
+        (λ d n. let t = i.F4c.f4y j x c f n in (t .0, t .1, t .2, outst-to j x c f d (t .3)));
+    f4n = λ j x c f h m n o. upd2-elim (λ a. a ≡ 1) s.owe v k 0 x j
+        (λ a d. absurd (settled (subst (λ y. Outst S′ y k) (sym (far-end j x c f a d)) (subst (λ y. Outst S′ c y) (sym d) o))))
+        (λ d. i.F4c.f4n j x c f h m n (outst-from c j o));
+  }
+    where
+      far-end : (j x c : ℕ) → Ends p j x c → v ≡ x → k ≡ j → u ≡ c
+      far-end j x c f a d = ends-same (flip ends) (subst (λ n. Ends p n v c) (sym d) (subst (λ n. Ends p j n c) (sym a) f))
+
+      -- u's is no longer to come
+      settled : ¬ Outst S′ u k
+      settled (inl t) = ⊎-elim (λ f. omega (arith, found-u)) (λ l. omega (arith, silent)) (t .1)
+      settled (inr t) = omega (arith, t .0, inf-u .1)
+
+      outst-from : (c j : ℕ) → Outst S′ c j → Outst s c j
+      outst-from c j (inl t) = inl (t .0, ⊎-elim (λ f. inl f) (λ l. inr (omega (arith, pop-le s.ch u k q isR c j))) (t .1))
+      outst-from c j (inr t) = inr t
+
+      outst-to : (j x c : ℕ) → Ends p j x c → (v ≢ x) ⊎ (k ≢ j) → Outst s c j → Outst S′ c j
+      outst-to j x c f d o =
+          let y : c′ c j ≡ s.ch c j = else-same s.ch u k r c j (by-eq k j
+          (λ z. inl (λ a. ⊎-elim (λ n. n (ends-same ends (subst (λ n. Ends p n u x) (sym z) (subst (λ n. Ends p j n x) (sym a) (flip f))))) (λ n. n z) d)) (λ n. inr n)) in
+          ⊎-elim (λ t. inl (t .0, ⊎-elim (λ f. inl f) (λ l. inr (subst (λ a. 1 ≤ sumL isR a) (sym y) l)) (t .1))) (λ t. inr t) o
+
+  B2′ : Bests p S′
+  B2′ = record {
+    b1e = W.best-edge i (idle .2) find (flip ends) better leaves c′ (pop-le s.ch u k q isR)
+        (λ n d. (u, flip ends, joined, away, inf-u, child .1, W.bw-found i (idle .2) find (flip ends) better leaves u found-u ∙ best-u, found-u, silent));
+    b2 = λ j x y f m d g. ⊎-elim (λ t. inl t)
+        (⊎-elim (λ t. inr (inl t)) (⊎-elim (λ t. inr (inr (inl t))) (λ t. inr (inr (inr (cover x (rank p j) t))))))
+        (i.B2.b2 j x y f m d g);
+  }
+    where
+      -- v's own best covers what a best weight that is no earlier covered
+      mine : (x y n : ℕ) → s.fr v ≡ s.fr x → s.bw y ≢ none → key p b ≤ key p (s.bw y) → key p (s.bw y) ≤ n → Covered p S′ x n
+      mine x y n z o l m =
+          let a = i.W1.w1w y o in (
+            v,
+            z,
+            inf-v,
+            λ c. omega (arith, ap (key p) (sym (upd-same s.bw v b) ∙ c), key-none p, key-edge p (s.bw y) a, rank-lt p (s.bw y) a),
+            inl find,
+            omega (arith, ap (key p) (upd-same s.bw v b)),
+          )
+
+      live : (x : ℕ) → u ≢ x → Live s x → Live S′ x
+      live x n (inl f) = inl f
+      live x n (inr (inl g)) = inr (inl g)
+      live x n (inr (inr l)) = inr (inr (subst (λ a. 1 ≤ sumL isR a) (sym (else-same s.ch u k r x (s.ib x) (inl n))) l))
+
+      cover : (x n : ℕ) → Covered p s x n → Covered p S′ x n
+      cover x n t = by-eq v (t .0)
+          (λ z. mine x (t .0) n (ap s.fr z ∙ t .1) (t .3) (omega (arith, W.best-old i (idle .2) find (flip ends) better leaves, ap (λ a. key p (s.bw a)) z)) (t .5))
+          (λ d. by-eq u (t .0)
+          (λ z. mine x (t .0) n (sym (C.inside i ends q) ∙ ap s.fr z ∙ t .1) (t .3)
+          (omega (arith, W.best-w i (idle .2) find (flip ends) better leaves, ap (key p) (sym (ap s.bw z) ∙ best-u))) (t .5))
+          (λ a. let y = upd-other s.bw v b (t .0) d in (t .0, t .1, t .2, λ c. t .3 (sym y ∙ c), live (t .0) a (t .4), omega (arith, ap (key p) y, t .5))))
+
+  pub inv-child-report : Inv p S′
+  inv-child-report = record {
+    W0 = i.W0;
+    W1 = W.W1′ i (idle .2) find (flip ends) better leaves;
+    G2 = i.G2;
+    G4 = i.G4;
+    G5 = i.G5;
+    G6 = W.G6′ i (idle .2) find (flip ends) better leaves;
+    M1 = i.M1;
+    U1 = i.U1;
+    D1 = i.D1;
+    D2 = W.D2′ i (idle .2) find (flip ends) better leaves;
+    D3 = W.D3′ i (idle .2) find (flip ends) better leaves;
+    D4 = W.D4′ i (idle .2) find (flip ends) better leaves;
+    T1 = i.T1;
+    T2 = i.T2;
+    F1 = i.F1;
+    F2 = F2′;
+    F4 = F4′;
+    E2 = i.E2;
+    B1 = W.B1′ i (idle .2) find (flip ends) better leaves;
+    G6c = others.G6c;
+    Dc = Dc′;
+    C1 = others.C1;
+    I1 = others.I1;
+    T4 = others.T4;
+    E1 = others.E1;
+    A1 = others.A1;
+    R1 = R1′;
+    F4c = F4c′;
+    B2 = B2′;
+    Q1 = others.Q1;
+  }

@@ -1,0 +1,121 @@
+-- The Report w of u, the head of the channel over k, at v. Where it is a core end's: both ends are informed and,
+-- if v is not Find, the fragment is quiet, and only the best weights of the two ends still count.
+use Rattle.protocol.specs.Prelude.{ℕ, _≤_, arith, _≡_, refl, sym, ap, subst, _∙_, _≢_, _⊎_, inl, inr, ⊎-elim, by-eq}
+use Rattle.protocol.specs.Prelude.{List, _∷_, sumL, Msg, none, initiate, report}
+use Rattle.protocol.specs.Prelude.{Plan, Ends, key, rank, flip, ends-two, State, Idle, key-none, key-edge, rank-lt}
+use Rattle.protocol.specs.Prelude.{isR, kinds, In, Bef, in-cons, heads, pop-head, some-report}
+use Rattle.protocol.specs.Prelude.{GL, GC, DK, Inf, Jn, Live, CoreEnds, Spent, Inv, inf-found, te-find, up-other, no-find, no-due}
+
+module _ {p : Plan} {s : State} (i : Inv p s) {u v k w : ℕ} {r : List Msg} (ends : Ends p k u v) (q : s.ch u k ≡ report w ∷ r) where
+  pub head : In (report w) (s.ch u k)
+  head = pop-head s.ch u k q
+
+  pub joined : Jn s k u v
+  joined = i.R1.r1j k u v w ends head
+
+  pub inside : s.fr u ≡ s.fr v
+  inside = i.M1.m3 k u v ends joined
+
+  -- the receiver of a core end's Report is informed: its Initiate would stand ahead
+  pub core-inf : CoreEnds s u v k w → Inf s v
+  core-inf c = ⊎-elim (λ t. t .0) (λ t. absurd (behind (t .1))) (c .6)
+    where
+      behind : ¬ In (initiate (GL s v) k 1) (s.ch u k)
+      behind n = ⊎-elim (λ e. kinds (λ z. omega arith) e)
+          (λ o. omega (arith, c .5 (initiate (GL s v) k 1) (subst (λ l. Bef (report w) (initiate (GL s v) k 1) l) (sym q) (heads o))))
+          (in-cons (subst (λ l. In (initiate (GL s v) k 1) l) q n))
+
+  -- v is not Find: it is no child's
+  pub core-or-spent : s.st v ≢ 1 → CoreEnds s u v k w ⊎ Spent p s u v k w
+  core-or-spent n = ⊎-elim (λ t. absurd (n (t .6))) (λ t. t) (i.R1.r1 k u v w ends head)
+
+  -- a weight that is no edge is the latest
+  pub weight-le : key p w ≤ p.g.L
+  weight-le = by-eq w none (λ z. omega (arith, ap (key p) z, key-none p))
+      (λ n. let l = i.R1.r1r k u v w ends head n in omega (arith, key-edge p w l, rank-lt p w l))
+
+  module _ (idle : Idle s) (found : s.st v ≢ 1) (core : CoreEnds s u v k w) where
+    pub inf-u : Inf s u
+    inf-u = core .2
+
+    pub inf-v : Inf s v
+    inf-v = core-inf core
+
+    pub found-u : s.st u ≡ 2
+    found-u = core .3
+
+    pub found-v : s.st v ≡ 2
+    found-v = inf-found i v inf-v found
+
+    pub best-u : s.bw u ≡ w
+    best-u = core .4
+
+    pub core-u : GC s u ≡ k
+    core-u = core .0
+
+    pub core-v : GC s v ≡ k
+    core-v = sym (ap s.gc inside) ∙ core-u
+
+    pub undec : DK s v ≡ 0
+    undec = sym (ap s.dk inside) ∙ core .1
+
+    pub ib-u : s.ib u ≡ k
+    ib-u = i.T1.t1e k u v ends inf-u core-u
+
+    pub ib-v : s.ib v ≡ k
+    ib-v = i.T1.t1e k v u (flip ends) inf-v core-v
+
+    pub ub-u : s.ub u ≡ k
+    ub-u = i.T1.t1u u inf-u (core .1) ∙ ib-u
+
+    pub ub-v : s.ub v ≡ k
+    ub-v = i.T1.t1u v inf-v undec ∙ ib-v
+
+    -- quiet: nobody is Find or due
+    pub none-find : (x : ℕ) → s.fr x ≡ s.fr v → s.st x ≢ 1
+    none-find = no-find i (flip ends) core-v inf-v inf-u found (λ z. omega (arith, found-u))
+
+    pub none-due : (x : ℕ) → s.fr x ≡ s.fr v → s.due x ≡ 0
+    none-due x e = let n = no-due i (flip ends) core-v inf-v inf-u found (λ z. omega (arith, found-u)) x e in omega (arith, i.W0.due-le x)
+
+    -- a Report within the fragment: between the two ends, or spent
+    pub report-core : (j a b n : ℕ) → Ends p j a b → s.fr a ≡ s.fr v → In (report n) (s.ch a j)
+        → ((((a ≡ u) × (b ≡ v)) ⊎ ((a ≡ v) × (b ≡ u))) × (j ≡ k) × (s.bw a ≡ n)) ⊎ Spent p s a b j n
+    report-core j a b n e f o = ⊎-elim
+        (λ t. absurd (none-find b (sym (i.M1.m3 j a b e (i.R1.r1j j a b n e o)) ∙ f) (t .6)))
+        (⊎-elim
+        (λ t. let z : j ≡ k = sym (t .0) ∙ ap s.gc f ∙ core-v in inl (ends-two (subst (λ x. Ends p x a b) z e) ends, z, t .4))
+        (λ t. inr t))
+        (i.R1.r1 j a b n e o)
+
+    -- whose best weight counts is a core end
+    live-end : (x : ℕ) → s.fr x ≡ s.fr v → Inf s x → Live s x → (x ≡ u) ⊎ (x ≡ v)
+    live-end x f h (inl t) = absurd (none-find x f t)
+    live-end x f h (inr t) = at-core (by-eq (s.ib x) (GC s x) (λ z. z) (λ n. absurd (⊎-elim n (sent n) t)))
+      where
+        up-edge : (y : ℕ) × Ends p (s.ib x) x y
+        up-edge = i.U1.u1r x (i.T1.t1 x h)
+
+        at-core : s.ib x ≡ GC s x → (x ≡ u) ⊎ (x ≡ v)
+        at-core z = ⊎-elim (λ t. inl (t .0)) (λ t. inr (t .0))
+            (ends-two (subst (λ j. Ends p j x (up-edge .0)) (z ∙ ap s.gc f ∙ core-v) (up-edge .1)) ends)
+
+        sent : s.ib x ≢ GC s x → ¬ (1 ≤ sumL isR (s.ch x (s.ib x)))
+        sent n l =
+            let o = some-report (s.ch x (s.ib x)) l in
+            ⊎-elim
+            (λ t. n (t .1 ∙ sym core-v ∙ sym (ap s.gc f)))
+            (λ t. up-other i (s.ib x) x (up-edge .0) (up-edge .1) h refl (λ z. n (sym z)) (t .0))
+            (report-core (s.ib x) x (up-edge .0) (o .0) (up-edge .1) f (o .1))
+
+    -- an edge that is Basic in the fragment is not earlier than the best weight of one of the ends
+    pub bound : (a j b : ℕ) → s.fr a ≡ s.fr v → Ends p j a b → s.mark a j ≡ 0
+        → (x : ℕ) × ((x ≡ u) ⊎ (x ≡ v)) × (s.bw x ≢ none) × (key p (s.bw x) ≤ rank p j)
+    bound a j b f e m = ⊎-elim
+        (λ t. absurd (omega (arith, t .1, none-due a f)))
+        (⊎-elim
+        (λ t. absurd (omega (arith, idle .0)))
+        (⊎-elim
+        (λ t. absurd (none-find a f (te-find i a (t .0))))
+        (λ t. (t .0, live-end (t .0) (t .1 ∙ f) (t .2) (t .4), t .3, t .5))))
+        (i.B2.b2 j a b e m (ap s.dk f ∙ undec) (omega (arith, ap s.gl f, inf-v .0)))

@@ -1,0 +1,5 @@
+pub mod Late
+pub mod Core
+pub mod CoreNothing
+pub mod Weigh
+pub mod ChildReport

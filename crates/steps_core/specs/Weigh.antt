@@ -1,0 +1,144 @@
+-- v, which is Find, weighs w, which came over its own edge k, against its best: the clauses on best weights and best edges.
+use Rattle.protocol.specs.Prelude.{ℕ, _≤_, _<_, arith, _≡_, sym, ap, subst, _∙_, _≢_, ⊎-elim, by-eq}
+use Rattle.protocol.specs.Prelude.{List, upd, upd-elim, upd-same, upd-other, sumL, Msg, none}
+use Rattle.protocol.specs.Prelude.{Plan, Ends, key, joins-lt, edge-some, key-none, key-edge, rank-lt, State, Better, isR}
+use Rattle.protocol.specs.Prelude.{GL, DK, Inf, Jn, Inv, decided-find, no-root}
+use Rattle.protocol.specs.Fragments.{Values, Sleepers}
+use Rattle.protocol.specs.Decisions.{Tellings, Rootings, Finishes}
+use Rattle.protocol.specs.Search.{Weights}
+
+-- weight w leaves v's fragment, from an informed node of v's side to a node of no lower level
+abbrev pub Leaves : Plan → State → ℕ → ℕ → Type 0
+Leaves p s v w = (x : ℕ) × (y : ℕ) × Ends p w x y × (s.fr x ≡ s.fr v) × (s.fr y ≢ s.fr v) × (GL s v ≤ s.lev y) × Inf s x × (s.side x ≡ s.side v)
+
+-- x's best edge j leads to a child with best weight n whose Report has been consumed; c′ are the channels
+abbrev pub Kid : Plan → State → (ℕ → ℕ) → (ℕ → ℕ → List Msg) → ℕ → ℕ → ℕ → Type 0
+Kid p s bw c′ x j n = (c : ℕ) × Ends p j x c × Jn s j x c × (s.ib x ≢ j) × Inf s c × (s.ib c ≡ j) × (bw c ≡ n) × (s.st c ≡ 2) × (sumL isR (c′ c j) ≡ 0)
+
+module _ {p : Plan} {s : State} (i : Inv p s) {u v w k b e : ℕ} (calm : s.oo ≡ 0) (find : s.st v ≡ 1) (ends : Ends p k v u)
+    (better : Better p s v w k b e) (leaves : w ≢ none → Leaves p s v w) where
+  abbrev bw′ : ℕ → ℕ
+  bw′ = upd s.bw v b
+
+  abbrev be′ : ℕ → ℕ
+  be′ = upd s.be v e
+
+  inf : Inf s v
+  inf = i.F1.f1 v find .f1i
+
+  -- a Found node, and one of a decided fragment, keeps its best weight
+  pub bw-found : (x : ℕ) → s.st x ≡ 2 → bw′ x ≡ s.bw x
+  bw-found x h = upd-other s.bw v b x (λ z. omega (arith, find, ap s.st z))
+
+  pub bw-decided : (x : ℕ) → DK s x ≢ 0 → bw′ x ≡ s.bw x
+  bw-decided x h = upd-other s.bw v b x (λ z. decided-find i x h (ap s.st (sym z) ∙ find))
+
+  -- the new best weight: not later than w, nor than the old one
+  pub best-w : key p b ≤ key p w
+  best-w = ⊎-elim (λ t. omega (arith, ap (key p) (t .1))) (λ t. omega (arith, ap (key p) (t .1), t .0)) better
+
+  pub best-old : key p b ≤ key p (s.bw v)
+  best-old = ⊎-elim (λ t. omega (arith, ap (key p) (t .1), t .0)) (λ t. omega (arith, ap (key p) (t .1))) better
+
+  -- a weight that is earlier than another is an edge
+  pub early-some : (x y : ℕ) → (y ≢ none → y < p.g.L) → key p x < key p y → x ≢ none
+  early-some x y f l z = by-eq y none
+      (λ o. omega (arith, ap (key p) z, ap (key p) o))
+      (λ n. omega (arith, ap (key p) z, key-none p, key-edge p y (f n), rank-lt p y (f n)))
+
+  -- the new best is w over k, or the old one
+  pub cases {κ} : {C : Type κ} → (w ≢ none → b ≡ w → e ≡ k → C) → (b ≡ s.bw v → e ≡ s.be v → C) → C
+  cases y n = ⊎-elim (λ t. y (early-some w (s.bw v) (i.W1.w1w v) (t .0)) (t .1) (t .2)) (λ t. n (t .1) (t .2)) better
+
+  pub W1′ : Values p bw′ be′
+  W1′ = record {
+    w1w = λ x. upd-elim (λ a. a ≢ none → a < p.g.L) s.bw v b x
+        (λ z n. cases (λ o a c. omega (arith, joins-lt (leaves o .2))) (λ a c. omega (arith, i.W1.w1w v (λ y. n (a ∙ y))))) (λ d n. i.W1.w1w x n);
+    w1e = λ x. upd-elim (λ a. a ≢ none → (y : ℕ) × Ends p a x y) s.be v e x
+        (λ z n. subst (λ a. (y : ℕ) × Ends p e a y) z
+        (cases (λ o a c. (u, subst (λ a. Ends p a v u) (sym c) ends)) (λ a c. subst (λ a. (y : ℕ) × Ends p a v y) (sym c) (i.W1.w1e v (λ y. n (c ∙ y))))))
+        (λ d n. i.W1.w1e x n);
+  }
+
+  pub G6′ : Sleepers p s.st s.fr s.gl s.dk s.due bw′ be′ s.ub s.halt s.mark
+  G6′ = record {
+    g6 = λ x h. let t = i.G6.g6 x h in let n : v ≢ x = λ z. omega (arith, find, ap s.st z) in
+        record { g6g = t.g6g; g6d = t.g6d; g6u = t.g6u; g6w = upd-other s.bw v b x n ∙ t.g6w; g6e = upd-other s.be v e x n ∙ t.g6e };
+    g6m = i.G6.g6m;
+    u1a = i.G6.u1a;
+    g7 = i.G6.g7;
+    g7n = i.G6.g7n;
+  }
+
+  pub D2′ : Tellings p s.dk s.dn s.de s.fr s.gl s.gc s.lev s.ib s.ub bw′ s.mark
+  D2′ = record {
+    d2f = i.D2.d2f;
+    d2e = i.D2.d2e;
+    d2 = λ j a x f h. let t = i.D2.d2 j a x f h in
+        let z = bw-decided x (λ y. omega (arith, h .0, ap s.dk (i.M1.m3 j a x f (t.d2j)))) in
+        record {
+          d2j = t.d2j;
+          d2g = t.d2g;
+          d2i = t.d2i;
+          d2x = t.d2x;
+          d2b = t.d2b;
+          d2u = t.d2u;
+          d2v = t.d2v;
+          d2w = λ y. t.d2w (sym z ∙ y);
+          d2n = λ a c d y g m. omega (arith, ap (key p) z, t.d2n a c d y g m);
+        };
+  }
+
+  pub D3′ : Rootings p s.dk s.dn s.fr s.gl s.lev s.ib s.ub bw′ s.mark s.oo
+  D3′ = record { d3f = i.D3.d3f; d3o = i.D3.d3o; f5r = i.D3.f5r; d3 = λ x h. absurd (no-root i x calm (h .0)) }
+
+  pub D4′ : Finishes p s.dk s.fr s.gl s.gc s.lev bw′ s.halt s.due s.mark
+  D4′ = record {
+    d4 = i.D4.d4;
+    d4i = λ j x y f g d l. let t = i.D4.d4i j x y f g d l in (t .0, bw-decided x (λ z. omega arith) ∙ t .1);
+    d5 = i.D4.d5;
+    d6 = i.D4.d6;
+    d6c = i.D4.d6c;
+  }
+
+  pub B1′ : Weights p s.lev s.fr s.gl bw′ be′ s.side
+  B1′ = record {
+    b1n = λ x h. by-eq v x
+        (λ z y. let o = sym (upd-same s.bw v b) ∙ ap bw′ z ∙ y in
+        sym (ap be′ z) ∙ upd-same s.be v e ∙ cases (λ n a c. absurd (n (sym a ∙ o))) (λ a c. c ∙ i.B1.b1n v inf (sym a ∙ o)))
+        (λ n y. upd-other s.be v e x n ∙ i.B1.b1n x h (sym (upd-other s.bw v b x n) ∙ y));
+    b1m = λ x h. by-eq v x
+        (λ z y. let o = sym (upd-same s.be v e) ∙ ap be′ z ∙ y in
+        sym (ap bw′ z) ∙ upd-same s.bw v b ∙ cases (λ n a c. absurd (edge-some p ends (sym c ∙ o))) (λ a c. a ∙ i.B1.b1m v inf (sym c ∙ o)))
+        (λ n y. upd-other s.bw v b x n ∙ i.B1.b1m x h (sym (upd-other s.be v e x n) ∙ y));
+    b1 = λ x h. upd-elim (λ a. a ≢ none → Leaves p s x a) s.bw v b x
+        (λ z n. subst (λ x. Leaves p s x b) z (cases (λ o a c. subst (Leaves p s v) (sym a) (leaves o)) (λ a c. subst (Leaves p s v) (sym a) (i.B1.b1 v inf (λ y. n (a ∙ y))))))
+        (λ d n. i.B1.b1 x h n);
+  }
+
+  -- the channels c′ have no more Reports
+  module _ (c′ : ℕ → ℕ → List Msg) (fewer : (x j : ℕ) → sumL isR (c′ x j) ≤ sumL isR (s.ch x j)) where
+    -- best edges, if k leads to a child with best weight w where w is another edge
+    pub best-edge : (w ≢ none → k ≢ w → Kid p s bw′ c′ v k w) → (x : ℕ) → Inf s x → bw′ x ≢ none → be′ x ≢ bw′ x → Kid p s bw′ c′ x (be′ x) (bw′ x)
+    best-edge kid x h = by-eq v x
+        (λ z. subst (λ x. bw′ x ≢ none → be′ x ≢ bw′ x → Kid p s bw′ c′ x (be′ x) (bw′ x)) z (at-v (upd-same s.bw v b) (upd-same s.be v e)))
+        (λ d n m. same-kid x h n m (upd-other s.be v e x d) (upd-other s.bw v b x d))
+      where
+        same-kid : (x : ℕ) → Inf s x → bw′ x ≢ none → be′ x ≢ bw′ x → be′ x ≡ s.be x → bw′ x ≡ s.bw x → Kid p s bw′ c′ x (be′ x) (bw′ x)
+        same-kid x h n m y z =
+            let t = i.B2.b1e x h (λ a. n (z ∙ a)) (λ a. m (y ∙ a ∙ sym z)) in (
+              t .0,
+              subst (λ a. Ends p a x (t .0)) (sym y) (t .1),
+              subst (λ a. Jn s a x (t .0)) (sym y) (t .2),
+              λ a. t .3 (a ∙ y),
+              t .4,
+              t .5 ∙ sym y,
+              bw-found (t .0) (t .7) ∙ t .6 ∙ sym z,
+              t .7,
+              omega (arith, fewer (t .0) (be′ x), ap (λ a. sumL isR (s.ch (t .0) a)) y, t .8),
+            )
+
+        at-v : bw′ v ≡ b → be′ v ≡ e → bw′ v ≢ none → be′ v ≢ bw′ v → Kid p s bw′ c′ v (be′ v) (bw′ v)
+        at-v y z n m = cases
+            (λ o a c. subst (λ j. Kid p s bw′ c′ v j (bw′ v)) (sym (z ∙ c)) (subst (Kid p s bw′ c′ v k) (sym (y ∙ a)) (kid o (λ f. m (z ∙ c ∙ f ∙ sym (y ∙ a))))))
+            (λ a c. same-kid v inf n m (z ∙ c) (y ∙ a))
