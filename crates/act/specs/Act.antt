@@ -48,14 +48,14 @@ pub record Formed (a : Act) : Type 0 where
   pub first : outFor (a .first .to) (msgIn (a .first)) ≡ a .first
   pub second : outFor (a .second .to) (msgIn (a .second)) ≡ a .second
 
--- r is a after f, for marks m before the response
-pub record Does (m : ℕ → ℕ) (f : Work → Work) (a r : Act) : Type 0 where
-  pub work : (cs : List Send) → workOf m cs r ≡ f (workOf m cs a)
+-- r is a after f, for marks m before the response and copies cs
+pub record Does (m : ℕ → ℕ) (cs : List Send) (f : Work → Work) (a r : Act) : Type 0 where
+  pub work : workOf m cs r ≡ f (workOf m cs a)
   pub formed : Formed a → Formed r
 
 -- r is a after saying x
-pub record Says (m : ℕ → ℕ) (x : Out) (a r : Act) : Type 0 where
-  pub does : (to : ℕ) (msg : Msg) → x ≡ outFor to msg → to ≢ none → Does m (send to msg) a r
+pub record Says (m : ℕ → ℕ) (cs : List Send) (x : Out) (a r : Act) : Type 0 where
+  pub does : (to : ℕ) (msg : Msg) → x ≡ outFor to msg → to ≢ none → Does m cs (send to msg) a r
   pub room : a .first .to ≡ none → r .second .to ≡ none
 
 abbrev pub begun : Node → Act

@@ -12,6 +12,7 @@ use Rattle.message.specs.Header.{msgOf}
 use Rattle.node.specs.declared.Node.{Node}
 use Rattle.node.specs.Work.{Send, Work, send, setMark, withNode, start}
 use Rattle.search.specs.Own.{marked}
+use Rattle.node.specs.Rules.{copied}
 use Rattle.act.specs.declared.Out.{Out}
 use Rattle.act.specs.declared.Act.{Act}
 use Rattle.act.specs.Act.{msgIn, outFor, sent, copiesOf, workOf, Formed, Does, Says, begun}
@@ -57,13 +58,13 @@ module _ (C F S X : List Send) (y : Send) (p : X ≡ y ∷ []) (s : S ≡ []) wh
   sends-second = rw (p, s, append-nil, append-assoc)
 
 -- one message more, in the first place or in the second
-module _ (m : ℕ → ℕ) (x : Out) (a : Act) (free : a .second .to ≡ none) where
+module _ (m : ℕ → ℕ) (cs : List Send) (x : Out) (a : Act) (free : a .second .to ≡ none) where
   pub says-first : a .first .to ≡ none
-      → Says m x a (record { answer = a .answer; node = a .node; edge = a .edge; mark = a .mark; copies = a .copies; first = x; second = a .second })
+      → Says m cs x a (record { answer = a .answer; node = a .node; edge = a .edge; mark = a .mark; copies = a .copies; first = x; second = a .second })
   says-first h =
       record {
         does = λ to msg e n. record {
-          work = λ cs. ap (λ l. record { answer = a .answer; node = a .node; mark = marked m (a .edge) (a .mark); sends = l })
+          work = ap (λ l. record { answer = a .answer; node = a .node; mark = marked m (a .edge) (a .mark); sends = l })
               (sends-first (copiesOf (a .copies) cs) _ _ _ _ (sent-for x to msg e n) (sent-none (a .second) free) (sent-none (a .first) h));
           formed = λ g. record { first = formed-for x to msg e; second = g .second };
         };
@@ -71,11 +72,11 @@ module _ (m : ℕ → ℕ) (x : Out) (a : Act) (free : a .second .to ≡ none) w
       }
 
   pub says-second : a .first .to ≢ none
-      → Says m x a (record { answer = a .answer; node = a .node; edge = a .edge; mark = a .mark; copies = a .copies; first = a .first; second = x })
+      → Says m cs x a (record { answer = a .answer; node = a .node; edge = a .edge; mark = a .mark; copies = a .copies; first = a .first; second = x })
   says-second h =
       record {
         does = λ to msg e n. record {
-          work = λ cs. ap (λ l. record { answer = a .answer; node = a .node; mark = marked m (a .edge) (a .mark); sends = l })
+          work = ap (λ l. record { answer = a .answer; node = a .node; mark = marked m (a .edge) (a .mark); sends = l })
               (sends-second (copiesOf (a .copies) cs) (sent (a .first)) _ _ _ (sent-for x to msg e n) (sent-none (a .second) free));
           formed = λ g. record { first = g .first; second = formed-for x to msg e };
         };
@@ -83,32 +84,44 @@ module _ (m : ℕ → ℕ) (x : Out) (a : Act) (free : a .second .to ≡ none) w
       }
 
 -- another node
-pub sets-node : (m : ℕ → ℕ) (a : Act) (n : Node)
-    → Does m (withNode n) a (record { answer = a .answer; node = n; edge = a .edge; mark = a .mark; copies = a .copies; first = a .first; second = a .second })
-sets-node m a n = record { work = λ cs. refl; formed = λ g. record { first = g .first; second = g .second } }
+pub sets-node : (m : ℕ → ℕ) (cs : List Send) (a : Act) (n : Node)
+    → Does m cs (withNode n) a (record { answer = a .answer; node = n; edge = a .edge; mark = a .mark; copies = a .copies; first = a .first; second = a .second })
+sets-node m cs a n = record { work = refl; formed = λ g. record { first = g .first; second = g .second } }
 
 -- the mark of a response
-module _ (m : ℕ → ℕ) (a : Act) (k c : ℕ) where
+module _ (m : ℕ → ℕ) (cs : List Send) (a : Act) (k c : ℕ) where
   pub marks-edge : a .edge ≡ none → k ≢ none
-      → Does m (setMark k c) a (record { answer = a .answer; node = a .node; edge = k; mark = c; copies = a .copies; first = a .first; second = a .second })
+      → Does m cs (setMark k c) a (record { answer = a .answer; node = a .node; edge = k; mark = c; copies = a .copies; first = a .first; second = a .second })
   unfolding marked
   marks-edge h n =
-      record { work = λ cs. rw (ne-eqb _ _ n, eq-eqb _ _ h); formed = λ g. record { first = g .first; second = g .second } }
+      record { work = rw (ne-eqb _ _ n, eq-eqb _ _ h); formed = λ g. record { first = g .first; second = g .second } }
+
+-- the copies of an Initiate, before all else
+module _ (m : ℕ → ℕ) (cs : List Send) (a : Act) where
+  pub tells-all : a .copies ≢ 1 → a .first .to ≡ none → a .second .to ≡ none
+      → Does m cs (copied cs) a (record { answer = a .answer; node = a .node; edge = a .edge; mark = a .mark; copies = 1; first = a .first; second = a .second })
+  unfolding copiesOf
+  tells-all c f s =
+      record {
+        work = ap (λ l. record { answer = a .answer; node = a .node; mark = marked m (a .edge) (a .mark); sends = l })
+            (rw (ne-eqb _ _ c, sent-none (a .first) f, sent-none (a .second) s) (append-nil cs));
+        formed = λ g. record { first = g .first; second = g .second };
+      }
 
 -- one part after another
-module _ {m : ℕ → ℕ} {f g : Work → Work} {a b r : Act} where
-  pub then : Does m g b r → Does m f a b → Does m (λ w. g (f w)) a r
-  then q p = record { work = λ cs. q .work cs ∙ ap g (p .work cs); formed = λ x. q .formed (p .formed x) }
+module _ {m : ℕ → ℕ} {cs : List Send} {f g : Work → Work} {a b r : Act} where
+  pub then : Does m cs g b r → Does m cs f a b → Does m cs (λ w. g (f w)) a r
+  then q p = record { work = q .work ∙ ap g (p .work); formed = λ x. q .formed (p .formed x) }
 
 -- the same part, told otherwise
-module _ {m : ℕ → ℕ} {f g : Work → Work} {a r : Act} where
-  pub told-as : Does m f a r → ((cs : List Send) → f (workOf m cs a) ≡ g (workOf m cs a)) → Does m g a r
-  told-as p e = record { work = λ cs. p .work cs ∙ e cs; formed = p .formed }
+module _ {m : ℕ → ℕ} {cs : List Send} {f g : Work → Work} {a r : Act} where
+  pub told-as : Does m cs f a r → f (workOf m cs a) ≡ g (workOf m cs a) → Does m cs g a r
+  told-as p e = record { work = p .work ∙ e; formed = p .formed }
 
 -- nothing was done
-module _ (m : ℕ → ℕ) (a : Act) where
-  pub stays : (f : Work → Work) → ((cs : List Send) → f (workOf m cs a) ≡ workOf m cs a) → Does m f a a
-  stays f e = record { work = λ cs. sym (e cs); formed = λ g. g }
+module _ (m : ℕ → ℕ) (cs : List Send) (a : Act) where
+  pub stays : (f : Work → Work) → f (workOf m cs a) ≡ workOf m cs a → Does m cs f a a
+  stays f e = record { work = sym e; formed = λ g. g }
 
 -- the start
 module _ (m : ℕ → ℕ) (n : Node) where

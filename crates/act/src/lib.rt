@@ -1,9 +1,10 @@
 // A response worked out by value: what it answers, the new node, at most one new mark, and what it sends.
 use node::Node;
 ghost use mathlib.Core.Path.{_≡_};
+ghost use mathlib.Core.List.{List};
 ghost use Prim.Native.Nat.{ℕ};
 ghost use Rattle.message.specs.Msg.{none, connect, initiate, test, accept, reject, report, change};
-ghost use Rattle.node.specs.Work.{putBack, refused};
+ghost use Rattle.node.specs.Work.{Send, putBack, refused};
 ghost use Rattle.node.specs.Rules.{doReport, testOn, wakeOn};
 ghost use Rattle.act.specs.Act.{Does, Says, outFor, begun};
 
@@ -33,43 +34,85 @@ pub struct Act {
 pub fn a_connect(to: u16, level: u16) -> Out
     ensures { λ r. ⌜ r ≡ outFor to (connect level) ⌝ }
 {
-    Out { to: to, kind: 1, level: level, carried: NONE, find: 0 }
+    Out {
+        to: to,
+        kind: 1,
+        level: level,
+        carried: NONE,
+        find: 0,
+    }
 }
 
 pub fn an_initiate(to: u16, level: u16, identity: u16, find: u8) -> Out
     ensures { λ r. ⌜ r ≡ outFor to (initiate level identity find) ⌝ }
 {
-    Out { to: to, kind: 2, level: level, carried: identity, find: find }
+    Out {
+        to: to,
+        kind: 2,
+        level: level,
+        carried: identity,
+        find: find,
+    }
 }
 
 pub fn a_test(to: u16, level: u16, identity: u16) -> Out
     ensures { λ r. ⌜ r ≡ outFor to (test level identity) ⌝ }
 {
-    Out { to: to, kind: 3, level: level, carried: identity, find: 0 }
+    Out {
+        to: to,
+        kind: 3,
+        level: level,
+        carried: identity,
+        find: 0,
+    }
 }
 
 pub fn an_accept(to: u16) -> Out
     ensures { λ r. ⌜ r ≡ outFor to accept ⌝ }
 {
-    Out { to: to, kind: 4, level: 0, carried: NONE, find: 0 }
+    Out {
+        to: to,
+        kind: 4,
+        level: 0,
+        carried: NONE,
+        find: 0,
+    }
 }
 
 pub fn a_reject(to: u16) -> Out
     ensures { λ r. ⌜ r ≡ outFor to reject ⌝ }
 {
-    Out { to: to, kind: 5, level: 0, carried: NONE, find: 0 }
+    Out {
+        to: to,
+        kind: 5,
+        level: 0,
+        carried: NONE,
+        find: 0,
+    }
 }
 
 pub fn a_report(to: u16, weight: u16) -> Out
     ensures { λ r. ⌜ r ≡ outFor to (report weight) ⌝ }
 {
-    Out { to: to, kind: 6, level: 0, carried: weight, find: 0 }
+    Out {
+        to: to,
+        kind: 6,
+        level: 0,
+        carried: weight,
+        find: 0,
+    }
 }
 
 pub fn a_change(to: u16) -> Out
     ensures { λ r. ⌜ r ≡ outFor to change ⌝ }
 {
-    Out { to: to, kind: 7, level: 0, carried: NONE, find: 0 }
+    Out {
+        to: to,
+        kind: 7,
+        level: 0,
+        carried: NONE,
+        find: 0,
+    }
 }
 
 // Nothing done yet.
@@ -77,11 +120,19 @@ pub fn begin(n: Node) -> Act
     ensures { λ r. ⌜ r ≡ begun n ⌝ }
 {
     let x = a_change(NONE);
-    Act { answer: 0, node: n, edge: NONE, mark: 0, copies: 0, first: x, second: x }
+    Act {
+        answer: 0,
+        node: n,
+        edge: NONE,
+        mark: 0,
+        copies: 0,
+        first: x,
+        second: x,
+    }
 }
 
 pub fn refuse(a: Act) -> Act
-    ensures { λ r. ⌜ ((m : ℕ → ℕ) → Does m refused a r) ⌝ }
+    ensures { λ r. ⌜ ((m : ℕ → ℕ) (cs : List Send) → Does m cs refused a r) ⌝ }
 {
     let mut r = a;
     r.answer = 32;
@@ -89,7 +140,7 @@ pub fn refuse(a: Act) -> Act
 }
 
 pub fn back(a: Act) -> Act
-    ensures { λ r. ⌜ ((m : ℕ → ℕ) → Does m putBack a r) ⌝ }
+    ensures { λ r. ⌜ ((m : ℕ → ℕ) (cs : List Send) → Does m cs putBack a r) ⌝ }
 {
     let mut r = a;
     r.answer = 1;
@@ -99,7 +150,7 @@ pub fn back(a: Act) -> Act
 // One message more, behind those that are sent already.
 pub fn say(a: Act, x: Out) -> Act
     requires { ⌜ a .second .to ≡ none ⌝ }
-    ensures { λ r. ⌜ ((m : ℕ → ℕ) → Says m x a r) ⌝ }
+    ensures { λ r. ⌜ ((m : ℕ → ℕ) (cs : List Send) → Says m cs x a r) ⌝ }
 {
     let mut r = a;
     if a.first.to == NONE {
@@ -113,7 +164,7 @@ pub fn say(a: Act, x: Out) -> Act
 // Procedure report.
 pub fn do_report(a: Act) -> Act
     requires { ⌜ a .second .to ≡ none ⌝ }
-    ensures { λ r. ⌜ ((m : ℕ → ℕ) → Does m doReport a r) ⌝ }
+    ensures { λ r. ⌜ ((m : ℕ → ℕ) (cs : List Send) → Does m cs doReport a r) ⌝ }
 {
     if a.node.count != 0 {
         return a;
@@ -132,7 +183,7 @@ pub fn do_report(a: Act) -> Act
 // Procedure test, for the earliest own edge k with mark Basic, or none.
 pub fn test_on(k: u16, a: Act) -> Act
     requires { ⌜ a .second .to ≡ none ⌝ }
-    ensures { λ r. ⌜ ((m : ℕ → ℕ) → Does m (testOn k) a r) ⌝ }
+    ensures { λ r. ⌜ ((m : ℕ → ℕ) (cs : List Send) → Does m cs (testOn k) a r) ⌝ }
 {
     let mut b = a;
     if k == NONE {
@@ -149,9 +200,19 @@ pub fn test_on(k: u16, a: Act) -> Act
 // Procedure wakeup, for the earliest own edge k, or none. Nothing was done before it.
 pub fn wake_on(k: u16, a: Act) -> Act
     requires { ⌜ (a .edge ≡ none) × (a .first .to ≡ none) × (a .second .to ≡ none) ⌝ }
-    ensures { λ r. ⌜ ((m : ℕ → ℕ) → Does m (wakeOn k) a r) × (r .second .to ≡ none) × (r .node .level ≡ 0) ⌝ }
+    ensures { λ r. ⌜ ((m : ℕ → ℕ) (cs : List Send) → Does m cs (wakeOn k) a r) × (r .second .to ≡ none) × (r .node .level ≡ 0) ⌝ }
 {
-    let mut n = Node { status: 2, level: 0, identity: NONE, weight: NONE, best: NONE, test: NONE, branch: NONE, count: 0, halted: a.node.halted };
+    let mut n = Node {
+        status: 2,
+        level: 0,
+        identity: NONE,
+        weight: NONE,
+        best: NONE,
+        test: NONE,
+        branch: NONE,
+        count: 0,
+        halted: a.node.halted,
+    };
     let mut b = a;
     if k == NONE {
         n.halted = 1;
