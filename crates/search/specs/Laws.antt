@@ -8,12 +8,16 @@ use mathlib.Core.Bool.{Bool, true, false, not, cond, _&&_, _||_}
 use mathlib.Core.List.{List}
 use lib.ListN.{getD}
 use lib.Dec.{eqb}
-use borrow.Author.Tests.{eq-eqb, ne-eqb, lt-ltb}
+use borrow.Author.Tests.{eq-eqb, ne-eqb, lt-ltb, ltb-true}
 use Rattle.base.specs.Cond.{bit, upd, upd-same, upd-other, eqb-cases}
 use Rattle.message.specs.Msg.{none}
 use Rattle.plan.specs.Weights.{beforeIn}
 use Rattle.node.specs.Work.{Own, before, earliest, number}
 use Rattle.search.specs.Own.{isOwn, ownIn, endIn, marksIn, marked, looked, counted}
+
+both-true : (a b : Bool) → (a && b) ≡ true → a ≡ true
+both-true true b h = refl
+both-true false b h = h
 
 module _ (links : ℕ) (lower higher : List ℕ) (v k : ℕ) where
   module _ (l : k < links) where
@@ -24,6 +28,10 @@ module _ (links : ℕ) (lower higher : List ℕ) (v k : ℕ) where
     pub own-higher : getD lower k 0 ≢ v → isOwn links lower higher v k ≡ eqb (getD higher k 0) v
     unfolding isOwn
     own-higher h = simp (lt-ltb _ _ l, ne-eqb _ _ h)
+
+  pub own-below : isOwn links lower higher v k ≡ true → k < links
+  unfolding isOwn
+  own-below h = ltb-true _ _ (both-true _ _ h)
 
   pub mark-own : (marks : List ℕ) → isOwn links lower higher v k ≡ true → marksIn links lower higher marks v k ≡ getD marks (endIn lower v k) 0
   unfolding marksIn

@@ -1,0 +1,27 @@
+use Rattle.act.specs.Laws.{told-as}
+use mathlib.Core.Path.{refl}
+use Rattle.act.specs.Laws.{then, marks-edge}
+use borrow.Author.Needs.{needs}
+use Rattle.reply.proofs.join.Statement.{statement}
+use Rattle.reply.proofs.join.Tie as tie
+use Rattle.reply.proofs.join.Reads as reads
+use Rattle.reply.proofs.join.Lts as lts
+use Rattle.act.proofs.an_initiate.Reads as an-initiate-reads
+use Rattle.act.proofs.say.Reads as say-reads
+
+-- src/lib.rt:72:17
+an-initiate-requires : tie.Need-an-initiate-requires
+an-initiate-requires c κs = search needs
+
+-- src/lib.rt:72:5
+say-requires : tie.Need-say-requires
+say-requires c κs = search needs
+
+-- src/lib.rt:65:1
+returns : tie.Need-returns
+returns c =
+    let p = c .before .before .pre in
+    λ m cs. told-as (then (c .say .ensures m cs .does _ _ (c .before .an-initiate .ensures) (p .0)) (marks-edge m cs _ _ _ (p .1) (p .0))) refl
+
+pub join-spec : {M : Type 1} → statement M
+join-spec = tie.close (tie.spec an-initiate-requires say-requires returns)

@@ -1,0 +1,18 @@
+-- Small facts that the responses' proofs share.
+use Prim.Native.Nat.{ℕ}
+use mathlib.Core.Path.{_≡_, ap}
+use mathlib.Core.Logic.{_⊎_, inl, inr}
+use Rattle.node.specs.Work.{Work}
+use Rattle.node.specs.Rules.{testOn, wakeOn}
+
+-- the other case
+pub other {ℓ κ} : {A : Type ℓ} {B : Type κ} → A ⊎ B → ¬ A → B
+other (inl a) n = absurd (n a)
+other (inr b) n = b
+
+-- a procedure on the edge that was found
+pub test-same : {k l : ℕ} (w : Work) → k ≡ l → testOn k w ≡ testOn l w
+test-same w e = ap (λ x. testOn x w) e
+
+pub wake-same : {k l : ℕ} (w : Work) → k ≡ l → wakeOn k w ≡ wakeOn l w
+wake-same w e = ap (λ x. wakeOn x w) e
