@@ -1,7 +1,7 @@
 -- An Initiate's copies, where m are the node's marks.
-use Prim.Native.Nat.{ℕ}
+use Prim.Native.Nat.{ℕ, _+_, _<_, _≤_}
 use native.Mathlib.Omega.{arith}
-use mathlib.Core.Path.{_≡_, refl}
+use mathlib.Core.Path.{_≡_, refl, sym, ap, _∙_}
 use mathlib.Core.Logic.{_≢_}
 use mathlib.Core.Bool.{not, cond, _&&_}
 use mathlib.Core.List.{List}
@@ -9,8 +9,9 @@ use lib.Dec.{eqb}
 use borrow.Author.Tests.{eq-eqb, ne-eqb}
 use Rattle.message.specs.Msg.{Msg, none, initiate}
 use Rattle.node.specs.declared.Node.{Node}
-use Rattle.node.specs.Work.{Own, Send, BRANCH, FIND, FOUND, onEach, number, branches, withNode}
-use Rattle.node.specs.Rules.{informed, copied, told}
+use Rattle.node.specs.Work.{Own, Send, BRANCH, FIND, FOUND, onEach, number, branches, degree, refused, withNode, setCount}
+use Rattle.node.specs.Rules.{told, seek, doTest, onInitiate}
+use Rattle.node.specs.Laws.{initiate-find, seek-refused, seek-tests}
 use Rattle.search.specs.Own.{marked}
 use Rattle.search.specs.Laws.{marked-none}
 use Rattle.act.specs.declared.Act.{Act}
@@ -47,3 +48,18 @@ module _ (o : Own) (m : ℕ → ℕ) (a : Act) (clean : a .edge ≡ none) where
         → Does m (copiesIn o j (initiate l f find) m) (told o l f find j) a
             (record { answer = a .answer; node = informedAs FIND l f j (a .node); edge = a .edge; mark = a .mark; copies = 1; first = a .first; second = a .second })
     tell-find h = does-tell FIND (rw (eq-eqb _ _ h))
+
+-- find-count with the branches, as they were counted: n branches, d own edges, s in all
+module _ (o : Own) (m : ℕ → ℕ) (cs : List Send) (a : Act) (l f find j n d s : ℕ)
+    (clean : a .edge ≡ none) (h : find ≡ 1) (en : n ≡ number o (λ k. not (eqb k j) && eqb (m k) BRANCH) (o.edges)) (ed : d ≡ degree o) (es : s ≡ a .node .count + n) where
+  total : s ≡ a .node .count + number o (branches j (workOf m cs a)) (o.edges)
+  total = omega (arith, es, en, count-branches o m a clean cs j (o.edges))
+
+  pub initiate-refused : d < s → onInitiate o l f find j (workOf m cs a) ≡ refused (told o l f find j (workOf m cs a))
+  initiate-refused lt = initiate-find o l f find j _ h ∙ seek-refused o _ _ (omega (arith, total))
+
+  pub initiate-searches : s ≤ d
+      → onInitiate o l f find j (workOf m cs a) ≡ doTest o (withNode (setCount s (informedAs FIND l f j (a .node))) (told o l f find j (workOf m cs a)))
+  initiate-searches le =
+      initiate-find o l f find j _ h ∙ ap (λ x. seek o x (told o l f find j (workOf m cs a))) (sym total) ∙ seek-tests o s _ (omega arith)
+      ∙ ap (λ x. doTest o (withNode (setCount s (informedAs x l f j (a .node))) (told o l f find j (workOf m cs a)))) (rw (eq-eqb _ _ h))

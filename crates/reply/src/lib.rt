@@ -116,7 +116,7 @@ pub fn on_connect<'a>(links: u16, lower: &'a [u16; 600], higher: &'a [u16; 600],
 }
 
 fn wide(x: u16) -> u32
-    ensures { λ r. ⌜ r ≡ x ⌝ }
+    ensures { λ r. ⌜ (r ≡ x) × (r ≤ 65535) ⌝ }
 {
     x as u32
 }
