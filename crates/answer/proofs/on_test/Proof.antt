@@ -6,16 +6,16 @@ use native.Mathlib.Omega.{arith}
 use mathlib.Core.Logic.{⊎-elim}
 use mathlib.Core.Path.{sym, ap, _∙_}
 use borrow.Author.Needs.{needs}
-use Rattle.reply.proofs.on_test.Statement.{statement}
-use Rattle.reply.proofs.on_test.Tie as tie
-use Rattle.reply.proofs.on_test.Reads as reads
-use Rattle.reply.proofs.on_test.Lts as lts
+use Rattle.answer.proofs.on_test.Statement.{statement}
+use Rattle.answer.proofs.on_test.Tie as tie
+use Rattle.answer.proofs.on_test.Reads as reads
+use Rattle.answer.proofs.on_test.Lts as lts
 use Rattle.act.proofs.a_reject.Reads as a-reject-reads
 use Rattle.act.proofs.an_accept.Reads as an-accept-reads
 use Rattle.act.proofs.back.Reads as back-reads
 use Rattle.act.proofs.say.Reads as say-reads
 use Rattle.reply.proofs.do_test.Reads as do-test-reads
-use Rattle.reply.proofs.strike.Reads as strike-reads
+use Rattle.answer.proofs.strike.Reads as strike-reads
 
 -- src/lib.rt:177:9
 back-requires : tie.Need-back-requires

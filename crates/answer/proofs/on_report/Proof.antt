@@ -2,13 +2,13 @@ use Rattle.act.specs.Laws.{told-as}
 use Rattle.node.specs.Laws.{report-child, report-waits, report-core}
 use mathlib.Core.Path.{sym}
 use borrow.Author.Needs.{needs}
-use Rattle.reply.proofs.on_report.Statement.{statement}
-use Rattle.reply.proofs.on_report.Tie as tie
-use Rattle.reply.proofs.on_report.Reads as reads
-use Rattle.reply.proofs.on_report.Lts as lts
+use Rattle.answer.proofs.on_report.Statement.{statement}
+use Rattle.answer.proofs.on_report.Tie as tie
+use Rattle.answer.proofs.on_report.Reads as reads
+use Rattle.answer.proofs.on_report.Lts as lts
 use Rattle.act.proofs.back.Reads as back-reads
-use Rattle.reply.proofs.child_report.Reads as child-report-reads
-use Rattle.reply.proofs.core_report.Reads as core-report-reads
+use Rattle.answer.proofs.child_report.Reads as child-report-reads
+use Rattle.answer.proofs.core_report.Reads as core-report-reads
 
 -- src/lib.rt:268:9
 child-report-requires : tie.Need-child-report-requires

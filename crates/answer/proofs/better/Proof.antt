@@ -1,10 +1,10 @@
-use Rattle.reply.specs.Laws.{better-new, better-old}
+use Rattle.answer.specs.Laws.{better-new, better-old}
 use mathlib.Core.Path.{sym, _∙_}
 use borrow.Author.Needs.{needs}
-use Rattle.reply.proofs.better.Statement.{statement}
-use Rattle.reply.proofs.better.Tie as tie
-use Rattle.reply.proofs.better.Reads as reads
-use Rattle.reply.proofs.better.Lts as lts
+use Rattle.answer.proofs.better.Statement.{statement}
+use Rattle.answer.proofs.better.Tie as tie
+use Rattle.answer.proofs.better.Reads as reads
+use Rattle.answer.proofs.better.Lts as lts
 use Rattle.plan.proofs.before.Reads as before-reads
 
 -- src/lib.rt:202:8

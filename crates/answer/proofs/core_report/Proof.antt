@@ -5,12 +5,12 @@ use Rattle.node.specs.Rules.{coreReport}
 use borrow.Author.Tests.{not-true, not-false}
 use mathlib.Core.Path.{sym, _∙_}
 use borrow.Author.Needs.{needs}
-use Rattle.reply.proofs.core_report.Statement.{statement}
-use Rattle.reply.proofs.core_report.Tie as tie
-use Rattle.reply.proofs.core_report.Reads as reads
-use Rattle.reply.proofs.core_report.Lts as lts
+use Rattle.answer.proofs.core_report.Statement.{statement}
+use Rattle.answer.proofs.core_report.Tie as tie
+use Rattle.answer.proofs.core_report.Reads as reads
+use Rattle.answer.proofs.core_report.Lts as lts
 use Rattle.plan.proofs.before.Reads as before-reads
 use Rattle.reply.proofs.change_root.Reads as change-root-reads
 
 -- src/lib.rt:247:8
 before-requires : tie.Need-before-requires

@@ -1,15 +1,15 @@
 use Rattle.act.specs.Act.{workOf}
-use Rattle.reply.specs.Laws.{report-with, better-in}
+use Rattle.answer.specs.Laws.{report-with, better-in}
 use Rattle.act.specs.Laws.{told-as, then, sets-node}
 use mathlib.Core.Path.{sym, _∙_}
 use mathlib.Core.Logic.{inl}
 use borrow.Author.Needs.{needs}
-use Rattle.reply.proofs.on_accept.Statement.{statement}
-use Rattle.reply.proofs.on_accept.Tie as tie
-use Rattle.reply.proofs.on_accept.Reads as reads
-use Rattle.reply.proofs.on_accept.Lts as lts
+use Rattle.answer.proofs.on_accept.Statement.{statement}
+use Rattle.answer.proofs.on_accept.Tie as tie
+use Rattle.answer.proofs.on_accept.Reads as reads
+use Rattle.answer.proofs.on_accept.Lts as lts
 use Rattle.act.proofs.do_report.Reads as do-report-reads
-use Rattle.reply.proofs.better.Reads as better-reads
+use Rattle.answer.proofs.better.Reads as better-reads
 
 -- src/lib.rt:219:9
 better-requires : tie.Need-better-requires

@@ -2,12 +2,12 @@ use Rattle.act.specs.Laws.{told-as, then}
 use Rattle.act.specs.declared.Out.{Out}
 use mathlib.Core.Path.{ap, _∙_}
 use borrow.Author.Needs.{needs}
-use Rattle.reply.proofs.on_reject.Statement.{statement}
-use Rattle.reply.proofs.on_reject.Tie as tie
-use Rattle.reply.proofs.on_reject.Reads as reads
-use Rattle.reply.proofs.on_reject.Lts as lts
+use Rattle.answer.proofs.on_reject.Statement.{statement}
+use Rattle.answer.proofs.on_reject.Tie as tie
+use Rattle.answer.proofs.on_reject.Reads as reads
+use Rattle.answer.proofs.on_reject.Lts as lts
 use Rattle.reply.proofs.do_test.Reads as do-test-reads
-use Rattle.reply.proofs.strike.Reads as strike-reads
+use Rattle.answer.proofs.strike.Reads as strike-reads
 
 -- src/lib.rt:194:56
 strike-requires : tie.Need-strike-requires

@@ -1,4 +1,4 @@
-use Rattle.reply.specs.Laws.{strike-with}
+use Rattle.answer.specs.Laws.{strike-with}
 use Rattle.act.specs.Laws.{told-as, marks-edge}
 use Rattle.search.specs.Laws.{own-below}
 use native.Mathlib.Omega.{arith}
@@ -7,11 +7,11 @@ use lib.Dec.{eqb}
 use mathlib.Core.Bool.{cond}
 use mathlib.Core.Path.{refl, ap, _∙_}
 use borrow.Author.Needs.{needs}
-use Rattle.reply.proofs.strike.Statement.{statement}
-use Rattle.reply.proofs.strike.Tie as tie
-use Rattle.reply.proofs.strike.Reads as reads
-use Rattle.reply.proofs.strike.Lts as lts
-use Rattle.reply.proofs.struck.Reads as struck-reads
+use Rattle.answer.proofs.strike.Statement.{statement}
+use Rattle.answer.proofs.strike.Tie as tie
+use Rattle.answer.proofs.strike.Reads as reads
+use Rattle.answer.proofs.strike.Lts as lts
+use Rattle.answer.proofs.struck.Reads as struck-reads
 use Rattle.search.proofs.mark_of.Reads as mark-of-reads
 
 -- src/lib.rt:164:20

@@ -1,16 +1,16 @@
 use Rattle.act.specs.Act.{workOf}
-use Rattle.reply.specs.Laws.{report-with, better-in}
+use Rattle.answer.specs.Laws.{report-with, better-in}
 use Rattle.act.specs.Laws.{told-as, then, sets-node}
 use Rattle.node.specs.Laws.{child-refused, child-reports}
 use mathlib.Core.Path.{sym, _∙_}
 use borrow.Author.Needs.{needs}
-use Rattle.reply.proofs.child_report.Statement.{statement}
-use Rattle.reply.proofs.child_report.Tie as tie
-use Rattle.reply.proofs.child_report.Reads as reads
-use Rattle.reply.proofs.child_report.Lts as lts
+use Rattle.answer.proofs.child_report.Statement.{statement}
+use Rattle.answer.proofs.child_report.Tie as tie
+use Rattle.answer.proofs.child_report.Reads as reads
+use Rattle.answer.proofs.child_report.Lts as lts
 use Rattle.act.proofs.do_report.Reads as do-report-reads
 use Rattle.act.proofs.refuse.Reads as refuse-reads
-use Rattle.reply.proofs.better.Reads as better-reads
+use Rattle.answer.proofs.better.Reads as better-reads
 
 -- src/lib.rt:230:9
 refuse-requires : tie.Need-refuse-requires

@@ -1,10 +1,10 @@
-use Rattle.reply.specs.Laws.{struck-basic, struck-other}
+use Rattle.answer.specs.Laws.{struck-basic, struck-other}
 use mathlib.Core.Path.{sym}
 use borrow.Author.Needs.{needs}
-use Rattle.reply.proofs.struck.Statement.{statement}
-use Rattle.reply.proofs.struck.Tie as tie
-use Rattle.reply.proofs.struck.Reads as reads
-use Rattle.reply.proofs.struck.Lts as lts
+use Rattle.answer.proofs.struck.Statement.{statement}
+use Rattle.answer.proofs.struck.Tie as tie
+use Rattle.answer.proofs.struck.Reads as reads
+use Rattle.answer.proofs.struck.Lts as lts
 
 -- src/lib.rt:154:9
 returns : tie.Need-returns
