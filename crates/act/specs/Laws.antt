@@ -132,3 +132,8 @@ module _ (m : ℕ → ℕ) (n : Node) where
   pub begun-formed : Formed (begun n)
   unfolding msgOf
   begun-formed = record { first = refl; second = refl }
+
+-- the end: a response from its start on
+module _ {m : ℕ → ℕ} {cs : List Send} {f : Work → Work} {a r : Act} {n : Node} where
+  pub done : a ≡ begun n → Does m cs f a r → (workOf m cs r ≡ f (start n m)) × Formed r
+  done e d = (d .work ∙ ap f (ap (workOf m cs) e ∙ begun-work m n cs), d .formed (rw e (begun-formed m n)))

@@ -1,6 +1,6 @@
 // The responses to Test, Accept, Reject and Report, worked out by value: v is the node, j the own edge that the message came by.
-use node::Node;
 use act::Act;
+use node::Node;
 ghost use mathlib.Core.Path.{_≡_};
 ghost use mathlib.Core.Logic.{_⊎_};
 ghost use mathlib.Core.Bool.{true, cond};
@@ -28,7 +28,15 @@ fn struck(x: u8) -> u8
 }
 
 // Edge j is rejected, unless it is a branch.
-fn strike<'a>(links: u16, lower: &'a [u16; 600], higher: &'a [u16; 600], marks: &'a [u8; 1200], v: u16, j: u16, a: Act) -> Act
+fn strike<'a>(
+    links: u16,
+    lower: &'a [u16; 600],
+    higher: &'a [u16; 600],
+    marks: &'a [u8; 1200],
+    v: u16,
+    j: u16,
+    a: Act,
+) -> Act
     requires { ⌜ (links ≤ 600) × (isOwn links (now lower) (now higher) v j ≡ true) × (a .edge ≡ none) ⌝ }
     ensures { λ r. ⌜ ((cs : List Send) → Does (marksIn links (now (lower .entry)) (now (higher .entry)) (now (marks .entry)) v) cs (strike j) a r) × (r .second ≡ a .second) ⌝ }
 {
@@ -40,7 +48,19 @@ fn strike<'a>(links: u16, lower: &'a [u16; 600], higher: &'a [u16; 600], marks: 
 }
 
 // Test(l, f), by an awake node: it may have been woken by it, and then its level is 0.
-pub fn on_test<'a>(links: u16, lower: &'a [u16; 600], higher: &'a [u16; 600], near: &'a [u16; 600], far: &'a [u16; 600], marks: &'a [u8; 1200], v: u16, l: u16, f: u16, j: u16, a: Act) -> Act
+pub fn on_test<'a>(
+    links: u16,
+    lower: &'a [u16; 600],
+    higher: &'a [u16; 600],
+    near: &'a [u16; 600],
+    far: &'a [u16; 600],
+    marks: &'a [u8; 1200],
+    v: u16,
+    l: u16,
+    f: u16,
+    j: u16,
+    a: Act,
+) -> Act
     requires { ⌜ (links ≤ 600) × (isOwn links (now lower) (now higher) v j ≡ true) × (a .second .to ≡ none) × ((a .edge ≡ none) ⊎ (a .node .level ≡ 0)) × (0 < l) ⌝ }
     ensures { λ r. ⌜ ((cs : List Send) → Does (marksIn links (now (lower .entry)) (now (higher .entry)) (now (marks .entry)) v) cs (onTest (ownIn links (now (lower .entry)) (now (higher .entry)) (now (near .entry)) (now (far .entry)) v) l f j) a r) ⌝ }
 {
@@ -58,11 +78,30 @@ pub fn on_test<'a>(links: u16, lower: &'a [u16; 600], higher: &'a [u16; 600], ne
 }
 
 // Reject.
-pub fn on_reject<'a>(links: u16, lower: &'a [u16; 600], higher: &'a [u16; 600], near: &'a [u16; 600], far: &'a [u16; 600], marks: &'a [u8; 1200], v: u16, j: u16, a: Act) -> Act
+pub fn on_reject<'a>(
+    links: u16,
+    lower: &'a [u16; 600],
+    higher: &'a [u16; 600],
+    near: &'a [u16; 600],
+    far: &'a [u16; 600],
+    marks: &'a [u8; 1200],
+    v: u16,
+    j: u16,
+    a: Act,
+) -> Act
     requires { ⌜ (links ≤ 600) × (isOwn links (now lower) (now higher) v j ≡ true) × (a .second .to ≡ none) × (a .edge ≡ none) ⌝ }
     ensures { λ r. ⌜ ((cs : List Send) → Does (marksIn links (now (lower .entry)) (now (higher .entry)) (now (marks .entry)) v) cs (onReject (ownIn links (now (lower .entry)) (now (higher .entry)) (now (near .entry)) (now (far .entry)) v) j) a r) ⌝ }
 {
-    reply::do_test(links, lower, higher, near, far, marks, v, strike(links, lower, higher, marks, v, j, a))
+    reply::do_test(
+        links,
+        lower,
+        higher,
+        near,
+        far,
+        marks,
+        v,
+        strike(links, lower, higher, marks, v, j, a),
+    )
 }
 
 // The node with best edge j and best weight x, if x is earlier than its best weight.
@@ -110,7 +149,17 @@ fn child_report<'a>(near: &'a [u16; 600], far: &'a [u16; 600], x: u16, j: u16, a
 }
 
 // Report(x) over the core.
-fn core_report<'a>(links: u16, lower: &'a [u16; 600], higher: &'a [u16; 600], near: &'a [u16; 600], far: &'a [u16; 600], marks: &'a [u8; 1200], v: u16, x: u16, a: Act) -> Act
+fn core_report<'a>(
+    links: u16,
+    lower: &'a [u16; 600],
+    higher: &'a [u16; 600],
+    near: &'a [u16; 600],
+    far: &'a [u16; 600],
+    marks: &'a [u8; 1200],
+    v: u16,
+    x: u16,
+    a: Act,
+) -> Act
     requires { ⌜ (links ≤ 600) × (a .edge ≡ none) × (a .second .to ≡ none) × ((a .node .best ≡ none) ⊎ (isOwn links (now lower) (now higher) v (a .node .best) ≡ true))
         × ((x < 600) ⊎ (x ≡ none)) × ((a .node .weight < 600) ⊎ (a .node .weight ≡ none)) ⌝ }
     ensures { λ r. ⌜ ((cs : List Send) → Does (marksIn links (now (lower .entry)) (now (higher .entry)) (now (marks .entry)) v) cs (coreReport (ownIn links (now (lower .entry)) (now (higher .entry)) (now (near .entry)) (now (far .entry)) v) x) a r) ⌝ }
@@ -130,7 +179,18 @@ fn core_report<'a>(links: u16, lower: &'a [u16; 600], higher: &'a [u16; 600], ne
 }
 
 // Report(x).
-pub fn on_report<'a>(links: u16, lower: &'a [u16; 600], higher: &'a [u16; 600], near: &'a [u16; 600], far: &'a [u16; 600], marks: &'a [u8; 1200], v: u16, x: u16, j: u16, a: Act) -> Act
+pub fn on_report<'a>(
+    links: u16,
+    lower: &'a [u16; 600],
+    higher: &'a [u16; 600],
+    near: &'a [u16; 600],
+    far: &'a [u16; 600],
+    marks: &'a [u8; 1200],
+    v: u16,
+    x: u16,
+    j: u16,
+    a: Act,
+) -> Act
     requires { ⌜ (links ≤ 600) × (a .edge ≡ none) × (a .second .to ≡ none) × ((a .node .best ≡ none) ⊎ (isOwn links (now lower) (now higher) v (a .node .best) ≡ true))
         × ((x < 600) ⊎ (x ≡ none)) × ((a .node .weight < 600) ⊎ (a .node .weight ≡ none)) ⌝ }
     ensures { λ r. ⌜ ((cs : List Send) → Does (marksIn links (now (lower .entry)) (now (higher .entry)) (now (marks .entry)) v) cs (onReport (ownIn links (now (lower .entry)) (now (higher .entry)) (now (near .entry)) (now (far .entry)) v) x j) a r) ⌝ }

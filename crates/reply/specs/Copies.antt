@@ -34,19 +34,19 @@ module _ (o : Own) (m : ℕ → ℕ) (a : Act) (clean : a .edge ≡ none) where
   module _ (l f find j : ℕ) (c : a .copies ≡ 0) (x : a .first .to ≡ none) (y : a .second .to ≡ none) where
     does-tell : (status : ℕ) → status ≡ cond (eqb find 1) FIND FOUND
         → Does m (copiesIn o j (initiate l f find) m) (told o l f find j) a
-            (record { answer = a .answer; node = informedAs status l f j (a .node); edge = a .edge; mark = a .mark; copies = 1; first = a .first; second = a .second })
+        (record { answer = a .answer; node = informedAs status l f j (a .node); edge = a .edge; mark = a .mark; copies = 1; first = a .first; second = a .second })
     does-tell status e =
         told-as (then (tells-all m _ _ (λ h. omega (arith, c)) x y) (sets-node m _ a (informedAs status l f j (a .node))))
         (rw (marked-none m (a .edge) (a .mark) 0 clean, e))
 
     pub tell-found : find ≢ 1
         → Does m (copiesIn o j (initiate l f find) m) (told o l f find j) a
-            (record { answer = a .answer; node = informedAs FOUND l f j (a .node); edge = a .edge; mark = a .mark; copies = 1; first = a .first; second = a .second })
+        (record { answer = a .answer; node = informedAs FOUND l f j (a .node); edge = a .edge; mark = a .mark; copies = 1; first = a .first; second = a .second })
     tell-found h = does-tell FOUND (rw (ne-eqb _ _ h))
 
     pub tell-find : find ≡ 1
         → Does m (copiesIn o j (initiate l f find) m) (told o l f find j) a
-            (record { answer = a .answer; node = informedAs FIND l f j (a .node); edge = a .edge; mark = a .mark; copies = 1; first = a .first; second = a .second })
+        (record { answer = a .answer; node = informedAs FIND l f j (a .node); edge = a .edge; mark = a .mark; copies = 1; first = a .first; second = a .second })
     tell-find h = does-tell FIND (rw (eq-eqb _ _ h))
 
 -- find-count with the branches, as they were counted: n branches, d own edges, s in all

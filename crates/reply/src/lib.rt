@@ -1,6 +1,6 @@
 // The procedures test, wakeup and change-root, and the responses to Connect and Initiate, worked out by value from the plan's columns and the marks: v is the node, j the own edge that the message came by.
-use node::Node;
 use act::Act;
+use node::Node;
 ghost use mathlib.Core.Path.{_≡_};
 ghost use mathlib.Core.Logic.{_≢_, _⊎_};
 ghost use mathlib.Core.Bool.{true};
@@ -16,23 +16,56 @@ ghost use Rattle.act.specs.Act.{Does};
 pub const NONE: u16 = 65535;
 
 // Procedure test.
-pub fn do_test<'a>(links: u16, lower: &'a [u16; 600], higher: &'a [u16; 600], near: &'a [u16; 600], far: &'a [u16; 600], marks: &'a [u8; 1200], v: u16, a: Act) -> Act
+pub fn do_test<'a>(
+    links: u16,
+    lower: &'a [u16; 600],
+    higher: &'a [u16; 600],
+    near: &'a [u16; 600],
+    far: &'a [u16; 600],
+    marks: &'a [u8; 1200],
+    v: u16,
+    a: Act,
+) -> Act
     requires { ⌜ (links ≤ 600) × (a .second .to ≡ none) ⌝ }
     ensures { λ r. ⌜ ((cs : List Send) → Does (marksIn links (now (lower .entry)) (now (higher .entry)) (now (marks .entry)) v) cs (doTest (ownIn links (now (lower .entry)) (now (higher .entry)) (now (near .entry)) (now (far .entry)) v)) a r) ⌝ }
 {
-    act::test_on(search::earliest_basic(links, lower, higher, near, far, marks, v, a.edge, a.mark), a)
+    act::test_on(
+        search::earliest_basic(links, lower, higher, near, far, marks, v, a.edge, a.mark),
+        a,
+    )
 }
 
 // Procedure wakeup.
-pub fn wake<'a>(links: u16, lower: &'a [u16; 600], higher: &'a [u16; 600], near: &'a [u16; 600], far: &'a [u16; 600], marks: &'a [u8; 1200], v: u16, a: Act) -> Act
+pub fn wake<'a>(
+    links: u16,
+    lower: &'a [u16; 600],
+    higher: &'a [u16; 600],
+    near: &'a [u16; 600],
+    far: &'a [u16; 600],
+    marks: &'a [u8; 1200],
+    v: u16,
+    a: Act,
+) -> Act
     requires { ⌜ (links ≤ 600) × (a .edge ≡ none) × (a .first .to ≡ none) × (a .second .to ≡ none) ⌝ }
     ensures { λ r. ⌜ ((m : ℕ → ℕ) (cs : List Send) → Does m cs (wakeup (ownIn links (now (lower .entry)) (now (higher .entry)) (now (near .entry)) (now (far .entry)) v)) a r) × (r .second .to ≡ none) × (r .node .level ≡ 0) ⌝ }
 {
-    act::wake_on(search::earliest_own(links, lower, higher, near, far, marks, v), a)
+    act::wake_on(
+        search::earliest_own(links, lower, higher, near, far, marks, v),
+        a,
+    )
 }
 
 // A sleeper wakes.
-pub fn wakened<'a>(links: u16, lower: &'a [u16; 600], higher: &'a [u16; 600], near: &'a [u16; 600], far: &'a [u16; 600], marks: &'a [u8; 1200], v: u16, a: Act) -> Act
+pub fn wakened<'a>(
+    links: u16,
+    lower: &'a [u16; 600],
+    higher: &'a [u16; 600],
+    near: &'a [u16; 600],
+    far: &'a [u16; 600],
+    marks: &'a [u8; 1200],
+    v: u16,
+    a: Act,
+) -> Act
     requires { ⌜ (links ≤ 600) × (a .edge ≡ none) × (a .first .to ≡ none) × (a .second .to ≡ none) ⌝ }
     ensures { λ r. ⌜ ((m : ℕ → ℕ) (cs : List Send) → Does m cs (awake (ownIn links (now (lower .entry)) (now (higher .entry)) (now (near .entry)) (now (far .entry)) v)) a r) × (r .second .to ≡ none) × ((r .edge ≡ none) ⊎ (r .node .level ≡ 0)) ⌝ }
 {
@@ -43,7 +76,14 @@ pub fn wakened<'a>(links: u16, lower: &'a [u16; 600], higher: &'a [u16; 600], ne
 }
 
 // Procedure change-root.
-pub fn change_root<'a>(links: u16, lower: &'a [u16; 600], higher: &'a [u16; 600], marks: &'a [u8; 1200], v: u16, a: Act) -> Act
+pub fn change_root<'a>(
+    links: u16,
+    lower: &'a [u16; 600],
+    higher: &'a [u16; 600],
+    marks: &'a [u8; 1200],
+    v: u16,
+    a: Act,
+) -> Act
     requires { ⌜ (links ≤ 600) × (a .edge ≡ none) × (a .second .to ≡ none) × ((a .node .best ≡ none) ⊎ (isOwn links (now lower) (now higher) v (a .node .best) ≡ true)) ⌝ }
     ensures { λ r. ⌜ ((cs : List Send) → Does (marksIn links (now (lower .entry)) (now (higher .entry)) (now (marks .entry)) v) cs changeRoot a r) ⌝ }
 {
@@ -72,7 +112,15 @@ fn join(j: u16, find: u8, a: Act) -> Act
 }
 
 // A Connect of a lower level.
-fn absorb<'a>(links: u16, lower: &'a [u16; 600], higher: &'a [u16; 600], marks: &'a [u8; 1200], v: u16, j: u16, a: Act) -> Act
+fn absorb<'a>(
+    links: u16,
+    lower: &'a [u16; 600],
+    higher: &'a [u16; 600],
+    marks: &'a [u8; 1200],
+    v: u16,
+    j: u16,
+    a: Act,
+) -> Act
     requires { ⌜ (links ≤ 600) × (j ≢ none) × (a .edge ≡ none) × (a .second .to ≡ none) ⌝ }
     ensures { λ r. ⌜ ((near far : List ℕ) (m : ℕ → ℕ) (cs : List Send) → Does m cs (absorb (ownIn links (now (lower .entry)) (now (higher .entry)) near far v) j) a r) ⌝ }
 {
@@ -100,7 +148,17 @@ fn core_end(limit: u16, j: u16, a: Act) -> Act
 }
 
 // Connect(l), by an awake node: it may have been woken by it, and then its level is 0.
-pub fn on_connect<'a>(links: u16, lower: &'a [u16; 600], higher: &'a [u16; 600], marks: &'a [u8; 1200], v: u16, limit: u16, l: u16, j: u16, a: Act) -> Act
+pub fn on_connect<'a>(
+    links: u16,
+    lower: &'a [u16; 600],
+    higher: &'a [u16; 600],
+    marks: &'a [u8; 1200],
+    v: u16,
+    limit: u16,
+    l: u16,
+    j: u16,
+    a: Act,
+) -> Act
     requires { ⌜ (links ≤ 600) × (isOwn links (now lower) (now higher) v j ≡ true) × (a .second .to ≡ none) × ((a .edge ≡ none) ⊎ (a .node .level ≡ 0)) ⌝ }
     ensures { λ r. ⌜ ((near far : List ℕ) (cs : List Send) → Does (marksIn links (now (lower .entry)) (now (higher .entry)) (now (marks .entry)) v) cs (onConnect (ownIn links (now (lower .entry)) (now (higher .entry)) near far v) limit l j) a r) ⌝ }
 {
@@ -120,12 +178,35 @@ fn wide(x: u16) -> u32
 }
 
 // Initiate(l, f, find), by an awake node, before which nothing was done.
-pub fn on_initiate<'a>(links: u16, lower: &'a [u16; 600], higher: &'a [u16; 600], near: &'a [u16; 600], far: &'a [u16; 600], marks: &'a [u8; 1200], v: u16, l: u16, f: u16, find: u8, j: u16, a: Act) -> Act
+pub fn on_initiate<'a>(
+    links: u16,
+    lower: &'a [u16; 600],
+    higher: &'a [u16; 600],
+    near: &'a [u16; 600],
+    far: &'a [u16; 600],
+    marks: &'a [u8; 1200],
+    v: u16,
+    l: u16,
+    f: u16,
+    find: u8,
+    j: u16,
+    a: Act,
+) -> Act
     requires { ⌜ (links ≤ 600) × (a .edge ≡ none) × (a .copies ≡ 0) × (a .first .to ≡ none) × (a .second .to ≡ none) ⌝ }
     ensures { λ r. ⌜ Does (marksIn links (now (lower .entry)) (now (higher .entry)) (now (marks .entry)) v) (copiesIn (ownIn links (now (lower .entry)) (now (higher .entry)) (now (near .entry)) (now (far .entry)) v) j (initiate l f find) (marksIn links (now (lower .entry)) (now (higher .entry)) (now (marks .entry)) v))
         (onInitiate (ownIn links (now (lower .entry)) (now (higher .entry)) (now (near .entry)) (now (far .entry)) v) l f find j) a r ⌝ }
 {
-    let mut n = Node { status: 2, level: l, identity: f, weight: NONE, best: NONE, test: a.node.test, branch: j, count: a.node.count, halted: a.node.halted };
+    let mut n = Node {
+        status: 2,
+        level: l,
+        identity: f,
+        weight: NONE,
+        best: NONE,
+        test: a.node.test,
+        branch: j,
+        count: a.node.count,
+        halted: a.node.halted,
+    };
     let mut b = a;
     b.copies = 1;
     if find != 1 {

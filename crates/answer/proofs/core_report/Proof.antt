@@ -1,38 +1,28 @@
+-- `answer::core_report` meets its contract.
+use borrow.Author.Needs.{needs}
+use mathlib.Core.Path.{sym, _∙_}
 use Rattle.act.specs.Laws.{told-as, stays, sets-node}
-use Rattle.search.specs.Laws.{before-in}
 use Rattle.node.specs.Laws.{core-decides, core-edge, core-idle, core-halts}
 use Rattle.node.specs.Rules.{coreReport}
-use borrow.Author.Tests.{not-true, not-false}
-use mathlib.Core.Path.{sym, _∙_}
-use borrow.Author.Needs.{needs}
+use Rattle.search.specs.Laws.{before-in}
 use Rattle.answer.proofs.core_report.Statement.{statement}
 use Rattle.answer.proofs.core_report.Tie as tie
-use Rattle.answer.proofs.core_report.Reads as reads
-use Rattle.answer.proofs.core_report.Lts as lts
-use Rattle.plan.proofs.before.Reads as before-reads
-use Rattle.reply.proofs.change_root.Reads as change-root-reads
 
--- src/lib.rt:247:8
 before-requires : tie.Need-before-requires
 before-requires c κs = search needs
 
--- src/lib.rt:248:9
 change-root-requires : tie.Need-change-root-requires
 change-root-requires c κs = search needs
 
--- src/lib.rt:248:9
 returns : tie.Need-returns
 returns c = λ cs. told-as (c .change-root .ensures cs) (sym (core-decides _ _ _ (before-in _ _ _ _ _ _ _ _ ∙ sym (c .before .before .before2 .ensures) ∙ c .before .if1 .taken)))
 
--- src/lib.rt:251:9
 returns-2 : tie.Need-returns-2
 returns-2 c = λ cs. stays _ cs _ (coreReport _ _) (core-edge _ _ _ (before-in _ _ _ _ _ _ _ _ ∙ sym (c .before .before .before2 .ensures) ∙ c .before .if1 .left) (c .if2 .taken))
 
--- src/lib.rt:254:9
 returns-3 : tie.Need-returns-3
 returns-3 c = λ cs. stays _ cs _ (coreReport _ _) (core-idle _ _ _ (before-in _ _ _ _ _ _ _ _ ∙ sym (c .before .before .before .before .before2 .ensures) ∙ c .before .before .before .if1 .left) (c .if3 .taken))
 
--- src/lib.rt:242:1
 returns-4 : tie.Need-returns-4
 returns-4 c = λ cs. told-as (sets-node _ cs _ _) (sym (core-halts _ _ _ (before-in _ _ _ _ _ _ _ _ ∙ sym (c .before .before .before .before .before .before2 .ensures) ∙ c .before .before .before .before .if1 .left) (c .before .before .before .if2 .left) (c .before .if3 .left)))
 

@@ -1,69 +1,51 @@
-use Rattle.act.specs.Laws.{told-as, then}
-use Rattle.act.specs.declared.Out.{Out}
-use Rattle.search.specs.Laws.{own-below}
-use Rattle.node.specs.Laws.{test-waits, test-accepted, test-crossed, test-rejected}
-use native.Mathlib.Omega.{arith}
+-- `answer::on_test` meets its contract.
+use borrow.Author.Needs.{needs}
 use mathlib.Core.Logic.{⊎-elim}
 use mathlib.Core.Path.{sym, ap, _∙_}
-use borrow.Author.Needs.{needs}
+use native.Mathlib.Omega.{arith}
+use Rattle.act.specs.Laws.{told-as, then}
+use Rattle.act.specs.declared.Out.{Out}
+use Rattle.node.specs.Laws.{test-waits, test-accepted, test-crossed, test-rejected}
+use Rattle.search.specs.Laws.{own-below}
 use Rattle.answer.proofs.on_test.Statement.{statement}
 use Rattle.answer.proofs.on_test.Tie as tie
-use Rattle.answer.proofs.on_test.Reads as reads
-use Rattle.answer.proofs.on_test.Lts as lts
-use Rattle.act.proofs.a_reject.Reads as a-reject-reads
-use Rattle.act.proofs.an_accept.Reads as an-accept-reads
-use Rattle.act.proofs.back.Reads as back-reads
-use Rattle.act.proofs.say.Reads as say-reads
-use Rattle.reply.proofs.do_test.Reads as do-test-reads
-use Rattle.answer.proofs.strike.Reads as strike-reads
 
--- src/lib.rt:177:9
 back-requires : tie.Need-back-requires
 back-requires c κs = search needs
 
--- src/lib.rt:177:9
 returns : tie.Need-returns
 returns c = λ cs. told-as (c .back .ensures _ cs) (sym (test-waits _ _ _ _ _ (c .before .if1 .taken)))
 
--- src/lib.rt:180:28
 an-accept-requires : tie.Need-an-accept-requires
 an-accept-requires c κs = search needs
 
--- src/lib.rt:180:9
 say-requires : tie.Need-say-requires
 say-requires c κs = search needs
 
--- src/lib.rt:180:9
 returns-2 : tie.Need-returns-2
 returns-2 c = λ cs. told-as (c .say .ensures _ cs .does _ _ (c .before .an-accept .ensures) (λ h. omega (arith, own-below _ _ _ _ _ (c .before .before .before .before .before .before .pre .1)))) (sym (test-accepted _ _ _ _ _ (c .before .before .before .before .if1 .left) (c .before .before .if2 .taken)))
 
--- src/lib.rt:182:9
 strike-requires : tie.Need-strike-requires
 strike-requires c κs =
     let p = c .before .before .before .before .pre in
     (p .0, p .1, ⊎-elim (λ h. h) (λ h. omega (arith, c .before .before .if1 .left, p .4)) (p .3))
 
--- src/lib.rt:184:9
 do-test-requires : tie.Need-do-test-requires
 do-test-requires c κs = (c .before .before .before .before .before .before .before .pre .0, ap (λ (x : Out). x .to) (c .before .before .strike .ensures .1) ∙ c .before .before .before .before .before .before .before .pre .2)
 
--- src/lib.rt:184:9
 returns-3 : tie.Need-returns-3
 returns-3 c = λ cs. told-as (then (c .do-test .ensures cs) (c .before .before .before .strike .ensures .0 cs)) (sym (test-crossed _ _ _ _ _ (c .before .before .before .before .before .before .if1 .left) (c .before .before .before .before .if2 .left) (c .before .if3 .taken)))
 
--- src/lib.rt:186:17
 a-reject-requires : tie.Need-a-reject-requires
 a-reject-requires c κs = search needs
 
--- src/lib.rt:186:5
 say-requires-2 : tie.Need-say-requires-2
 say-requires-2 c κs = ap (λ (x : Out). x .to) (c .before .before .before .strike .ensures .1) ∙ c .before .before .before .before .before .before .before .before .pre .2
 
--- src/lib.rt:172:1
 returns-4 : tie.Need-returns-4
 returns-4 c =
     λ cs. told-as (then (c .say2 .ensures _ cs .does _ _ (c .before .a-reject .ensures) (λ h. omega (arith, own-below _ _ _ _ _ (c .before .before .before .before .before .before .before .before .before .pre .1)))) (c .before .before .before .before .strike .ensures .0 cs))
-      (sym (test-rejected _ _ _ _ _ (c .before .before .before .before .before .before .before .if1 .left) (c .before .before .before .before .before .if2 .left) (c .before .before .if3 .left)))
+    (sym (test-rejected _ _ _ _ _ (c .before .before .before .before .before .before .before .if1 .left) (c .before .before .before .before .before .if2 .left) (c .before .before .if3 .left)))
 
 pub on-test-spec : {M : Type 1} → statement M
 on-test-spec =

@@ -1,59 +1,46 @@
+-- `reply::absorb` meets its contract.
+use borrow.Author.Needs.{needs}
+use mathlib.Core.Path.{sym, _∙_}
+use native.Mathlib.Omega.{arith}
 use Rattle.act.specs.Laws.{told-as, then, sets-node}
 use Rattle.node.specs.Laws.{absorb-find, absorb-found, count-refused, count-rises}
-use native.Mathlib.Omega.{arith}
-use mathlib.Core.Path.{sym, _∙_, ap, refl}
-use borrow.Author.Needs.{needs}
 use Rattle.reply.proofs.absorb.Statement.{statement}
 use Rattle.reply.proofs.absorb.Tie as tie
-use Rattle.reply.proofs.absorb.Reads as reads
-use Rattle.reply.proofs.absorb.Lts as lts
-use Rattle.act.proofs.refuse.Reads as refuse-reads
-use Rattle.reply.proofs.join.Reads as join-reads
-use Rattle.search.proofs.degree.Reads as degree-reads
 
--- src/lib.rt:81:9
 join-requires : tie.Need-join-requires
 join-requires c κs = search needs
 
--- src/lib.rt:81:9
 returns : tie.Need-returns
 returns c = λ near far m cs. told-as (c .join .ensures m cs) (sym (absorb-found _ _ _ (c .before .if1 .taken)))
 
--- src/lib.rt:83:8
 degree-requires : tie.Need-degree-requires
 degree-requires c κs = search needs
 
--- src/lib.rt:84:28
 join-requires-2 : tie.Need-join-requires-2
 join-requires-2 c κs = search needs
 
--- src/lib.rt:84:9
 refuse-requires : tie.Need-refuse-requires
 refuse-requires c κs = search needs
 
--- src/lib.rt:84:9
 returns-2 : tie.Need-returns-2
 returns-2 c =
     let t = c .before .before in
     let d = t .before .before in
     λ near far m cs. told-as (then (c .refuse .ensures m cs) (c .before .join2 .ensures m cs))
-      (sym (absorb-find _ _ _ (d .before .if1 .left) ∙ count-refused _ _ _ (omega (arith, t .if2 .taken, d .degree .ensures .0 near far))))
+    (sym (absorb-find _ _ _ (d .before .if1 .left) ∙ count-refused _ _ _ (omega (arith, t .if2 .taken, d .degree .ensures .0 near far))))
 
--- src/lib.rt:87:13
 add-c : tie.Need-add-c
 add-c c = search needs
 
--- src/lib.rt:89:5
 join-requires-3 : tie.Need-join-requires-3
 join-requires-3 c κs = search needs
 
--- src/lib.rt:76:1
 returns-3 : tie.Need-returns-3
 returns-3 c =
     let t = c .before .before .before in
     let d = t .before .before in
     λ near far m cs. told-as (then (c .join3 .ensures m cs) (sets-node m cs _ _))
-      (sym (absorb-find _ _ _ (d .before .if1 .left) ∙ count-rises _ _ _ (omega (arith, t .if2 .left, d .degree .ensures .0 near far))))
+    (sym (absorb-find _ _ _ (d .before .if1 .left) ∙ count-rises _ _ _ (omega (arith, t .if2 .left, d .degree .ensures .0 near far))))
 
 pub absorb-spec : {M : Type 1} → statement M
 absorb-spec =

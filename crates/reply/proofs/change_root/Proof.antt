@@ -1,65 +1,50 @@
-use Rattle.reply.specs.Laws.{other}
-use Rattle.act.specs.Laws.{told-as, then, marks-edge}
-use Rattle.search.specs.Laws.{own-below}
-use Rattle.node.specs.Laws.{root-refused, root-told, root-connects}
-use native.Mathlib.Omega.{arith}
-use mathlib.Core.Path.{sym, _∙_}
+-- `reply::change_root` meets its contract.
 use borrow.Author.Needs.{needs}
+use mathlib.Core.Path.{sym, _∙_}
+use native.Mathlib.Omega.{arith}
+use Rattle.act.specs.Laws.{told-as, then, marks-edge}
+use Rattle.node.specs.Laws.{root-refused, root-told, root-connects}
+use Rattle.reply.specs.Laws.{other}
+use Rattle.search.specs.Laws.{own-below}
 use Rattle.reply.proofs.change_root.Statement.{statement}
 use Rattle.reply.proofs.change_root.Tie as tie
-use Rattle.reply.proofs.change_root.Reads as reads
-use Rattle.reply.proofs.change_root.Lts as lts
-use Rattle.act.proofs.a_change.Reads as a-change-reads
-use Rattle.act.proofs.a_connect.Reads as a-connect-reads
-use Rattle.act.proofs.refuse.Reads as refuse-reads
-use Rattle.act.proofs.say.Reads as say-reads
-use Rattle.search.proofs.mark_of.Reads as mark-of-reads
 
--- src/lib.rt:53:9
 refuse-requires : tie.Need-refuse-requires
 refuse-requires c κs = search needs
 
--- src/lib.rt:53:9
 returns : tie.Need-returns
 returns c = λ cs. told-as (c .refuse .ensures _ cs) (sym (root-refused _ (c .before .if1 .taken)))
 
--- src/lib.rt:55:8
 mark-of-requires : tie.Need-mark-of-requires
 mark-of-requires c κs = omega (arith, own-below _ _ _ _ _ (other (c .before .pre .3) (c .if1 .left)))
 
--- src/lib.rt:56:28
 a-change-requires : tie.Need-a-change-requires
 a-change-requires c κs = search needs
 
--- src/lib.rt:56:9
 say-requires : tie.Need-say-requires
 say-requires c κs = search needs
 
--- src/lib.rt:56:9
 returns-2 : tie.Need-returns-2
 returns-2 c =
     let t = c .before .before in
     let e = t .before .before in
     let own = other (e .before .pre .3) (e .if1 .left) in
     λ cs. told-as (c .say .ensures _ cs .does _ _ (c .before .a-change .ensures) (e .if1 .left))
-      (sym (root-told _ (e .if1 .left) (sym (t .before .mark-of .ensures _ _ own) ∙ t .if2 .taken)))
+    (sym (root-told _ (e .if1 .left) (sym (t .before .mark-of .ensures _ _ own) ∙ t .if2 .taken)))
 
--- src/lib.rt:61:17
 a-connect-requires : tie.Need-a-connect-requires
 a-connect-requires c κs = search needs
 
--- src/lib.rt:61:5
 say-requires-2 : tie.Need-say-requires-2
 say-requires-2 c κs = search needs
 
--- src/lib.rt:47:1
 returns-3 : tie.Need-returns-3
 returns-3 c =
     let t = c .before .before in
     let e = t .before .before in
     let own = other (e .before .pre .3) (e .if1 .left) in
     λ cs. told-as (then (c .say2 .ensures _ cs .does _ _ (c .before .a-connect .ensures) (e .if1 .left)) (marks-edge _ cs _ _ _ (e .before .pre .1) (e .if1 .left)))
-      (sym (root-connects _ (e .if1 .left) (λ h. t .if2 .left (t .before .mark-of .ensures _ _ own ∙ h))))
+    (sym (root-connects _ (e .if1 .left) (λ h. t .if2 .left (t .before .mark-of .ensures _ _ own ∙ h))))
 
 pub change-root-spec : {M : Type 1} → statement M
 change-root-spec =

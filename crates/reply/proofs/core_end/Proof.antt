@@ -1,40 +1,30 @@
+-- `reply::core_end` meets its contract.
+use borrow.Author.Needs.{needs}
+use mathlib.Core.Path.{sym}
 use Rattle.act.specs.Laws.{told-as}
 use Rattle.node.specs.Laws.{core-refused, core-answers}
-use mathlib.Core.Path.{sym}
-use borrow.Author.Needs.{needs}
 use Rattle.reply.proofs.core_end.Statement.{statement}
 use Rattle.reply.proofs.core_end.Tie as tie
-use Rattle.reply.proofs.core_end.Reads as reads
-use Rattle.reply.proofs.core_end.Lts as lts
-use Rattle.act.proofs.an_initiate.Reads as an-initiate-reads
-use Rattle.act.proofs.refuse.Reads as refuse-reads
-use Rattle.act.proofs.say.Reads as say-reads
 
--- src/lib.rt:98:9
 refuse-requires : tie.Need-refuse-requires
 refuse-requires c κs = search needs
 
--- src/lib.rt:98:9
 returns : tie.Need-returns
 returns c = λ m cs. told-as (c .refuse .ensures m cs) (sym (core-refused _ _ _ (c .before .if1 .taken)))
 
--- src/lib.rt:100:37
 add-an-initiate : tie.Need-add-an-initiate
 add-an-initiate c = search needs
 
--- src/lib.rt:100:17
 an-initiate-requires : tie.Need-an-initiate-requires
 an-initiate-requires c κs = search needs
 
--- src/lib.rt:100:5
 say-requires : tie.Need-say-requires
 say-requires c κs = search needs
 
--- src/lib.rt:93:1
 returns-2 : tie.Need-returns-2
 returns-2 c =
     λ m cs. told-as (c .say .ensures m cs .does _ _ (c .before .an-initiate .ensures) (c .before .before .before .before .before .pre .0))
-      (sym (core-answers _ _ _ (c .before .before .before .if1 .left)))
+    (sym (core-answers _ _ _ (c .before .before .before .if1 .left)))
 
 pub core-end-spec : {M : Type 1} → statement M
 core-end-spec =

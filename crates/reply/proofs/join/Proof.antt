@@ -1,23 +1,16 @@
-use Rattle.act.specs.Laws.{told-as}
-use mathlib.Core.Path.{refl}
-use Rattle.act.specs.Laws.{then, marks-edge}
+-- `reply::join` meets its contract.
 use borrow.Author.Needs.{needs}
+use mathlib.Core.Path.{refl}
+use Rattle.act.specs.Laws.{told-as, then, marks-edge}
 use Rattle.reply.proofs.join.Statement.{statement}
 use Rattle.reply.proofs.join.Tie as tie
-use Rattle.reply.proofs.join.Reads as reads
-use Rattle.reply.proofs.join.Lts as lts
-use Rattle.act.proofs.an_initiate.Reads as an-initiate-reads
-use Rattle.act.proofs.say.Reads as say-reads
 
--- src/lib.rt:72:17
 an-initiate-requires : tie.Need-an-initiate-requires
 an-initiate-requires c κs = search needs
 
--- src/lib.rt:72:5
 say-requires : tie.Need-say-requires
 say-requires c κs = search needs
 
--- src/lib.rt:65:1
 returns : tie.Need-returns
 returns c =
     let p = c .before .before .pre in

@@ -1,26 +1,21 @@
+-- `reply::wakened` meets its contract.
+use borrow.Author.Needs.{needs}
+use mathlib.Core.Logic.{inl, inr}
+use mathlib.Core.Path.{sym}
 use Rattle.act.specs.Laws.{told-as, stays}
 use Rattle.node.specs.Laws.{awake-wakes, awake-is}
 use Rattle.node.specs.Rules.{awake}
-use mathlib.Core.Logic.{inl, inr}
-use mathlib.Core.Path.{sym}
-use borrow.Author.Needs.{needs}
 use Rattle.reply.proofs.wakened.Statement.{statement}
 use Rattle.reply.proofs.wakened.Tie as tie
-use Rattle.reply.proofs.wakened.Reads as reads
-use Rattle.reply.proofs.wakened.Lts as lts
-use Rattle.reply.proofs.wake.Reads as wake-reads
 
--- src/lib.rt:41:9
 wake-requires : tie.Need-wake-requires
 wake-requires c κs = search needs
 
--- src/lib.rt:41:9
 returns : tie.Need-returns
 returns c =
     let e = c .wake .ensures in
     (λ m cs. told-as (e .0 m cs) (sym (awake-wakes _ _ (c .before .if1 .taken))), e .1, inr (e .2))
 
--- src/lib.rt:36:1
 returns-2 : tie.Need-returns-2
 returns-2 c = (λ m cs. stays m cs _ (awake _) (awake-is _ _ (c .if1 .left)), c .before .before .pre .3, inl (c .before .before .pre .1))
 
