@@ -44,7 +44,7 @@ module _ (links : ℕ) (lower higher : List ℕ) (v k : ℕ) where
 module _ (lower : List ℕ) (v k : ℕ) where
   pub end-lower : getD lower k 0 ≡ v → endIn lower v k ≡ 2 * k
   unfolding endIn
-  end-lower h = rw (eq-eqb _ _ h) (omega arith)
+  end-lower h = simp (eq-eqb _ _ h)
 
   pub end-higher : getD lower k 0 ≢ v → endIn lower v k ≡ 2 * k + 1
   unfolding endIn
@@ -53,7 +53,7 @@ module _ (lower : List ℕ) (v k : ℕ) where
   -- both ends of 600 edges
   pub end-small : k < 600 → endIn lower v k < 1200
   unfolding endIn
-  end-small h = eqb-cases (getD lower k 0) v (λ b. 2 * k + bit (not b) < 1200) (λ e. omega arith) (λ e. omega arith)
+  end-small h = eqb-cases (getD lower k 0) v (λ b. cond b (2 * k) (2 * k + 1) < 1200) (λ e. omega arith) (λ e. omega arith)
 
 pub marked-same : (m : ℕ → ℕ) (x k : ℕ) → marked m none x k ≡ m k
 unfolding marked

@@ -4,7 +4,7 @@ use mathlib.Core.Bool.{Bool, true, false, not, cond, _&&_, _||_}
 use mathlib.Core.List.{List}
 use lib.ListN.{getD}
 use lib.Dec.{eqb, ltb}
-use Rattle.base.specs.Cond.{bit, upd}
+use Rattle.base.specs.Cond.{upd}
 use Rattle.message.specs.Msg.{none}
 use Rattle.plan.specs.declared.Plan.{Plan}
 use Rattle.plan.specs.Weights.{earlierIn}
@@ -22,7 +22,7 @@ ownOf p v = ownIn (p .links) (p .lower) (p .higher) (p .near) (p .far) v
 
 -- "Directed link 2 × k runs from lower to higher over link k, 2 × k + 1 back": v's directed link over its edge k, and the place of v's mark for it
 unfoldable pub endIn : List ℕ → ℕ → ℕ → ℕ
-endIn lower v k = 2 * k + bit (not (eqb (getD lower k 0) v))
+endIn lower v k = cond (eqb (getD lower k 0) v) (2 * k) (2 * k + 1)
 
 -- v's marks: "a mark for each own link", and 0 elsewhere
 unfoldable pub marksIn : ℕ → List ℕ → List ℕ → List ℕ → ℕ → ℕ → ℕ
