@@ -6,3 +6,5 @@ pub mod ChildReport
 pub mod Settle
 pub mod CoreQuiet
 pub mod Rooted
+pub mod ChangeRoot
+pub mod Decide
