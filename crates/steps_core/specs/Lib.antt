@@ -8,3 +8,4 @@ pub mod CoreQuiet
 pub mod Rooted
 pub mod ChangeRoot
 pub mod Decide
+pub mod CoreHalt
