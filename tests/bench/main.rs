@@ -12,32 +12,48 @@ use std::hint::black_box;
 use std::time::Instant;
 
 const PLANS: usize = 100;
-const ROUNDS: usize = 61;
+const REPETITIONS: usize = 201;
 
-/// Microseconds a plan, over all plans.
-fn time(inputs: &[Vec<u8>], call: &mut dyn FnMut(&[u8]) -> u32) -> f64 {
+type Work<'a> = &'a mut dyn FnMut(&[u8]) -> u32;
+
+/// Microseconds of one call. It is short beside a time slice, so another process disturbs few of them.
+fn time(bytes: &[u8], work: Work) -> f64 {
     let start = Instant::now();
-    for bytes in inputs {
-        assert_eq!(black_box(call(black_box(bytes))), 0);
-    }
-    start.elapsed().as_secs_f64() * 1e6 / inputs.len() as f64
+    let answer = black_box(work(black_box(bytes)));
+    let taken = start.elapsed();
+    assert_eq!(answer, 0);
+    taken.as_secs_f64() * 1e6
 }
 
-fn median(mut times: Vec<f64>) -> f64 {
+/// The value that a share of all lies below.
+fn quantile(times: &mut [f64], share: f64) -> f64 {
     times.sort_by(f64::total_cmp);
-    times[times.len() / 2]
+    times[(share * (times.len() - 1) as f64) as usize]
 }
 
-/// Times both sides in turn, so that what else the machine does falls on both alike.
-fn row(name: &str, inputs: &[Vec<u8>], rattle: &mut dyn FnMut(&[u8]) -> u32, rust: &mut dyn FnMut(&[u8]) -> u32) {
-    let (mut ours, mut theirs, mut ratios) = (Vec::new(), Vec::new(), Vec::new());
-    for _ in 0..ROUNDS {
-        let (a, b) = (time(inputs, rattle), time(inputs, rust));
-        ours.push(a);
-        theirs.push(b);
-        ratios.push(a / b);
+/// Times both sides in turn, each call on another plan than the one before, since a processor learns the branches of a
+/// plan that it meets again at once. The sides take turns in going first. A plan's time is the median of its
+/// repetitions, a side's the mean of its plans' times. The same by the first quartile shows whether the machine was
+/// quiet: the two ratios should be alike.
+fn row(name: &str, inputs: &[Vec<u8>], rattle: Work, rust: Work) {
+    let mut times = vec![[Vec::new(), Vec::new()]; inputs.len()];
+    for repetition in 0..REPETITIONS {
+        for (bytes, [ours, theirs]) in inputs.iter().zip(&mut times) {
+            if repetition % 2 == 0 {
+                ours.push(time(bytes, rattle));
+                theirs.push(time(bytes, rust));
+            } else {
+                theirs.push(time(bytes, rust));
+                ours.push(time(bytes, rattle));
+            }
+        }
     }
-    println!("| {name} | {:.1} | {:.1} | {:.2} |", median(ours), median(theirs), median(ratios));
+    let mut mean = |side: usize, share: f64| {
+        let total: f64 = times.iter_mut().map(|sides| quantile(&mut sides[side], share)).sum();
+        total / inputs.len() as f64
+    };
+    let (a, b, c, d) = (mean(0, 0.5), mean(1, 0.5), mean(0, 0.25), mean(1, 0.25));
+    println!("| {name} | {a:.1} | {b:.1} | {:.2} | {:.2} |", a / b, c / d);
 }
 
 fn main() {
@@ -53,9 +69,9 @@ fn main() {
         assert_eq!((library::tree(bytes, &mut a), plain::tree(bytes, &mut b)), (0, 0));
         assert_eq!(a, b, "both sides build the same tree");
     }
-    println!("{PLANS} plans of 192 modules and 600 links, median of {ROUNDS} repetitions, microseconds a plan\n");
-    println!("| work | Rattle | plain Rust | ratio |");
-    println!("|---|---|---|---|");
+    println!("{PLANS} plans of 192 modules and 600 links, medians of {REPETITIONS} calls, microseconds a call\n");
+    println!("| work | Rattle | plain Rust | ratio | ratio by first quartiles |");
+    println!("|---|---|---|---|---|");
     row("check", &wide, &mut library::plan_check, &mut plain::check);
     let (mut a, mut b) = ([0; 600], [0; 600]);
     let mut rattle = |bytes: &[u8]| library::tree(bytes, &mut a);
