@@ -4,8 +4,8 @@ use Rattle.protocol.specs.Prelude.{List, [], _∷_, sumL, upd, upd-elim, upd-sa
 use Rattle.protocol.specs.Prelude.{isCI, isR, In, Bef, bef-before, pop-head, pop-in, pop-all, pop-bef, here-new, else-same, at2, none-in, some-report, Decision, GL, GC, DK, Inf, Jn, Child, CoreEnds, Spent, Inv}
 use Rattle.protocol.specs.Prelude.{no-root, rest-none, decided-find, decided-report}
 use Rattle.protocol.specs.Decisions.{Rootings, Finishes}
-use Rattle.protocol.specs.Traffic.{Tokens, Reports}
-use Rattle.steps_core.specs.CoreQuiet as C
+use Rattle.protocol.specs.Traffic.{Tokens}
+use Rattle.steps_core.specs.Core as K
 use Rattle.steps_core.specs.Settle as Z
 use Rattle.steps_core.specs.Settle.{Seat, Act}
 
@@ -104,17 +104,14 @@ module _ {p : Plan} {s : State} (i : Inv p s) {u v k : ℕ} {r : List Msg} (h : 
         (λ o. i.D4.d6c j w x e (λ z. t (upd-other s.halt v 1 w o ∙ z)));
   }
 
-  beyond : (j x y : ℕ) → Ends p j x y → GC s x ≡ j → 1 ≤ GL s x → s.fr y ≡ s.fr x
-  beyond j x y e g l = i.G5.g5 x y x l (subst (λ a. Ends p a y x) (sym g) (flip e)) .1
-
   v-channel : c′ v k ≡ s.ch v k
   v-channel = else-same s.ch u k r v k (inl (ends-irr p ends))
 
   Dc′ : Tokens p S′
   Dc′ = record {
-    d1c = λ j a y e t. let o = told-old 3 a j (act.n3) t in subst (λ l. In (connect (GL s a)) l) (sym (away a j (o .0))) (i.Dc.d1c j a y e (o .1));
-    d1a = λ j a y e t. pop-all s.ch u k (h.seat .took) a j (i.Dc.d1a j a y e (told-old 3 a j (act.n3) t .1));
-    d2c = λ j a y e t. let o = told-old 2 a j (act.n2) t in subst (λ l. In change l) (sym (away a j (o .0))) (i.Dc.d2c j a y e (o .1));
+    d1c = Z.d1c′ i (h.seat) act;
+    d1a = Z.d1a′ i (h.seat) act;
+    d2c = Z.d2c′ i (h.seat) act;
     k1 = λ j a y e n. let t = i.Dc.k1 j a y e (old a j n) in
         (dk-out a (λ o. ⊎-elim (λ b. omega (arith, t .0, ap s.dk o, b)) (λ b. omega (arith, t .0, ap s.dk o, b)) (h.was)) ∙ t .0, t .1, t .2);
     d3r = λ j a y e t b. absurd (no-root i a (h.seat .idle .2) (dk-old 1 a n1 (t .0) .1));
@@ -129,49 +126,15 @@ module _ {p : Plan} {s : State} (i : Inv p s) {u v k : ℕ} {r : List Msg} (h : 
         (λ x z c. subst (λ f. In (report none) f) (at2 c′ z c)
         (subst (λ f. In (report none) f) (sym v-channel) (h.waits (ap s.halt x ∙ sym (upd-other s.halt v 1 a (λ f. ends-irr p ends (x ∙ sym f))) ∙ b))))
         (λ x z c. absurd (omega (arith, b, ap halt′ x, upd-same s.halt v 1))))
-        (λ o. subst (λ c. In (report none) c) (sym (away y j (λ z. o (sym (beyond j a y e g l) ∙ z))))
+        (λ o. subst (λ c. In (report none) c) (sym (away y j (λ z. o (sym (Z.beyond i (h.seat) act j a y e g l) ∙ z))))
         (i.Dc.d4r j a y e g (sym (dk-out a o) ∙ t) l (sym (upd-other s.halt v 1 a (λ f. o (ap s.fr (sym f)))) ∙ b)));
-    d7 = λ j a y e g t f b. let o = dk-old 0 a (act.n0) t in
-        ⊎-elim (λ c. inl (omega (arith, ap (sumL isR) (away a j (o .0)))))
-        (λ c. inr (c .0, c .1, c .2, omega (arith, c .3, ap (sumL isR) (away y j (λ z. o .0 (sym (beyond j a y e g (f .0)) ∙ z))))))
-        (i.Dc.d7 j a y e g (o .1) f b);
+    d7 = Z.d7′ i (h.seat) act;
   }
-    where
-      told-old : (e z j : ℕ) → act.d ≢ e → Decision e dk′ s.dn s.de s.fr z j → (s.fr z ≢ s.fr v) × Decision e s.dk s.dn s.de s.fr z j
-      told-old = Z.decision-old i (h.seat) act
 
-  core-away : (a b j w : ℕ) → s.fr a ≢ s.fr v → CoreEnds s a b j w → CoreEnds S′ a b j w
-  core-away a b j w n t =
-      let e = away a j n in (
-        t .0,
-        dk-out a n ∙ t .1,
-        t .2,
-        t .3,
-        t .4,
-        λ x o. t .5 x (subst (λ l. Bef (report w) x l) e o),
-        ⊎-elim (λ o. inl (o .0, ap (sumL isCI) e ∙ o .1)) (λ o. inr (o .0, subst (λ l. In (initiate (GL s b) j 1) l) (sym e) (o .1))) (t .6),
-      )
-
-  R1′ : Reports p S′
-  R1′ = record {
-    r1r = λ j a b w e n. i.R1.r1r j a b w e (old a j n);
-    r1j = λ j a b w e n. i.R1.r1j j a b w e (old a j n);
-    r1 = λ j a b w e n.
-        let q = i.M1.m3 j a b e (i.R1.r1j j a b w e (old a j n)) in
-        by-eq (s.fr b) (s.fr v)
-        (λ o. let t = h.spent j a b w e o n in
-        inr (inr (t .0, t .1, t .2, t .3, (λ x y. t .4 x (pop-bef s.ch u k (h.seat .took) a j y)), ⊎-elim (λ y. inl y) (λ y. inr (y .0, y .1, dk-in b o, y .2)) (t .5))))
-        (λ o.
-        let d : s.fr a ≢ s.fr v = λ z. o (sym q ∙ z) in
-        ⊎-elim (λ t. inl (t .0, t .1, t .2, t .3, t .4, t .5, t .6, ap (sumL isCI) (away a j d) ∙ t .7))
-        (⊎-elim (λ t. inr (inl (core-away a b j w d t)))
-        (λ t. inr (inr (t .0, t .1, t .2, t .3, (λ x y. t .4 x (pop-bef s.ch u k (h.seat .took) a j y)), ⊎-elim (λ y. inl y) (λ y. inr (y .0, y .1, dk-out b o ∙ y .2, y .3)) (t .5)))))
-        (i.R1.r1 j a b w e (old a j n)));
-    r1c = λ j a b w e n f t g.
-        let q = i.M1.m3 j a b e (i.R1.r1j j a b w e (old a j n)) in
-        let o = dk-old 0 b (act.n0) t in
-        core-away a b j w (λ z. o .0 (sym q ∙ z)) (i.R1.r1c j a b w e (old a j n) f (o .1) g);
-  }
+  -- a Report in the fragment will do nothing, or halt u
+  here : (j a b w : ℕ) → Ends p j a b → s.fr b ≡ s.fr v → In (report w) (c′ a j) → Spent p S′ a b j w
+  here j a b w e o n = let t = h.spent j a b w e o n in
+      (t .0, t .1, t .2, t .3, (λ x y. t .4 x (pop-bef s.ch u k (h.seat .took) a j y)), ⊎-elim (λ y. inl y) (λ y. inr (y .0, y .1, dk-in b o, y .2)) (t .5))
 
   inv-over : Inv p S′
   inv-over = record {
@@ -207,7 +170,7 @@ module _ {p : Plan} {s : State} (i : Inv p s) {u v k : ℕ} {r : List Msg} (h : 
     T4 = Z.T4′ i (h.seat) act;
     E1 = Z.E1′ i (h.seat) act;
     A1 = Z.A1′ i (h.seat) act;
-    R1 = R1′;
+    R1 = Z.R1′ i (h.seat) act here;
     F4c = Z.F4c′ i (h.seat) act;
     B2 = Z.B2′ i (h.seat) act;
     Q1 = Z.Q1′ i (h.seat) act;
@@ -229,14 +192,14 @@ module _ {p : Plan} {s : State} (i : Inv p s) {u v k : ℕ} {r : List Msg} (idle
   -- of an undecided fragment, between its core ends
   undecided : CoreEnds s u v k none → Over p s u v k r
   undecided core =
-      let gc-v = C.gc-v i idle ends q branch found core in
-      let dk-v = C.dk-v i idle ends q branch found core in
-      let inf-v = C.inf-v i idle ends q branch found core in
-      let nf = C.nf i idle ends q branch found core in
+      let gc-v = K.core-v i ends q idle found core in
+      let dk-v = K.undec i ends q idle found core in
+      let inf-v = K.inf-v i ends q idle found core in
+      let nf = K.none-find i ends q idle found core in
       let fine : s.halt u ≡ 0 = by-eq (s.halt u) 0 (λ z. z) (λ n. absurd (omega (arith, i.D4.d6 u n, core .1))) in
       -- v's own Report waits: u's best weight is not later
       let own = ⊎-elim (λ t. t) (λ t. absurd (same-key (s.bw v) (s.bw u) (nothing ∙ sym (core .4)) (t .2)))
-      (i.Dc.d7 k v u (flip ends) gc-v dk-v inf-v (C.st-v i idle ends q branch found core)) in
+      (i.Dc.d7 k v u (flip ends) gc-v dk-v inf-v (K.found-v i ends q idle found core)) in
       let n = some-report (s.ch v k) own in
       let mine = i.R1.r1c k v u (n .0) (flip ends) (n .1) (core .2) (core .1) (core .0) in
       record {
@@ -253,7 +216,7 @@ module _ {p : Plan} {s : State} (i : Inv p s) {u v k : ℕ} {r : List Msg} (idle
           mates = mates;
           level = inf-v .0;
           nf = nf;
-          nd = C.nd i idle ends q branch found core;
+          nd = K.none-due i ends q idle found core;
           whole = λ z. omega (arith, dk-v);
         };
         core = gc-v;
@@ -262,7 +225,8 @@ module _ {p : Plan} {s : State} (i : Inv p s) {u v k : ℕ} {r : List Msg} (idle
         inf-v = inf-v;
         bw-u = core .4;
         bw-v = nothing;
-        tight = λ j w x e o m. ⊎-elim (λ t. t .0 (core .4)) (λ t. t .0 nothing) (C.least-of i idle ends q branch found core w j x o e m);
+        tight = λ j w x e o m. let t = K.bound i ends q idle found core w j x o e m in
+            ⊎-elim (λ z. t .2 (ap s.bw z ∙ core .4)) (λ z. t .2 (ap s.bw z ∙ nothing)) (t .1);
         waits = λ z. subst (λ w. In (report w) (s.ch v k)) (sym (mine .4) ∙ nothing) (n .1);
         gone = λ z. absurd (z fine);
         spent = λ j a b w e o l. ⊎-elim (λ t. absurd (nf b o (t .6)))
@@ -275,15 +239,15 @@ module _ {p : Plan} {s : State} (i : Inv p s) {u v k : ℕ} {r : List Msg} (idle
           × ((key p w < key p (s.bw b)) ⊎ ((w ≡ none) × (s.bw b ≡ none) × (GC s b ≡ j)))
       own-report core j a b w e o l t =
           let fa : s.fr a ≡ s.fr v = i.M1.m3 j a b e (i.R1.r1j j a b w e (pop-in s.ch u k q a j l)) ∙ o in
-          let g : k ≡ j = sym (C.gc-v i idle ends q branch found core) ∙ ap s.gc (sym fa) ∙ t .0 in
+          let g : k ≡ j = sym (K.core-v i ends q idle found core) ∙ ap s.gc (sym fa) ∙ t .0 in
           ⊎-elim
           (λ y. absurd (omega (arith, none-in isR (rest-none i isR ends q (λ a z. z)) (subst (λ c. In (report w) c) (sym (at2 (upd2 s.ch u k r) (y .0) g) ∙ here-new s.ch u k r) l))))
           (λ y.
           let bu : b ≡ u = sym (y .0) in
           let av : a ≡ v = sym (y .1) in (
-            ap s.ib bu ∙ C.ib-u i idle ends q branch found core ∙ g,
-            ap s.id bu ∙ C.id-u i idle ends q branch found core ∙ g,
-            ap s.ub bu ∙ C.ub-u i idle ends q branch found core ∙ g,
+            ap s.ib bu ∙ K.ib-u i ends q idle found core ∙ g,
+            ap s.id bu ∙ i.G2.g2i u (core .2) ∙ core .0 ∙ g,
+            ap s.ub bu ∙ K.ub-u i ends q idle found core ∙ g,
             ap s.st bu ∙ core .3,
             (λ z c. none-in isCI (⊎-elim (λ f. f .1) (λ f. absurd (omega (arith, f .0, core .2 .1, ap s.lev bu, ap (GL s) bu))) (t .6)) (bef-before c)),
             inr (sym (t .4) ∙ ap s.bw av ∙ nothing, ap s.bw bu ∙ core .4, ap (GC s) bu ∙ core .0 ∙ g),

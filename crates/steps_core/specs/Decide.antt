@@ -2,7 +2,7 @@
 use Rattle.protocol.specs.Prelude.{ℕ, zero, suc, _+_, _≤_, _<_, arith, _≡_, refl, sym, ap, subst, _∙_, _≢_, _⊎_, inl, inr, ⊎-elim, by-eq}
 use Rattle.protocol.specs.Prelude.{List, [], _∷_, sumL, upd2, Msg, none, report, change, Plan, Ends, key, key-none, key-some, rank-lt, rank, flip, ends-same, ends-two, State, Idle, pop, rooted}
 use Rattle.protocol.specs.Prelude.{isCI, isR, isK, In, Bef, pop-head, pop-in, here-new, at2, none-in, in-sum, GL, GC, DK, Inf, Child, CoreEnds, Spent, Bounds, Inv, rest-none, bef-before}
-use Rattle.steps_core.specs.CoreQuiet as C
+use Rattle.steps_core.specs.Core as K
 use Rattle.steps_core.specs.Rooted.{inv-rooted}
 
 module _ {p : Plan} {s : State} (i : Inv p s) {u v k w : ℕ} {r : List Msg} (idle : Idle s) (ends : Ends p k u v) (q : s.ch u k ≡ report w ∷ r) (branch : s.ib v ≡ k) (found : s.st v ≢ 1)
@@ -20,16 +20,16 @@ module _ {p : Plan} {s : State} (i : Inv p s) {u v k w : ℕ} {r : List Msg} (id
       late y = omega (arith, later)
 
   mates : s.fr u ≡ s.fr v
-  mates = C.mates i idle ends q branch found core
+  mates = K.inside i ends q
 
   dk-v : DK s v ≡ 0
-  dk-v = C.dk-v i idle ends q branch found core
+  dk-v = K.undec i ends q idle found core
 
   inf-v : Inf s v
-  inf-v = C.inf-v i idle ends q branch found core
+  inf-v = K.inf-v i ends q idle found core
 
   nf : (x : ℕ) → s.fr x ≡ s.fr v → s.st x ≢ 1
-  nf = C.nf i idle ends q branch found core
+  nf = K.none-find i ends q idle found core
 
   -- the key of a weight is at most that of none
   pub top-key : (x : ℕ) → s.bw x ≢ none → key p (s.bw x) < p.g.L
@@ -42,7 +42,9 @@ module _ {p : Plan} {s : State} (i : Inv p s) {u v k w : ℕ} {r : List Msg} (id
 
   -- v's best weight bounds all: only the two are live, and v's is the earlier
   bound : Bounds p s (key p (s.bw v)) v
-  bound x j y e g m = ⊎-elim (λ t. omega (arith, t .1, later, ap (key p) (core .4))) (λ t. t .1) (C.least-of i idle ends q branch found core x j y e g m)
+  bound x j y e g m =
+      let t = K.bound i ends q idle found core x j y e g m in
+      ⊎-elim (λ z. omega (arith, t .3, later, ap (key p) (ap s.bw z ∙ core .4))) (λ z. omega (arith, t .3, ap (key p) (ap s.bw z))) (t .1)
 
   -- a Report in the fragment is v's to u, or spent before
   spent : (j a b n : ℕ) → Ends p j a b → s.fr b ≡ s.fr v → In (report n) (upd2 s.ch u k r a j) → Spent p s a b j n
@@ -55,7 +57,7 @@ module _ {p : Plan} {s : State} (i : Inv p s) {u v k w : ℕ} {r : List Msg} (id
       mine : (j a b n : ℕ) → Ends p j a b → s.fr b ≡ s.fr v → In (report n) (upd2 s.ch u k r a j) → CoreEnds s a b j n → Spent p s a b j n
       mine j a b n e o l t =
           let fa : s.fr a ≡ s.fr v = i.M1.m3 j a b e (i.R1.r1j j a b n e (pop-in s.ch u k q a j l)) ∙ o in
-          let g : k ≡ j = sym (C.gc-v i idle ends q branch found core) ∙ ap s.gc (sym fa) ∙ t .0 in
+          let g : k ≡ j = sym (K.core-v i ends q idle found core) ∙ ap s.gc (sym fa) ∙ t .0 in
           ⊎-elim
           (λ y. absurd (omega (arith, none-in isR (rest-none i isR ends q (λ a z. z)) (subst (λ c. In (report n) c) (sym (at2 (upd2 s.ch u k r) (y .0) g) ∙ here-new s.ch u k r) l))))
           (λ y. partner j a b n (sym (y .1)) (sym (y .0)) g t)
@@ -64,9 +66,9 @@ module _ {p : Plan} {s : State} (i : Inv p s) {u v k w : ℕ} {r : List Msg} (id
           -- v's own, at u: earlier than u's best weight
           partner : (j a b n : ℕ) → a ≡ v → b ≡ u → k ≡ j → CoreEnds s a b j n → Spent p s a b j n
           partner j a b n x y g t = (
-            ap s.ib y ∙ C.ib-u i idle ends q branch found core ∙ g,
-            ap s.id y ∙ C.id-u i idle ends q branch found core ∙ g,
-            ap s.ub y ∙ C.ub-u i idle ends q branch found core ∙ g,
+            ap s.ib y ∙ K.ib-u i ends q idle found core ∙ g,
+            ap s.id y ∙ i.G2.g2i u (core .2) ∙ core .0 ∙ g,
+            ap s.ub y ∙ K.ub-u i ends q idle found core ∙ g,
             ap s.st y ∙ core .3,
             (λ z c. none-in isCI (free t) (bef-before c)),
             inl (omega (arith, later, ap (key p) (sym (t .4) ∙ ap s.bw x), ap (key p) (ap s.bw y ∙ core .4))),
@@ -90,17 +92,17 @@ module _ {p : Plan} {s : State} (i : Inv p s) {u v k w : ℕ} {r : List Msg} (id
       mates = mates;
       level = inf-v .0;
       nf = nf;
-      nd = C.nd i idle ends q branch found core;
+      nd = K.none-due i ends q idle found core;
       whole = λ z. omega (arith, dk-v);
     };
     root = record {
       d3i = inf-v;
       d3w = some;
       d3b = bound;
-      d3u = C.ub-v i idle ends q branch found core ∙ sym branch;
+      d3u = K.ub-v i ends q idle found core ∙ sym branch;
       d3v = λ j y e b.
           let g : k ≡ j = sym branch ∙ b in
-          ap s.ub (sym (ends-same (flip ends) (subst (λ a. Ends p a v y) (sym g) e))) ∙ C.ub-u i idle ends q branch found core ∙ g;
+          ap s.ub (sym (ends-same (flip ends) (subst (λ a. Ends p a v y) (sym g) e))) ∙ K.ub-u i ends q idle found core ∙ g;
     };
     left = rest-none i isR ends q (λ y z. z);
     unfinished = λ z. omega (arith, dk-v);

@@ -4,7 +4,6 @@ pub mod CoreNothing
 pub mod Weigh
 pub mod ChildReport
 pub mod Settle
-pub mod CoreQuiet
 pub mod Rooted
 pub mod ChangeRoot
 pub mod Decide

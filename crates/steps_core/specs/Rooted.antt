@@ -4,7 +4,7 @@ use Rattle.protocol.specs.Prelude.{List, [], _∷_, sumL, upd, upd-elim, upd-sa
 use Rattle.protocol.specs.Prelude.{isC, isR, isCI, isK, In, Bef, pop-all, pop-bef, pop-le, here-new, at2, none-in, Decision, Rooting, GL, GC, DK, Inf, Root, Half, Told, Child, CoreEnds, Spent, Inv, no-root}
 use Rattle.protocol.specs.Fragments.{Ranges}
 use Rattle.protocol.specs.Decisions.{RootOk, Rootings, Finishes}
-use Rattle.protocol.specs.Traffic.{Tokens, Reports}
+use Rattle.protocol.specs.Traffic.{Tokens}
 use Rattle.steps_core.specs.Settle as Z
 use Rattle.steps_core.specs.Settle.{Seat, Act}
 
@@ -92,15 +92,11 @@ module _ {p : Plan} {s : State} (i : Inv p s) {u v k : ℕ} {m : Msg} {r : List 
     d6c = i.D4.d6c;
   }
 
-  -- the other end of the core of another fragment
-  beyond : (j x y : ℕ) → Ends p j x y → GC s x ≡ j → 1 ≤ GL s x → s.fr y ≡ s.fr x
-  beyond j x y e g l = i.G5.g5 x y x l (subst (λ a. Ends p a y x) (sym g) (flip e)) .1
-
   Dc′ : Tokens p S′
   Dc′ = record {
-    d1c = λ j a y e t. let o = told-old 3 a j (act.n3) t in subst (λ l. In (connect (GL s a)) l) (sym (away a j (o .0))) (i.Dc.d1c j a y e (o .1));
-    d1a = λ j a y e t. pop-all s.ch u k (h.seat .took) a j (i.Dc.d1a j a y e (told-old 3 a j (act.n3) t .1));
-    d2c = λ j a y e t. let o = told-old 2 a j (act.n2) t in subst (λ l. In change l) (sym (away a j (o .0))) (i.Dc.d2c j a y e (o .1));
+    d1c = Z.d1c′ i (h.seat) act;
+    d1a = Z.d1a′ i (h.seat) act;
+    d2c = Z.d2c′ i (h.seat) act;
     k1 = λ j a y e n. let t = i.Dc.k1 j a y e (old a j n) in
         by-eq (s.fr a) (s.fr v) (λ o. absurd (h.untold j a y e o n)) (λ o. (dk-out a o ∙ t .0, dn-out a o ∙ t .1, t .2));
     d3r = λ j a y e t b.
@@ -110,59 +106,20 @@ module _ {p : Plan} {s : State} (i : Inv p s) {u v k : ℕ} {m : Msg} {r : List 
         ap (sumL isR) (sym (at2 c′ o g) ∙ here-new s.ch u k r) ∙ h.left;
     d4h = λ j a y e g t l b n. i.Dc.d4h j a y e g (dk-old 4 a n4 t .1) l b (old y j n);
     d4r = λ j a y e g t l b. let o = dk-old 4 a n4 t in
-        subst (λ c. In (report none) c) (sym (away y j (λ z. o .0 (sym (beyond j a y e g l) ∙ z)))) (i.Dc.d4r j a y e g (o .1) l b);
-    d7 = λ j a y e g t f b. let o = dk-old 0 a (act.n0) t in
-        ⊎-elim (λ c. inl (omega (arith, ap (sumL isR) (away a j (o .0)))))
-        (λ c. inr (c .0, c .1, c .2, omega (arith, c .3, ap (sumL isR) (away y j (λ z. o .0 (sym (beyond j a y e g (f .0)) ∙ z))))))
-        (i.Dc.d7 j a y e g (o .1) f b);
+        subst (λ c. In (report none) c) (sym (away y j (λ z. o .0 (sym (Z.beyond i (h.seat) act j a y e g l) ∙ z)))) (i.Dc.d4r j a y e g (o .1) l b);
+    d7 = Z.d7′ i (h.seat) act;
   }
-    where
-      told-old : (e z j : ℕ) → act.d ≢ e → Decision e dk′ dn′ s.de s.fr z j → (s.fr z ≢ s.fr v) × Decision e s.dk s.dn s.de s.fr z j
-      told-old = Z.decision-old i (h.seat) act
 
-  -- ---- Reports: of another fragment they stay, in this one they are spent
-
-  core-away : (a b j w : ℕ) → s.fr a ≢ s.fr v → CoreEnds s a b j w → CoreEnds S′ a b j w
-  core-away a b j w n t =
-      let e = away a j n in (
-        t .0,
-        dk-out a n ∙ t .1,
-        t .2,
-        t .3,
-        t .4,
-        λ x o. t .5 x (subst (λ l. Bef (report w) x l) e o),
-        ⊎-elim (λ o. inl (o .0, ap (sumL isCI) e ∙ o .1)) (λ o. inr (o .0, subst (λ l. In (initiate (GL s b) j 1) l) (sym e) (o .1))) (t .6),
-      )
-
-  R1′ : Reports p S′
-  R1′ = record {
-    r1r = λ j a b w e n. i.R1.r1r j a b w e (old a j n);
-    r1j = λ j a b w e n. i.R1.r1j j a b w e (old a j n);
-    r1 = λ j a b w e n.
-        let q = i.M1.m3 j a b e (i.R1.r1j j a b w e (old a j n)) in
-        by-eq (s.fr b) (s.fr v)
-        (λ o. inr (inr (here j a b w o (h.spent j a b w e o n))))
-        (λ o.
-        let d : s.fr a ≢ s.fr v = λ z. o (sym q ∙ z) in
-        ⊎-elim (λ t. inl (t .0, t .1, t .2, t .3, t .4, t .5, t .6, ap (sumL isCI) (away a j d) ∙ t .7))
-        (⊎-elim (λ t. inr (inl (core-away a b j w d t)))
-        (λ t. inr (inr (t .0, t .1, t .2, t .3, (λ x y. t .4 x (pop-bef s.ch u k (h.seat .took) a j y)), ⊎-elim (λ y. inl y) (λ y. inr (y .0, y .1, dk-out b o ∙ y .2, y .3)) (t .5)))))
-        (i.R1.r1 j a b w e (old a j n)));
-    r1c = λ j a b w e n f t g.
-        let q = i.M1.m3 j a b e (i.R1.r1j j a b w e (old a j n)) in
-        let o = dk-old 0 b (act.n0) t in
-        core-away a b j w (λ z. o .0 (sym q ∙ z)) (i.R1.r1c j a b w e (old a j n) f (o .1) g);
-  }
-    where
-      here : (j a b w : ℕ) → s.fr b ≡ s.fr v → Spent p s a b j w → Spent p S′ a b j w
-      here j a b w o t = (
-        t .0,
-        t .1,
-        t .2,
-        t .3,
-        (λ x y. t .4 x (pop-bef s.ch u k (h.seat .took) a j y)),
-        ⊎-elim (λ y. inl y) (λ y. absurd (h.unfinished (ap s.dk (sym o) ∙ y .2))) (t .5),
-      )
+  -- a Report in the fragment will do nothing
+  here : (j a b w : ℕ) → Ends p j a b → s.fr b ≡ s.fr v → In (report w) (c′ a j) → Spent p S′ a b j w
+  here j a b w e o n = let t = h.spent j a b w e o n in (
+    t .0,
+    t .1,
+    t .2,
+    t .3,
+    (λ x y. t .4 x (pop-bef s.ch u k (h.seat .took) a j y)),
+    ⊎-elim (λ y. inl y) (λ y. absurd (h.unfinished (ap s.dk (sym o) ∙ y .2))) (t .5),
+  )
 
   pub inv-rooted : Inv p S′
   inv-rooted = record {
@@ -198,7 +155,7 @@ module _ {p : Plan} {s : State} (i : Inv p s) {u v k : ℕ} {m : Msg} {r : List 
     T4 = Z.T4′ i (h.seat) act;
     E1 = Z.E1′ i (h.seat) act;
     A1 = Z.A1′ i (h.seat) act;
-    R1 = R1′;
+    R1 = Z.R1′ i (h.seat) act here;
     F4c = Z.F4c′ i (h.seat) act;
     B2 = Z.B2′ i (h.seat) act;
     Q1 = Z.Q1′ i (h.seat) act;

@@ -2,13 +2,13 @@
 -- what stays of the clauses, whatever the decision d is (1, v is at its root; 4, finished).
 use Rattle.protocol.specs.Prelude.{ℕ, zero, suc, _+_, _≤_, _<_, arith, _≡_, refl, sym, ap, subst, _∙_, _≢_, _⊎_, inl, inr, ⊎-elim, by-eq}
 use Rattle.protocol.specs.Prelude.{List, [], _∷_, sumL, upd, upd-elim, upd-same, upd-other, upd2, upd2-elim, Msg, none, connect, initiate, test, accept, reject, report, change}
-use Rattle.protocol.specs.Prelude.{Plan, Ends, rank, flip, ends-same, State, Idle, pop, set-dk, set-dn, set-halt, set-oo}
-use Rattle.protocol.specs.Prelude.{isC, isI, isCI, isT, isA, isR, isK, top, top-cons, In, in-nil, at2, head-at, pop-head, pop-in, in-pop, pop-bef, pop-sum, pop-le, pop-all, else-same}
-use Rattle.protocol.specs.Prelude.{Decision, GL, GC, DK, Inf, Jn, Half, Told, Outst, Live, Covered, Inv}
+use Rattle.protocol.specs.Prelude.{Plan, Ends, key, rank, flip, ends-same, State, Idle, pop, set-dk, set-dn, set-halt, set-oo}
+use Rattle.protocol.specs.Prelude.{isC, isI, isCI, isT, isA, isR, isK, Only, All, top, top-cons, In, Bef, in-nil, at2, head-at, pop-head, pop-in, in-pop, pop-bef, pop-sum, pop-le, pop-all, else-same}
+use Rattle.protocol.specs.Prelude.{Decision, GL, GC, DK, Inf, Jn, Half, Told, Outst, Live, Covered, Child, CoreEnds, Spent, Inv}
 use Rattle.protocol.specs.Fragments.{Sleepers}
 use Rattle.protocol.specs.Decisions.{Halves, Tellings}
 use Rattle.protocol.specs.Search.{Parents, Finds}
-use Rattle.protocol.specs.Traffic.{Hush, Connects, Initiates, Telling, Testing, Answers, Owing, Bests, Ordered}
+use Rattle.protocol.specs.Traffic.{Hush, Connects, Initiates, Telling, Testing, Answers, Reports, Owing, Bests, Ordered}
 
 pub record Seat (p : Plan) (s : State) (u v k : ℕ) (m : Msg) (r : List Msg) : Type 0 where
   pub idle : Idle s
@@ -196,3 +196,58 @@ module _ {p : Plan} {s : State} (i : Inv p s) {u v k : ℕ} {m : Msg} {r : List 
 
   pub Q1′ : Ordered p S′
   Q1′ = record { q1 = λ j w x a b e t. i.Q1.q1 j w x a b e (pop-bef s.ch u k (h.took) w j t) }
+
+  -- ---- Reports: of another fragment they stay, in this one they are spent
+
+  core-away : (a b j w : ℕ) → s.fr a ≢ s.fr v → CoreEnds s a b j w → CoreEnds S′ a b j w
+  core-away a b j w n t =
+      let e = away a j n in (
+        t .0,
+        dk-out a n ∙ t .1,
+        t .2,
+        t .3,
+        t .4,
+        λ x o. t .5 x (subst (λ l. Bef (report w) x l) e o),
+        ⊎-elim (λ o. inl (o .0, ap (sumL isCI) e ∙ o .1)) (λ o. inr (o .0, subst (λ l. In (initiate (GL s b) j 1) l) (sym e) (o .1))) (t .6),
+      )
+
+  pub R1′ : ((j a b w : ℕ) → Ends p j a b → s.fr b ≡ s.fr v → In (report w) (c′ a j) → Spent p S′ a b j w) → Reports p S′
+  R1′ spent = record {
+    r1r = λ j a b w e n. i.R1.r1r j a b w e (old a j n);
+    r1j = λ j a b w e n. i.R1.r1j j a b w e (old a j n);
+    r1 = λ j a b w e n.
+        let q = i.M1.m3 j a b e (i.R1.r1j j a b w e (old a j n)) in
+        by-eq (s.fr b) (s.fr v) (λ o. inr (inr (spent j a b w e o n)))
+        (λ o.
+        let x : s.fr a ≢ s.fr v = λ z. o (sym q ∙ z) in
+        ⊎-elim (λ t. inl (t .0, t .1, t .2, t .3, t .4, t .5, t .6, ap (sumL isCI) (away a j x) ∙ t .7))
+        (⊎-elim (λ t. inr (inl (core-away a b j w x t)))
+        (λ t. inr (inr (t .0, t .1, t .2, t .3, (λ x y. t .4 x (pop-bef s.ch u k (h.took) a j y)), ⊎-elim (λ y. inl y) (λ y. inr (y .0, y .1, dk-out b o ∙ y .2, y .3)) (t .5)))))
+        (i.R1.r1 j a b w e (old a j n)));
+    r1c = λ j a b w e n f t g.
+        let q = i.M1.m3 j a b e (i.R1.r1j j a b w e (old a j n)) in
+        let o = dk-old 0 b (act.n0) t in
+        core-away a b j w (λ z. o .0 (sym q ∙ z)) (i.R1.r1c j a b w e (old a j n) f (o .1) g);
+  }
+
+  -- ---- the messages of decisions: of other fragments they stay
+
+  -- the other end of a core
+  pub beyond : (j x y : ℕ) → Ends p j x y → GC s x ≡ j → 1 ≤ GL s x → s.fr y ≡ s.fr x
+  beyond j x y e g l = i.G5.g5 x y x l (subst (λ a. Ends p a y x) (sym g) (flip e)) .1
+
+  pub d1c′ : (j a y : ℕ) → Ends p j a y → Half S′ a j → In (connect (GL s a)) (c′ a j)
+  d1c′ j a y e t = let o = decision-old 3 a j (act.n3) t in subst (λ l. In (connect (GL s a)) l) (sym (away a j (o .0))) (i.Dc.d1c j a y e (o .1))
+
+  pub d1a′ : (j a y : ℕ) → Ends p j a y → Half S′ a j → All (Only (GL s a)) (c′ a j)
+  d1a′ j a y e t = pop-all s.ch u k (h.took) a j (i.Dc.d1a j a y e (decision-old 3 a j (act.n3) t .1))
+
+  pub d2c′ : (j a y : ℕ) → Ends p j a y → Told S′ a j → In change (c′ a j)
+  d2c′ j a y e t = let o = decision-old 2 a j (act.n2) t in subst (λ l. In change l) (sym (away a j (o .0))) (i.Dc.d2c j a y e (o .1))
+
+  pub d7′ : (j a y : ℕ) → Ends p j a y → GC s a ≡ j → DK S′ a ≡ 0 → Inf s a → s.st a ≡ 2
+      → (1 ≤ sumL isR (c′ a j)) ⊎ (Inf s y × (s.st y ≡ 2) × (key p (s.bw a) < key p (s.bw y)) × (1 ≤ sumL isR (c′ y j)))
+  d7′ j a y e g t f b = let o = dk-old 0 a (act.n0) t in
+      ⊎-elim (λ c. inl (omega (arith, ap (sumL isR) (away a j (o .0)))))
+      (λ c. inr (c .0, c .1, c .2, omega (arith, c .3, ap (sumL isR) (away y j (λ z. o .0 (sym (beyond j a y e g (f .0)) ∙ z))))))
+      (i.Dc.d7 j a y e g (o .1) f b)
