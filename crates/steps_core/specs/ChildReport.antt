@@ -4,8 +4,8 @@ use Rattle.protocol.specs.Prelude.{List, _∷_, upd, upd-elim, upd-same, upd-ot
 use Rattle.protocol.specs.Prelude.{Msg, none, report}
 use Rattle.protocol.specs.Prelude.{Plan, Ends, key, rank, joins-lt, flip, ends-two, ends-same, key-none, key-edge, rank-lt}
 use Rattle.protocol.specs.Prelude.{State, Idle, Better, pop, bested, set-ch, set-fc, set-owe, set-op}
-use Rattle.protocol.specs.Prelude.{isR, kinds, In, in-sum, else-same, here-new, pop-in, in-pop, pop-le, pop-all}
-use Rattle.protocol.specs.Prelude.{GL, GC, Inf, Jn, Outst, Live, Covered, Child, Inv, no-root, rest-none, reports-same, reports-best}
+use Rattle.protocol.specs.Prelude.{isR, kinds, In, in-sum, else-same, pop-in, in-pop, pop-le, pop-all}
+use Rattle.protocol.specs.Prelude.{GL, GC, Inf, Jn, Outst, Live, Covered, Child, Inv, no-root, reports-same, reports-best}
 use Rattle.protocol.specs.Search.{Pending, Counts}
 use Rattle.protocol.specs.Traffic.{Tokens, Reports, Owing, Bests}
 use Rattle.steps_core.specs.Late.{Kept, late-report, late-alike, kept}
@@ -56,10 +56,6 @@ module _ {p : Plan} {s : State} (i : Inv p s) {u v k w b e : ℕ} {r : List Msg}
 
   pub count : 1 ≤ s.fc v
   count = omega (arith, owed, i.F4.f4 v, le-sum p.g.L k (s.owe v) (joins-lt ends))
-
-  -- it was the only one
-  pub silent : sumL isR (c′ u k) ≡ 0
-  silent = ap (sumL isR) (here-new s.ch u k r) ∙ rest-none i isR ends q (λ n f. f)
 
   -- ---- v's best
 
@@ -153,7 +149,7 @@ module _ {p : Plan} {s : State} (i : Inv p s) {u v k w b e : ℕ} {r : List Msg}
 
       -- u's is no longer to come
       settled : ¬ Outst S′ u k
-      settled (inl t) = ⊎-elim (λ f. omega (arith, found-u)) (λ l. omega (arith, silent)) (t .1)
+      settled (inl t) = ⊎-elim (λ f. omega (arith, found-u)) (λ l. omega (arith, C.silent i ends q)) (t .1)
       settled (inr t) = omega (arith, t .0, inf-u .1)
 
       outst-from : (c j : ℕ) → Outst S′ c j → Outst s c j
@@ -169,7 +165,7 @@ module _ {p : Plan} {s : State} (i : Inv p s) {u v k w b e : ℕ} {r : List Msg}
   B2′ : Bests p S′
   B2′ = record {
     b1e = W.best-edge i (idle .2) find (flip ends) better leaves c′ (pop-le s.ch u k q isR)
-        (λ n d. (u, flip ends, joined, away, inf-u, child .1, W.bw-found i (idle .2) find (flip ends) better leaves u found-u ∙ best-u, found-u, silent));
+        (λ n d. (u, flip ends, joined, away, inf-u, child .1, W.bw-found i (idle .2) find (flip ends) better leaves u found-u ∙ best-u, found-u, C.silent i ends q));
     b2 = λ j x y f m d g. ⊎-elim (λ t. inl t)
         (⊎-elim (λ t. inr (inl t)) (⊎-elim (λ t. inr (inr (inl t))) (λ t. inr (inr (inr (cover x (rank p j) t))))))
         (i.B2.b2 j x y f m d g);

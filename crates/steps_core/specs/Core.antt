@@ -1,10 +1,10 @@
 -- The Report w of u, the head of the channel over k, at v. Where it is a core end's: both ends are informed and,
 -- if v is not Find, the fragment is quiet, and only the best weights of the two ends still count.
-use Rattle.protocol.specs.Prelude.{ℕ, _≤_, arith, _≡_, refl, sym, ap, subst, _∙_, _≢_, _⊎_, inl, inr, ⊎-elim, by-eq}
+use Rattle.protocol.specs.Prelude.{ℕ, _≤_, _<_, arith, _≡_, refl, sym, ap, subst, _∙_, _≢_, _⊎_, inl, inr, ⊎-elim, by-eq}
 use Rattle.protocol.specs.Prelude.{List, _∷_, sumL, Msg, none, initiate, report}
 use Rattle.protocol.specs.Prelude.{Plan, Ends, key, rank, flip, ends-two, State, Idle, key-none, key-edge, rank-lt}
-use Rattle.protocol.specs.Prelude.{isR, kinds, In, Bef, in-cons, heads, pop-head, some-report}
-use Rattle.protocol.specs.Prelude.{GL, GC, DK, Inf, Jn, Live, CoreEnds, Spent, Inv, inf-found, te-find, up-other, no-find, no-due}
+use Rattle.protocol.specs.Prelude.{isCI, isR, kinds, In, Bef, bef-before, in-cons, heads, upd2, at2, here-new, pop-head, pop-in, none-in, no-calls, some-report, set-dk}
+use Rattle.protocol.specs.Prelude.{GL, GC, DK, Inf, Jn, Live, CoreEnds, Spent, Inv, inf-found, te-find, up-other, no-find, no-due, rest-none, no-connect, no-initiate}
 
 module _ {p : Plan} {s : State} (i : Inv p s) {u v k w : ℕ} {r : List Msg} (ends : Ends p k u v) (q : s.ch u k ≡ report w ∷ r) where
   pub head : In (report w) (s.ch u k)
@@ -24,6 +24,10 @@ module _ {p : Plan} {s : State} (i : Inv p s) {u v k w : ℕ} {r : List Msg} (en
       behind n = ⊎-elim (λ e. kinds (λ z. omega arith) e)
           (λ o. omega (arith, c .5 (initiate (GL s v) k 1) (subst (λ l. Bef (report w) (initiate (GL s v) k 1) l) (sym q) (heads o))))
           (in-cons (subst (λ l. In (initiate (GL s v) k 1) l) q n))
+
+  -- it was the only one on its channel
+  pub silent : sumL isR (upd2 s.ch u k r u k) ≡ 0
+  silent = ap (sumL isR) (here-new s.ch u k r) ∙ rest-none i isR ends q (λ n f. f)
 
   -- v is not Find: it is no child's
   pub core-or-spent : s.st v ≢ 1 → CoreEnds s u v k w ⊎ Spent p s u v k w
@@ -87,6 +91,24 @@ module _ {p : Plan} {s : State} (i : Inv p s) {u v k w : ℕ} {r : List Msg} (en
         (λ t. let z : j ≡ k = sym (t .0) ∙ ap s.gc f ∙ core-v in inl (ends-two (subst (λ x. Ends p x a b) z e) ends, z, t .4))
         (λ t. inr t))
         (i.R1.r1 j a b n e o)
+
+    -- once this one is taken: v's own, or spent
+    pub report-left : (j a b n : ℕ) → Ends p j a b → s.fr a ≡ s.fr v → In (report n) (upd2 s.ch u k r a j)
+        → ((a ≡ v) × (b ≡ u) × (j ≡ k) × (s.bw v ≡ n)) ⊎ Spent p s a b j n
+    report-left j a b n e f o = ⊎-elim
+        (λ t. ⊎-elim
+        (λ z. absurd (omega (arith, none-in isR silent (subst (λ l. In (report n) l) (at2 (upd2 s.ch u k r) (z .0) (t .1)) o))))
+        (λ z. inl (z .0, z .1, t .1, sym (ap s.bw (z .0)) ∙ t .2))
+        (t .0))
+        (λ t. inr t)
+        (report-core j a b n e f (pop-in s.ch u k q a j o))
+
+    -- v's own is spent once the fragment is decided, if u's best is later, or the fragment is finished: dk are the new decisions
+    pub own-spent : (dk : ℕ → ℕ) (n : ℕ) → (key p n < key p (s.bw u)) ⊎ ((n ≡ none) × (s.bw u ≡ none) × (dk (s.fr u) ≡ 4) × (GC s u ≡ k)) → Spent p (set-dk s dk) v u k n
+    own-spent dk n l = (ib-u, i.G2.g2i u inf-u ∙ core-u, ub-u, found-u, λ m b. none-in isCI calls (bef-before b), l)
+      where
+        calls : sumL isCI (s.ch v k) ≡ 0
+        calls = no-calls (s.ch v k) (λ l. no-connect i k v u l (flip ends) (joined .1, joined .0) inf-v) (λ l f x. no-initiate i k v u l f x (flip ends) inf-u)
 
     -- whose best weight counts is a core end
     live-end : (x : ℕ) → s.fr x ≡ s.fr v → Inf s x → Live s x → (x ≡ u) ⊎ (x ≡ v)

@@ -3,8 +3,8 @@ pub mod Core
 pub mod CoreNothing
 pub mod Weigh
 pub mod ChildReport
-pub mod Settle
+pub mod Rule
 pub mod Rooted
-pub mod ChangeRoot
 pub mod Decide
+pub mod ChangeRoot
 pub mod CoreHalt
