@@ -31,8 +31,8 @@ fn quantile(times: &mut [f64], share: f64) -> f64 {
     times[(share * (times.len() - 1) as f64) as usize]
 }
 
-/// Times both sides in turn, each call on another plan than the one before, since a processor learns the branches of a
-/// plan that it meets again at once. The sides take turns in going first. A plan's time is the median of its
+/// Times both sides in turn, each call on another plan than the one before: calls on the same plan again and again
+/// are quicker, and not alike on both sides. The sides take turns in going first. A plan's time is the median of its
 /// repetitions, a side's the mean of its plans' times. The same by the first quartile shows whether the machine was
 /// quiet: the two ratios should be alike.
 fn row(name: &str, inputs: &[Vec<u8>], rattle: Work, rust: Work) {
