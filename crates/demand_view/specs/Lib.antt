@@ -1,0 +1,5 @@
+pub mod Net
+pub mod View
+pub mod Chans
+pub mod Placed
+pub mod Start

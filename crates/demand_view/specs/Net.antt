@@ -1,0 +1,55 @@
+-- An accepted plan as the protocol sees it: its graph, its nodes, the order of its edges. Directed links are the channels of that graph.
+use Prim.Native.Nat.{ℕ, _*_, _%_, _<_, _≤_}
+use native.Mathlib.Omega.{arith}
+use mathlib.Core.Path.{_≡_, refl, sym, ap, subst, _∙_}
+use mathlib.Core.Logic.{_≢_, _⊎_, inl, inr, ⊎-elim}
+use mathlib.Core.Bool.{true, cond}
+use borrow.Author.Tests.{eq-eqb}
+use Rattle.base.specs.Cond.{bool-cases, eqb-cases, by-eq}
+use Rattle.graph.specs.Graph.{Joins, up, down}
+use Rattle.graph.specs.Ways.{joins-lt, flip}
+use Rattle.plan.specs.declared.Plan as declared
+use Rattle.plan.specs.Links.{low, high, graphOf}
+use Rattle.plan.specs.Weights.{orderOf}
+use Rattle.plan.specs.Accepted.{Accepted}
+use Rattle.search.specs.Own as O
+use Rattle.search.specs.Laws.{own-lower, own-higher}
+use Rattle.field.specs.Edges.{isOwn, ownOf, over, linkOf, from, dest}
+use Rattle.fieldlaws.specs.Places.{own-below, own-end, from-over, link-over, over-below, over-from}
+use Rattle.node.specs.Work.{Own}
+use Rattle.protocol.specs.Plan.{Plan, Ends}
+use Rattle.bridge.specs.Real.{ownP}
+
+module _ (p : declared.Plan) (a : Accepted p) where
+  abbrev pub net : Plan
+  net = record {
+    g = graphOf p;
+    N = p .modules;
+    order = orderOf p;
+    ends-lt = λ k l. (omega (arith, a .each k l .ordered, a .each k l .inside), a .each k l .inside);
+    no-loop = λ k l e. omega (arith, a .each k l .ordered);
+    small = omega (arith, a .linksOk);
+  }
+
+  -- a node's own edges are the same to both
+  pub own-same : (v : ℕ) → ownOf p v ≡ ownP net v
+  unfolding O.isOwn
+  own-same v = refl
+
+  -- an own link leads to another module, and the other way round
+  pub own-ends : (v k : ℕ) → isOwn p v k ≡ true → (u : ℕ) × Ends net k v u
+  own-ends v k o = ⊎-elim
+      (λ e. (high p k, up (own-below p v k o) e refl))
+      (λ h. (low p k, down (own-below p v k o) (h .1) refl))
+      (own-end p v k o)
+
+  pub ends-own : {k v u : ℕ} → Ends net k v u → isOwn p v k ≡ true
+  ends-own {k} (up l e f) = own-lower (p .links) (p .lower) (p .higher) _ k l e
+  ends-own {k} (down l e f) =
+      own-higher (p .links) (p .lower) (p .higher) _ k l (λ q. omega (arith, a .each k l .ordered)) ∙ eq-eqb _ _ e
+
+  -- a directed link leads from one end of its link to the other
+  pub ends-of : (d : ℕ) → d < 2 * p .links → Ends net (linkOf d) (from p d) (dest p d)
+  ends-of d l = eqb-cases (d % 2) 0 (λ b. Ends net (linkOf d) (cond b (low p (linkOf d)) (high p (linkOf d))) (cond b (high p (linkOf d)) (low p (linkOf d))))
+      (λ e. up (omega arith) refl refl)
+      (λ n. down (omega arith) refl refl)

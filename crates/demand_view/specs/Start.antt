@@ -1,0 +1,48 @@
+-- The view of a setup is the protocol's setup.
+use Prim.Native.Nat.{ℕ, _*_, _≤_, _<_}
+use native.Mathlib.Omega.{arith}
+use mathlib.Core.Path.{_≡_, refl, ap, ap₂, _∙_, fun-ext}
+use mathlib.Core.Bool.{cond}
+use mathlib.Core.List.{List, []}
+use lib.ListN.{length, replicate, getD-replicate}
+use lib.Dec.{ltb}
+use Rattle.base.specs.Cond.{ltb-cases, bool-cases}
+use Rattle.plan.specs.declared.Plan.{Plan}
+use Rattle.plan.specs.Accepted.{Accepted}
+use Rattle.node.specs.Work as node
+use Rattle.search.specs.Laws.{mark-own, mark-not}
+use Rattle.field.specs.Edges.{isOwn, over}
+use Rattle.field.specs.State.{nodeIn}
+use Rattle.field.specs.Held.{stateOf, freshCells, fresh}
+use Rattle.field.specs.Valid.{waitingIn}
+use Rattle.base.specs.Keep.{keep}
+use Rattle.fieldlaws.specs.Chan.{chan}
+use Rattle.fieldlaws.specs.Places.{over-below}
+use Rattle.fieldlaws.specs.Laid.{waiting-zeros}
+use Rattle.fieldlaws.specs.After.{fresh-node}
+use Rattle.protocol.specs.State.{setup}
+use Rattle.bridge.specs.Real.{Real, real}
+use Rattle.demand_view.specs.View.{nodes, marksOf, chans, tables, view}
+use Rattle.demand_view.specs.Chans.{chans-own, chans-not}
+
+module _ (p : Plan) (a : Accepted p) where
+  nodes-fresh : nodes p (freshCells 192) ≡ (λ v. node.setup)
+  unfolding nodes
+  nodes-fresh = fun-ext (λ v. ltb-cases v (p .modules) (λ b. cond b (nodeIn (freshCells 192) (v * 9)) node.setup ≡ node.setup)
+      (λ l. fresh-node v (omega (arith, a .modulesOk))) (λ l. refl))
+
+  marks-fresh : marksOf p (replicate 1200 0) ≡ (λ v k. 0)
+  marks-fresh = fun-ext (λ v. fun-ext (λ k. bool-cases (isOwn p v k)
+      (λ o. mark-own (p .links) (p .lower) (p .higher) v k (replicate 1200 0) o
+      ∙ getD-replicate {A = ℕ} 1200 (over p v k) 0 0 (omega (arith, over-below p v k o, a .linksOk)))
+      (λ o. mark-not (p .links) (p .lower) (p .higher) v k (replicate 1200 0) o)))
+
+  -- nothing waits
+  pub chans-none : (v k : ℕ) → chans p [] v k ≡ []
+  unfolding chan keep
+  chans-none v k = bool-cases (isOwn p v k) (λ o. chans-own p [] v k o) (λ o. chans-not p [] v k o)
+
+  pub view-start : (lent : List ℕ) → view p (stateOf (record { field = fresh p; words = replicate (length lent) 0 })) ≡ real setup
+  view-start lent =
+      ap₂ (λ f m. tables f m (chans p (waitingIn (replicate (length lent) 0)))) nodes-fresh marks-fresh
+      ∙ ap (tables (λ v. node.setup) (λ v k. 0)) (ap (chans p) (waiting-zeros (length lent)) ∙ fun-ext (λ v. fun-ext (λ k. chans-none v k)))
