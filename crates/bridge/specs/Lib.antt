@@ -1,2 +1,9 @@
 pub mod Real
 pub mod Place
+pub mod Own
+pub mod Copies
+pub mod Fin
+pub mod Finish
+pub mod Wake
+pub mod Connect
+pub mod Initiate

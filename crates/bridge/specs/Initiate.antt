@@ -1,0 +1,110 @@
+-- (4) The response to Initiate, as small steps.
+use Prim.Native.Nat.{ℕ, zero, suc, _+_, _*_, _≤_, _<_}
+use native.Mathlib.Omega.{arith}
+use mathlib.Core.Path.{_≡_, refl, sym, ap, ap₂, subst, _∙_}
+use mathlib.Core.Logic.{_≢_, _⊎_, inl, inr, ⊎-elim}
+use mathlib.Core.Bool.{Bool, true, false, cond, _&&_}
+use mathlib.Core.List.{List, [], _∷_, _++_}
+use lib.ListN.{length, length-append}
+use lib.Dec.{eqb}
+use Rattle.base.specs.Cond.{bit, by-eq, upd, upd-same}
+use Rattle.base.specs.Sum.{sum}
+use Rattle.message.specs.Msg.{Msg, none, initiate}
+use Rattle.node.specs.Work.{Work, FIND, FOUND, branches, number, onEach, withNode, setCount, degree}
+use Rattle.node.specs.Work as W
+use Rattle.node.specs.Rules.{told, copies, copied, seek, onInitiate, doTest}
+use Rattle.node.specs.Rules as N
+use Rattle.node.specs.Laws.{seek-tests, initiate-find, initiate-found}
+use Rattle.protocol.specs.Prelude.{Plan, Ends, State, Step, Idle, Mode, Place, Inv, GL, GC, pop-head, In, pop, copy, fan, informed, copy-yes, flip}
+use Rattle.protocol.specs.Step.{tell}
+use Rattle.bridge.specs.Real.{Real, real, ownP, post}
+use Rattle.bridge.specs.Place.{toChans, toCount, toTold}
+use Rattle.bridge.specs.Own.{ends-own, count-le}
+use Rattle.bridge.specs.Copies.{copies-fan, copies-number, copies-length}
+use Rattle.bridge.specs.Fin.{At, Fin, Keeps, after, last, same, fc-is, mark-is, at-count, at-told, at-copied}
+use Rattle.bridge.specs.Finish.{test-fin}
+
+module _ {p : Plan} (keeps : Keeps p) {s : State} (i : Inv p s) {r : Real} {u v k l f x : ℕ} {rest : List Msg} {w : Work}
+    (idle : Idle s) (ends : Ends p k u v) (q : s.ch u k ≡ initiate l f x ∷ rest)
+    (a : At r v w (real (pop s u k rest))) (z : w .answer ≡ 0) where
+  abbrev o : W.Own
+  o = ownP p v
+
+  abbrev s₀ : State
+  s₀ = pop s u k rest
+
+  -- the edges that get a copy, as the small step and as the rules have them
+  same-copy : copy s₀ v k ≡ branches k w
+  unfolding copy
+  same-copy = ap (λ (t : ℕ → ℕ). λ j. W.branches k (record { answer = 0; node = w .node; mark = t; sends = [] }) j) (mark-is a)
+
+  -- they are own edges: only these are marked
+  mine : (j : ℕ) → copy s₀ v k j ≡ true → o.own j ≡ true
+  mine j h = ends-own p v (i.M1.own v j (marked j h) .1)
+    where
+      marked : (j : ℕ) → copy s₀ v k j ≡ true → s.mark v j ≢ 0
+      marked j h e = omega (arith, copy-yes s₀ v k j h .1)
+
+  -- how many there are
+  abbrev many : ℕ
+  many = sum p.g.L (λ j. bit (copy s₀ v k j))
+
+  abbrev m : Msg
+  m = initiate l f x
+
+  number-is : number o (branches k w) p.g.L ≡ many
+  number-is = ap (λ g. number o g p.g.L) (sym same-copy) ∙ copies-number p v (copy s₀ v k) mine m
+
+  length-is : length (w .sends) + many ≡ length (told o l f x k w .sends)
+  length-is = omega (
+    arith,
+    length-append (w .sends) (copies o k m w),
+    ap (λ g. length (onEach o g m p.g.L)) same-copy,
+    copies-length p v (copy s₀ v k) mine m,
+  )
+
+  chans : fan (s₀.ch) v (copy s₀ v k) m ≡ post (s₀.ch) v (copies o k m w)
+  chans = copies-fan p v (copy s₀ v k) mine m (s₀.ch) ∙ ap (λ g. post (s₀.ch) v (onEach o g m p.g.L)) same-copy
+
+  -- the state after the step; d, e are the ghosts depth and side, b the open test
+  abbrev next : ℕ → ℕ → ℕ → State
+  next d e b = informed p s₀ v k l f x (cond (eqb x 1) FIND FOUND) d e b
+
+  told-at : (c d e b : ℕ) → s.fc v + x * many ≡ c → At r v (withNode (setCount c (told o l f x k w .node)) (told o l f x k w)) (real (next d e b))
+  told-at c d e b h =
+      subst (λ n. At r v (withNode (setCount n (told o l f x k w .node)) (told o l f x k w)) (real (next d e b))) h
+      (subst (λ t. At r v (withNode (setCount (s.fc v + x * many) (told o l f x k w .node)) (told o l f x k w)) (toCount v (s.fc v + x * many) (toChans t (toTold v (N.informed l f x k (w .node)) (real s₀)))))
+      (sym chans) (at-count (at-copied (at-told a l f x k) (copies o k m w)) (s.fc v + x * many)))
+
+  -- depth and side of v
+  placed : (d : ℕ) × (e : ℕ) × Place s u v k d e
+  placed = by-eq k (GC s v) (λ h. (0, v, inl (h, refl, refl))) (λ h. (suc (s.dep u), s.side u, inr (h, refl, refl)))
+
+  -- Find: the find-count that results is at most the number of own edges (F4)
+  find-fin : x ≡ 1 → Fin p r v 0 (length (w .sends)) (onInitiate o l f x k w) s
+  find-fin h =
+      let d = placed .0 in
+      let e = placed .1 in
+      let c = w .node .count + number o (branches k w) p.g.L in
+      let mode : Mode v x (cond (eqb x 1) FIND FOUND) (suc v) = inl (h, rw h, refl) in
+      let step : Step p s (next d e (suc v)) = tell idle ends q mode (placed .2) in
+      let i′ = keeps s (next d e (suc v)) step i in
+      let is : s.fc v + x * many ≡ c = omega (arith, fc-is a, number-is, ap (λ n. n * many) h) in
+      let fits : c ≤ degree o = omega (arith, count-le p v i′, upd-same s.fc v (s.fc v + x * many)) in
+      same (initiate-find o l f x k w h ∙ seek-tests o c (told o l f x k w) fits)
+      (after step length-is (test-fin keeps i′ (told-at c d e (suc v) is) z refl (idle .1) (idle .2)))
+
+  found-fin : x ≡ 0 → Fin p r v 0 (length (w .sends)) (onInitiate o l f x k w) s
+  found-fin h =
+      let mode : Mode v x (cond (eqb x 1) FIND FOUND) 0 = inr (h, rw h, refl) in
+      let is : s.fc v + x * many ≡ w .node .count = omega (arith, fc-is a, ap (λ n. n * many) h) in
+      same (initiate-found o l f x k w (λ e. omega arith))
+      (last (tell idle ends q mode (placed .2)) length-is (refl, idle .1, idle .2) z (told-at (w .node .count) (placed .0) (placed .1) 0 is))
+
+  -- the Find bit is 1 or 0 (I1)
+  pub initiate-fin : Fin p r v 0 (length (w .sends)) (onInitiate o l f x k w) s
+  initiate-fin =
+      let ok = i.I1.i1 k u v l f x ends (pop-head s.ch u k q) in
+      by-eq x 1 find-fin (λ n. found-fin (by-eq l (GL s v)
+      (λ e. omega (arith, ok .i1d e, i.W0.due-le v))
+      (λ e. ok .i1z (omega (arith, ok .i1g)))))
