@@ -21,15 +21,13 @@ use Rattle.protocol.specs.Step.{back, absorb, core-reply}
 use Rattle.bridge.specs.Real.{Real, real, ownP}
 use Rattle.bridge.specs.Place.{toCount, toMark, toSend}
 use Rattle.bridge.specs.Own.{count-le}
-use Rattle.bridge.specs.Fin.{At, Fin, Keeps, last, same, one-more, st-is, lev-is, id-is, fc-is, mark-at, at-count, at-mark, at-send}
+use Rattle.bridge.specs.Fin.{At, Fin, Keeps, Serving, last, same, one-more, st-is, lev-is, id-is, fc-is, mark-at, at-count, at-mark, at-send}
 
 -- a fragment's level is at most ⌊log2 N⌋ (G4)
 pub level-le : {p : Plan} {s : State} → Inv p s → (v : ℕ) → v < p.N → GL s v ≤ log2 p.N
 level-le {p} {s} i v l = level-one p.N s.fr (s.fr v) (GL s v) (i.G4.g4 v l)
 
-module _ {p : Plan} (keeps : Keeps p) {s : State} (i : Inv p s) {r : Real} {u v k l : ℕ} {rest : List Msg} {w : Work}
-    (idle : Idle s) (ends : Ends p k u v) (up : s.st v ≢ 0) (q : s.ch u k ≡ connect l ∷ rest)
-    (a : At r v w (real (pop s u k rest))) (z : w .answer ≡ 0) where
+module _ {p : Plan} (keeps : Keeps p) {s : State} {r : Real} {u v k l : ℕ} {rest : List Msg} {w : Work} (sv : Serving p s r u v k (connect l) rest w) where
   abbrev o : W.Own
   o = ownP p v
 
@@ -39,45 +37,45 @@ module _ {p : Plan} (keeps : Keeps p) {s : State} (i : Inv p s) {r : Real} {u v 
   -- L < LN: the other fragment is absorbed. After it the find-count is at most the number of own edges (F4).
   absorb-find-fin : l < s.lev v → s.st v ≡ 1 → Fin p r v 0 (length (w .sends)) (N.absorb o k w) s
   absorb-find-fin lt f =
-      let step : Step p s (absorbed (pop s u k rest) u v k 1) = absorb idle ends up q lt (inl (f, refl)) in
+      let step : Step p s (absorbed (pop s u k rest) u v k 1) = absorb sv.idle sv.ends sv.awake sv.head lt (inl (f, refl)) in
       let c = s.fc v + 1 in
       let m = initiate (s.lev v) (s.id v) 1 in
-      let fits : c ≤ degree o = omega (arith, count-le p v (keeps _ _ step i), upd-same s.fc v c) in
-      same (absorb-find o k w (sym (st-is a) ∙ f) ∙ (ap (λ n. countUp o (n + 1) (joined k 1 w)) (sym (fc-is a)) ∙ (count-rises o c (joined k 1 w) fits
-      ∙ ap₂ (λ n f. withNode (setCount c (w .node)) (W.send k (initiate n f 1) (setMark k BRANCH w))) (sym (lev-is a)) (sym (id-is a)))))
-      (last step (one-more w k m) idle z (at-count (at-mark (at-send a k m) k BRANCH) c))
+      let fits : c ≤ degree o = omega (arith, count-le p v (keeps _ _ step sv.inv), upd-same s.fc v c) in
+      same (absorb-find o k w (sym (st-is sv.at) ∙ f) ∙ (ap (λ n. countUp o (n + 1) (joined k 1 w)) (sym (fc-is sv.at)) ∙ (count-rises o c (joined k 1 w) fits
+      ∙ ap₂ (λ n f. withNode (setCount c (w .node)) (W.send k (initiate n f 1) (setMark k BRANCH w))) (sym (lev-is sv.at)) (sym (id-is sv.at)))))
+      (last step (one-more w k m) sv.idle sv.fresh (at-count (at-mark (at-send sv.at k m) k BRANCH) c))
 
   absorb-found-fin : l < s.lev v → s.st v ≢ 1 → Fin p r v 0 (length (w .sends)) (N.absorb o k w) s
   absorb-found-fin lt f =
       let m = initiate (s.lev v) (s.id v) 0 in
-      same (absorb-found o k w (λ e. f (st-is a ∙ e)) ∙ ap₂ (λ n f. W.send k (initiate n f 0) (setMark k BRANCH w)) (sym (lev-is a)) (sym (id-is a)))
-      (last (absorb idle ends up q lt (inr (f, refl))) (one-more w k m) idle z
+      same (absorb-found o k w (λ e. f (st-is sv.at ∙ e)) ∙ ap₂ (λ n f. W.send k (initiate n f 0) (setMark k BRANCH w)) (sym (lev-is sv.at)) (sym (id-is sv.at)))
+      (last (absorb sv.idle sv.ends sv.awake sv.head lt (inr (f, refl))) (one-more w k m) sv.idle sv.fresh
       (subst (λ n. At r v (withNode (setCount n (w .node)) (W.send k m (setMark k BRANCH w))) (toCount v (s.fc v + 0) (toMark v k BRANCH (toSend v k m (real (pop s u k rest)))))) same-count
-      (at-count (at-mark (at-send a k m) k BRANCH) (s.fc v + 0))))
+      (at-count (at-mark (at-send sv.at k m) k BRANCH) (s.fc v + 0))))
     where
       same-count : s.fc v + 0 ≡ w .node .count
-      same-count = omega (arith, fc-is a)
+      same-count = omega (arith, fc-is sv.at)
 
   absorb-fin : l < s.lev v → Fin p r v 0 (length (w .sends)) (onConnect o limit l k w) s
-  absorb-fin lt = same (connect-absorbed o limit l k w (omega (arith, lev-is a))) (by-eq (s.st v) 1 (absorb-find-fin lt) (absorb-found-fin lt))
+  absorb-fin lt = same (connect-absorbed o limit l k w (omega (arith, lev-is sv.at))) (by-eq (s.st v) 1 (absorb-find-fin lt) (absorb-found-fin lt))
 
   -- not Basic: the other end of the core. Its fragment's level is the next one (C1), so at most ⌊log2 N⌋.
   core-fin : s.lev v ≤ l → s.mark v k ≢ 0 → Fin p r v 0 (length (w .sends)) (onConnect o limit l k w) s
   core-fin le b =
-      let here = pop-head s.ch u k q in
+      let here = pop-head s.ch u k sv.head in
       let m = initiate (s.lev v + 1) k 1 in
-      let mark-v : s.mark v k ≡ 1 = omega (arith, i.W0.mark-le v k, branch) in
-      let c = i.C1.c1 k u v l ends here mark-v in
-      let low : w .node .level < limit = omega (arith, lev-is a, c .1, c .2, level-le i u (end-lt p ends)) in
-      same (connect-core o limit l k w (omega (arith, lev-is a)) (λ e. b (mark-at a k ∙ e)) ∙ (core-answers limit k w low ∙ ap (λ n. W.send k (initiate (n + 1) k 1) w) (sym (lev-is a))))
-      (last (core-reply idle ends up q le b) (one-more w k m) idle z (at-send a k m))
+      let mark-v : s.mark v k ≡ 1 = omega (arith, sv.inv.W0.mark-le v k, branch) in
+      let c = sv.inv.C1.c1 k u v l sv.ends here mark-v in
+      let low : w .node .level < limit = omega (arith, lev-is sv.at, c .1, c .2, level-le sv.inv u (end-lt p sv.ends)) in
+      same (connect-core o limit l k w (omega (arith, lev-is sv.at)) (λ e. b (mark-at sv.at k ∙ e)) ∙ (core-answers limit k w low ∙ ap (λ n. W.send k (initiate (n + 1) k 1) w) (sym (lev-is sv.at))))
+      (last (core-reply sv.idle sv.ends sv.awake sv.head le b) (one-more w k m) sv.idle sv.fresh (at-send sv.at k m))
     where
       branch : s.mark v k ≢ 2
-      branch e = i.M1.m1 k v u (flip ends) e .1 (i.C1.c1m k u v l ends (pop-head s.ch u k q))
+      branch e = sv.inv.M1.m1 k v u (flip sv.ends) e .1 (sv.inv.C1.c1m k u v l sv.ends (pop-head s.ch u k sv.head))
 
   -- Basic: put back
   waits : s.lev v ≤ l → s.mark v k ≡ 0 → onConnect o limit l k w ≡ putBack w
-  waits le b = connect-waits o limit l k w (omega (arith, lev-is a)) (sym (mark-at a k) ∙ b)
+  waits le b = connect-waits o limit l k w (omega (arith, lev-is sv.at)) (sym (mark-at sv.at k) ∙ b)
 
   pub connect-fin : Fin p r v 0 (length (w .sends)) (onConnect o limit l k w) s ⊎ ((onConnect o limit l k w ≡ putBack w) × Blocked s v k (connect l))
   connect-fin = by-cases (decLe (s.lev v) l)

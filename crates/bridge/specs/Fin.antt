@@ -10,9 +10,9 @@ use Rattle.message.specs.Msg.{Msg}
 use Rattle.node.specs.Work.{Work, Send, start, withNode, setMark, setStatus, setBest, setTest, setCount, setHalted}
 use Rattle.node.specs.Work as W
 use Rattle.node.specs.Rules as N
-use Rattle.protocol.specs.Plan.{Plan}
+use Rattle.protocol.specs.Plan.{Plan, Ends}
 use Rattle.protocol.specs.State.{State}
-use Rattle.protocol.specs.Step.{Step, Idle}
+use Rattle.protocol.specs.Step.{Step, Idle, pop}
 use Rattle.protocol.specs.Run.{sends, Steps, done, then}
 use Rattle.protocol.specs.Inv.{Inv}
 use Rattle.bridge.specs.Real.{Real, real, nodeOf, post, place}
@@ -114,7 +114,7 @@ pub record Fin (p : Plan) (r : Real) (v c b : ℕ) (w : Work) (s : State) : Type
 
 module _ {p : Plan} {r : Real} {v c : ℕ} {w : Work} {s : State} where
   -- nothing is left to do
-  pub over : Idle s → w .answer ≡ c → At r v w (real s) → Fin p r v c (length (w .sends)) w s
+  abbrev pub over : Idle s → w .answer ≡ c → At r v w (real s) → Fin p r v c (length (w .sends)) w s
   over idle z a = record { to = s; n = 0; steps = done; idle = idle; answer = z; at = a; count = omega arith }
 
   -- a step, then the rest
@@ -134,6 +134,12 @@ pub steps-app : {p : Plan} {s s′ s″ : State} {n m : ℕ} → Steps p s s′ 
 steps-app {m} done t = (m, omega arith, t)
 steps-app (then t l) r = let q = steps-app l r in (sends t + q .0, omega (arith, q .1), then t (q .2))
 
+-- a response that was carried out so far, and the rest from there
+pub resume : {p : Plan} {r r′ : Real} {v c c′ b : ℕ} {w w′ : Work} {s : State} (f : Fin p r v c b w s) → Fin p r′ v c′ (length (w .sends)) w′ f.to → Fin p r′ v c′ b w′ s
+resume f g =
+    let t = steps-app f.steps g.steps in
+    record { to = g.to; n = t .0; steps = t .2; idle = g.idle; answer = g.answer; at = g.at; count = omega (arith, t .1, f.count, g.count) }
+
 -- every small step keeps the invariant
 abbrev pub Keeps : Plan → Type 0
 Keeps p = (s s′ : State) → Step p s s′ → Inv p s → Inv p s′
@@ -141,3 +147,13 @@ Keeps p = (s s′ : State) → Step p s s′ → Inv p s → Inv p s′
 pub keeps-steps : {p : Plan} → Keeps p → {s s′ : State} {n : ℕ} → Steps p s s′ n → Inv p s → Inv p s′
 keeps-steps h done i = i
 keeps-steps h (then {s} {s′} t l) i = keeps-steps h l (h s s′ t i)
+
+-- v, awake, serves the head m of the channel from u over k: w is its response before it looks at m, r the tables without m
+pub record Serving (p : Plan) (s : State) (r : Real) (u v k : ℕ) (m : Msg) (rest : List Msg) (w : Work) : Type 0 where
+  pub inv : Inv p s
+  pub idle : Idle s
+  pub ends : Ends p k u v
+  pub awake : s.st v ≢ 0
+  pub head : s.ch u k ≡ m ∷ rest
+  pub at : At r v w (real (pop s u k rest))
+  pub fresh : w .answer ≡ 0

@@ -21,12 +21,10 @@ use Rattle.bridge.specs.Real.{Real, real, ownP, post}
 use Rattle.bridge.specs.Place.{toChans, toCount, toTold}
 use Rattle.bridge.specs.Own.{ends-own, count-le}
 use Rattle.bridge.specs.Copies.{copies-fan, copies-number, copies-length}
-use Rattle.bridge.specs.Fin.{At, Fin, Keeps, after, last, same, fc-is, mark-is, at-count, at-told, at-copied}
+use Rattle.bridge.specs.Fin.{At, Fin, Keeps, Serving, after, last, same, fc-is, mark-is, at-count, at-told, at-copied}
 use Rattle.bridge.specs.Finish.{test-fin}
 
-module _ {p : Plan} (keeps : Keeps p) {s : State} (i : Inv p s) {r : Real} {u v k l f x : ℕ} {rest : List Msg} {w : Work}
-    (idle : Idle s) (ends : Ends p k u v) (q : s.ch u k ≡ initiate l f x ∷ rest)
-    (a : At r v w (real (pop s u k rest))) (z : w .answer ≡ 0) where
+module _ {p : Plan} (keeps : Keeps p) {s : State} {r : Real} {u v k l f x : ℕ} {rest : List Msg} {w : Work} (sv : Serving p s r u v k (initiate l f x) rest w) where
   abbrev o : W.Own
   o = ownP p v
 
@@ -36,11 +34,11 @@ module _ {p : Plan} (keeps : Keeps p) {s : State} (i : Inv p s) {r : Real} {u v 
   -- the edges that get a copy, as the small step and as the rules have them
   same-copy : copy s₀ v k ≡ branches k w
   unfolding copy
-  same-copy = ap (λ (t : ℕ → ℕ). λ j. W.branches k (record { answer = 0; node = w .node; mark = t; sends = [] }) j) (mark-is a)
+  same-copy = ap (λ (t : ℕ → ℕ). λ j. W.branches k (record { answer = 0; node = w .node; mark = t; sends = [] }) j) (mark-is sv.at)
 
   -- they are own edges: only these are marked
   mine : (j : ℕ) → copy s₀ v k j ≡ true → o.own j ≡ true
-  mine j h = ends-own p v (i.M1.own v j (marked j h) .1)
+  mine j h = ends-own p v (sv.inv.M1.own v j (marked j h) .1)
     where
       marked : (j : ℕ) → copy s₀ v k j ≡ true → s.mark v j ≢ 0
       marked j h e = omega (arith, copy-yes s₀ v k j h .1)
@@ -74,7 +72,7 @@ module _ {p : Plan} (keeps : Keeps p) {s : State} (i : Inv p s) {r : Real} {u v 
   told-at c d e b h =
       subst (λ n. At r v (withNode (setCount n (told o l f x k w .node)) (told o l f x k w)) (real (next d e b))) h
       (subst (λ t. At r v (withNode (setCount (s.fc v + x * many) (told o l f x k w .node)) (told o l f x k w)) (toCount v (s.fc v + x * many) (toChans t (toTold v (N.informed l f x k (w .node)) (real s₀)))))
-      (sym chans) (at-count (at-copied (at-told a l f x k) (copies o k m w)) (s.fc v + x * many)))
+      (sym chans) (at-count (at-copied (at-told sv.at l f x k) (copies o k m w)) (s.fc v + x * many)))
 
   -- depth and side of v
   placed : (d : ℕ) × (e : ℕ) × Place s u v k d e
@@ -87,24 +85,24 @@ module _ {p : Plan} (keeps : Keeps p) {s : State} (i : Inv p s) {r : Real} {u v 
       let e = placed .1 in
       let c = w .node .count + number o (branches k w) p.g.L in
       let mode : Mode v x (cond (eqb x 1) FIND FOUND) (suc v) = inl (h, rw h, refl) in
-      let step : Step p s (next d e (suc v)) = tell idle ends q mode (placed .2) in
-      let i′ = keeps s (next d e (suc v)) step i in
-      let is : s.fc v + x * many ≡ c = omega (arith, fc-is a, number-is, ap (λ n. n * many) h) in
+      let step : Step p s (next d e (suc v)) = tell sv.idle sv.ends sv.head mode (placed .2) in
+      let i′ = keeps s (next d e (suc v)) step sv.inv in
+      let is : s.fc v + x * many ≡ c = omega (arith, fc-is sv.at, number-is, ap (λ n. n * many) h) in
       let fits : c ≤ degree o = omega (arith, count-le p v i′, upd-same s.fc v (s.fc v + x * many)) in
       same (initiate-find o l f x k w h ∙ seek-tests o c (told o l f x k w) fits)
-      (after step length-is (test-fin keeps i′ (told-at c d e (suc v) is) z refl (idle .1) (idle .2)))
+      (after step length-is (test-fin keeps i′ (told-at c d e (suc v) is) sv.fresh refl (sv.idle .1) (sv.idle .2)))
 
   found-fin : x ≡ 0 → Fin p r v 0 (length (w .sends)) (onInitiate o l f x k w) s
   found-fin h =
       let mode : Mode v x (cond (eqb x 1) FIND FOUND) 0 = inr (h, rw h, refl) in
-      let is : s.fc v + x * many ≡ w .node .count = omega (arith, fc-is a, ap (λ n. n * many) h) in
+      let is : s.fc v + x * many ≡ w .node .count = omega (arith, fc-is sv.at, ap (λ n. n * many) h) in
       same (initiate-found o l f x k w (λ e. omega arith))
-      (last (tell idle ends q mode (placed .2)) length-is (refl, idle .1, idle .2) z (told-at (w .node .count) (placed .0) (placed .1) 0 is))
+      (last (tell sv.idle sv.ends sv.head mode (placed .2)) length-is (refl, sv.idle .1, sv.idle .2) sv.fresh (told-at (w .node .count) (placed .0) (placed .1) 0 is))
 
   -- the Find bit is 1 or 0 (I1)
   pub initiate-fin : Fin p r v 0 (length (w .sends)) (onInitiate o l f x k w) s
   initiate-fin =
-      let ok = i.I1.i1 k u v l f x ends (pop-head s.ch u k q) in
+      let ok = sv.inv.I1.i1 k u v l f x sv.ends (pop-head s.ch u k sv.head) in
       by-eq x 1 find-fin (λ n. found-fin (by-eq l (GL s v)
-      (λ e. omega (arith, ok .i1d e, i.W0.due-le v))
+      (λ e. omega (arith, ok .i1d e, sv.inv.W0.due-le v))
       (λ e. ok .i1z (omega (arith, ok .i1g)))))

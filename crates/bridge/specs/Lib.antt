@@ -7,3 +7,6 @@ pub mod Finish
 pub mod Wake
 pub mod Connect
 pub mod Initiate
+pub mod Test
+pub mod Report
+pub mod Bridge
