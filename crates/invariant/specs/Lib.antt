@@ -1,2 +1,3 @@
 pub mod Step
 pub mod Reach
+pub mod Safe
