@@ -9,8 +9,8 @@ use mathlib.Core.List.{List, [], _∷_, _++_}
 use lib.ListN.{length, drop, replicate, length-append, length-replicate}
 use lib.Seq.{drop-append-seam}
 use lib.Dec.{eqb, leb}
-use borrow.Author.Tests.{eqb-true, leb-true, eq-eqb}
-use Rattle.base.specs.Cond.{eqb-cases, eqb-diff}
+use borrow.Author.Tests.{eqb-true, leb-true, eq-eqb, ne-eqb}
+use Rattle.base.specs.Cond.{bool-cases, eqb-cases, eqb-diff}
 use Rattle.base.specs.Loop.{After}
 use Rattle.base.specs.Pool.{All, nil, con, All-map}
 use Rattle.plan.specs.declared.Plan.{Plan}
@@ -176,3 +176,8 @@ unfolding does stepAlone runBytes runRounds
 invalid-alters-nothing h (one kind number) e = rw e refl
 invalid-alters-nothing h (run bytes) e = rw e refl
 invalid-alters-nothing h (rounds limit) e = rw e refl
+
+-- the same of a schedule that 51 to 54 refuse
+pub schedule-alters-nothing : (h : Held) (bytes : List ℕ) → scheduleRefusal bytes ≢ 0 → does (run bytes) h .state ≡ h
+unfolding does runBytes
+schedule-alters-nothing h bytes n = bool-cases (valid h) (λ e. rw (e, ne-eqb (scheduleRefusal bytes) 0 n) refl) (λ e. rw e refl)

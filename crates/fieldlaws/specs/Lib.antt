@@ -9,3 +9,4 @@ pub mod Trace
 pub mod Counts
 pub mod Laid
 pub mod After
+pub mod Replay
