@@ -3,7 +3,6 @@ use Prim.Native.Nat.{ℕ, zero, suc, _+_, _*_, _≤_, _<_}
 use native.Mathlib.Omega.{arith}
 use native.Mathlib.Nat.{not-suc-le-zero, add-zero}
 use mathlib.Core.Path.{_≡_, refl, sym, ap, ap₂, subst, _∙_}
-use mathlib.Core.Logic.{inl}
 use mathlib.Core.Bool.{Bool, true, not, cond, _&&_}
 use mathlib.Core.List.{List, [], _∷_, _++_}
 use lib.ListN.{length, getD, replicate, List·getD-append, length-replicate, getD-replicate}
@@ -16,7 +15,7 @@ use Rattle.base.specs.Pool.{nil}
 use Rattle.plan.specs.declared.Plan.{Plan}
 use Rattle.plan.specs.Refusal.{planRefusal}
 use Rattle.plan.specs.Accepted.{Accepted, accepted}
-use Rattle.node.specs.Work.{setup}
+use Rattle.node.specs.Work.{setup, ASLEEP}
 use Rattle.field.specs.Edges.{ownOf, limitOf, ceilingOf}
 use Rattle.field.specs.State.{State, values, nodeIn}
 use Rattle.field.specs.Step.{step}
@@ -25,7 +24,7 @@ use Rattle.field.specs.Held.{Held, stateOf, valid, freshCells, fresh, setUp}
 use Rattle.calls.specs.Call.{Call, does, after}
 use Rattle.calls.specs.Trail.{Taken, stepsOf, trail, ifTaken}
 use Rattle.fieldlaws.specs.Places.{node-is}
-use Rattle.fieldlaws.specs.Lists.{NodeOk}
+use Rattle.fieldlaws.specs.Lists.{NodeOk, ok-fresh}
 use Rattle.fieldlaws.specs.Fits.{Fits, facts-fits}
 use Rattle.fieldlaws.specs.Keeps.{Sound, step-keeps}
 use Rattle.fieldlaws.specs.Trace.{onState, call-tells}
@@ -54,21 +53,6 @@ fresh-node v l = node-is (ap (λ i. getD (freshCells 192) i 0) (sym (add-zero (v
   where
     at : (j : ℕ) → j < 9 → getD (freshCells 192) (v * 9 + j) 0 ≡ getD (values setup) j 0
     at j h = fresh-at 192 v l j h
-
-setup-ok : (p : Plan) (v : ℕ) → NodeOk (ownOf p v) (limitOf p) setup
-setup-ok p v = record {
-  status = omega arith;
-  level = omega arith;
-  identity = inl refl;
-  weight = inl refl;
-  best = inl refl;
-  test = inl refl;
-  branch = inl refl;
-  count = omega arith;
-  halted = omega arith;
-  unnamed = λ e. refl;
-  named = λ e. absurd (e refl);
-}
 
 -- what a setup that is not refused leaves
 pub record Started (p : Plan) (lent : List ℕ) (h : Held) : Type 0 where
@@ -99,7 +83,7 @@ module _ (p : Plan) (lent : List ℕ) (a : planRefusal p ≡ 0) (room : ceilingO
   fresh-fits : Fits p (stateOf begun)
   fresh-fits = record {
     words = rw (waiting-zeros (length lent)) nil;
-    nodes = λ v l. subst (NodeOk (ownOf p v) (limitOf p)) (sym (fresh-node v (omega (arith, accepted p a .modulesOk)))) (setup-ok p v);
+    nodes = λ v l. subst (NodeOk (ownOf p v) (limitOf p)) (sym (fresh-node v (omega (arith, accepted p a .modulesOk)))) (ok-fresh (ownOf p v) (limitOf p) ASLEEP 0 (omega arith) (omega arith));
     marks = λ d l. rw (getD-replicate {A = ℕ} 1200 d 0 0 (omega (arith, accepted p a .linksOk))) (omega arith);
     waiting = rw (waiting-zeros (length lent)) (omega arith);
     ceiling = omega arith;

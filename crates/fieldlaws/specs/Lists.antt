@@ -162,9 +162,11 @@ module _ (o : Own) (limit : ℕ) where
       (λ n. let k = own-is _ (i .node .best) n in
       ok-cond (eqb (w .mark (w .node .best)) BRANCH) _ _ (ok-send _ change w k tt i) (ok-mark _ BRANCH _ (omega arith) (ok-send _ (connect (w .node .level)) w k (i .node .level) i)))
 
-  ok-woken : (n : Node) → NodeOk o limit n → NodeOk o limit (woken n)
-  ok-woken n i = record {
-    status = omega arith;
+  -- setup values, but for status and halted
+  pub ok-fresh : (st ha : ℕ) → st ≤ FOUND → ha ≤ 1
+      → NodeOk o limit (record { status = st; level = 0; identity = none; weight = none; best = none; test = none; branch = none; count = 0; halted = ha })
+  ok-fresh st ha a b = record {
+    status = a;
     level = omega arith;
     identity = inl refl;
     weight = inl refl;
@@ -172,10 +174,13 @@ module _ (o : Own) (limit : ℕ) where
     test = inl refl;
     branch = inl refl;
     count = omega arith;
-    halted = i .halted;
+    halted = b;
     unnamed = λ e. refl;
     named = λ e. absurd (e refl);
   }
+
+  ok-woken : (n : Node) → NodeOk o limit n → NodeOk o limit (woken n)
+  ok-woken n i = ok-fresh FOUND (n .halted) (omega arith) (i .halted)
 
   pub ok-wakeup : (w : Work) → WorkOk o limit w → WorkOk o limit (wakeup o w)
   unfolding wakeOn
