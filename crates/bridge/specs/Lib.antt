@@ -10,3 +10,4 @@ pub mod Initiate
 pub mod Test
 pub mod Report
 pub mod Bridge
+pub mod Reached

@@ -1,0 +1,51 @@
+-- THE BRIDGE FROM SETUP ON: a response at a state that was reached after n messages leads to a state that is reached after n and its own
+-- messages. So no response is refused by 32, and none by 33.
+use Prim.Native.Nat.{ℕ, _+_, _*_, _≤_, _<_}
+use native.Mathlib.Omega.{arith}
+use mathlib.Core.Path.{_≡_, refl, sym, ap, subst, _∙_}
+use mathlib.Core.Logic.{_≢_, _⊎_, inl, inr, ⊎-elim}
+use mathlib.Core.List.{List, [], _∷_, _++_}
+use lib.ListN.{length}
+use Rattle.base.specs.Log.{log2}
+use Rattle.message.specs.Msg.{Msg}
+use Rattle.node.specs.Work.{Work}
+use Rattle.node.specs.Rules.{wakes}
+use Rattle.protocol.specs.Prelude.{Plan, Ends, State, Step, Idle, Blocked, Inv, pop}
+use Rattle.invariant.specs.Step.{inv-step}
+use Rattle.invariant.specs.Reach.{Reach, reach-steps, reach-ceiling}
+use Rattle.bridge.specs.Real.{Real, real, nodeOf, ownP, place}
+use Rattle.bridge.specs.Fin.{Fin, Keeps}
+use Rattle.bridge.specs.Bridge.{response, Taken, Waits, wakes-bridge, respond-bridge}
+
+-- every small step keeps the invariant
+pub keeps : (p : Plan) → Keeps p
+keeps p s s′ t i = inv-step t i
+
+-- after the response w of v, which answers c: the tables are r with w placed at v
+pub record After (p : Plan) (r : Real) (v c n : ℕ) (w : Work) : Type 0 where
+  pub to : State
+  pub reach : Reach p to (n + length (w .sends))
+  pub idle : Idle to
+  pub answer : w .answer ≡ c
+  pub is : real to ≡ place r v w
+
+ends-at : {p : Plan} {s : State} {r : Real} {v c n : ℕ} {w : Work} → Reach p s n → Fin p r v c 0 w s → After p r v c n w
+ends-at {p} {n = n} {w = w} h f =
+    let e : f.n ≡ length (w .sends) = omega (arith, f.count) in
+    record { to = f.to; reach = subst (λ x. Reach p f.to (n + x)) e (reach-steps f.steps h); idle = f.idle; answer = f.answer; is = f.at.is }
+
+-- not 33: the messages of the response are within M
+pub after-fits : {p : Plan} {r : Real} {v c n : ℕ} {w : Work} → After p r v c n w → n + length (w .sends) ≤ 5 * p.N * log2 p.N + 2 * p.g.L
+after-fits a = reach-ceiling a.reach
+
+module _ {p : Plan} {s : State} {n : ℕ} (h : Reach p s n) (idle : Idle s) where
+  -- a wake step
+  pub wake-after : {v : ℕ} → v < p.N → s.st v ≡ 0 → After p (real s) v 0 n (wakes (ownP p v) (nodeOf (real s) v) (s.mark v))
+  wake-after {v} lt z = ends-at h (wakes-bridge p s v idle lt z)
+
+  -- a service of the first message of a channel: it is taken, or put back to any later place
+  pub respond-after : {u v k : ℕ} {m : Msg} {rest : List Msg} → Ends p k u v → s.ch u k ≡ m ∷ rest
+      → After p (real (pop s u k rest)) v 0 n (response p s v k m)
+      ⊎ (Waits p s u v k m rest × ((a b : List Msg) → rest ≡ a ++ b → After p (real (pop s u k (a ++ (m ∷ b)))) v 1 n (response p s v k m)))
+  respond-after ends q =
+      ⊎-elim (λ t. inl (ends-at h (t .fin))) (λ t. inr (t, λ a b e. ends-at h (t .fin a b e))) (respond-bridge (keeps p) h.inv ends q idle)
