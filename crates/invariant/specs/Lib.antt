@@ -1,3 +1,4 @@
 pub mod Step
+pub mod Within
 pub mod Reach
 pub mod Safe

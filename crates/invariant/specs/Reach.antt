@@ -1,9 +1,10 @@
 -- WHATEVER SEQUENCE OF SMALL STEPS IS TAKEN FROM SETUP: the invariant holds, and no more messages are sent than the ceiling.
-use Rattle.protocol.specs.Prelude.{ℕ, _+_, _*_, _≤_, arith, _≡_, refl, sym, ap, subst, _∙_, Plan, State, setup, Inv, sends, Steps, done, then}
+use Rattle.protocol.specs.Prelude.{ℕ, _+_, _*_, _≤_, arith, _≡_, refl, sym, ap, subst, _∙_, Plan, Tree, State, setup, Inv, sends, Steps, done, then}
 use Rattle.protocol.specs.Setup.{inv-setup}
 use Rattle.base.specs.Log.{log2}
 use Rattle.budget.specs.Ceiling.{Sent, sent-setup, sent-step, sent-ceiling, sent-low}
 use Rattle.invariant.specs.Step.{inv-step}
+use Rattle.invariant.specs.Within.{Within, Carried, Unrefused, only-tree, within, carried, unrefused}
 
 -- a state of which the invariant holds, after n messages
 pub record Reach (p : Plan) (s : State) (n : ℕ) : Type 0 where
@@ -29,3 +30,11 @@ reach-ceiling h = sent-ceiling (h.inv) (h.sent)
 -- the lower one, for two nodes or more
 pub reach-low : {p : Plan} {s : State} {n : ℕ} → Reach p s n → 2 ≤ p.N → n + 2 * p.N ≤ p.N * (5 * log2 p.N) + 2 * p.g.L
 reach-low h l = sent-low (h.inv) (h.sent) l
+
+-- ONLY TREE EDGES ARE BRANCH
+pub reach-tree : {p : Plan} {s : State} {n : ℕ} → Reach p s n → (v k : ℕ) → s.mark v k ≡ 1 → Tree p k
+reach-tree h v k m = only-tree (h.inv) v k m
+
+-- VALUES AND MESSAGES ARE WITHIN THEIR LISTS, and no condition of refusal 32 is met
+pub reach-within : {p : Plan} {s : State} {n : ℕ} → Reach p s n → Within p s × Carried p s × Unrefused p s
+reach-within h = (within (h.inv), carried (h.inv), unrefused (h.inv))

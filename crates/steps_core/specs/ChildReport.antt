@@ -1,10 +1,10 @@
 -- Report w from u at v over k, which is not v's in-branch: v counts down, weighs w against its best, procedure report comes next.
 use Rattle.protocol.specs.Prelude.{ℕ, suc, _-_, _≤_, arith, _≡_, refl, sym, ap, subst, _∙_, _≢_, _⊎_, inl, inr, ⊎-elim, by-eq}
-use Rattle.protocol.specs.Prelude.{List, _∷_, upd, upd-elim, upd-same, upd-other, upd2, upd2-elim, sumL, sum, le-sum, sum-row, row-else}
+use Rattle.protocol.specs.Prelude.{List, _∷_, upd, upd-elim, upd-same, upd-other, upd2, upd2-elim, sumL, sum, sum-row, row-else}
 use Rattle.protocol.specs.Prelude.{Msg, none, report}
 use Rattle.protocol.specs.Prelude.{Plan, Ends, key, rank, joins-lt, flip, ends-two, ends-same, key-none, key-edge, rank-lt}
 use Rattle.protocol.specs.Prelude.{State, Idle, Better, pop, bested, set-ch, set-fc, set-owe, set-op}
-use Rattle.protocol.specs.Prelude.{isR, kinds, In, in-sum, else-same, pop-in, in-pop, pop-le, pop-all}
+use Rattle.protocol.specs.Prelude.{isR, kinds, In, else-same, pop-in, in-pop, pop-le, pop-all}
 use Rattle.protocol.specs.Prelude.{GL, GC, Inf, Jn, Outst, Live, Covered, Child, Inv, no-root, reports-same, reports-best}
 use Rattle.protocol.specs.Search.{Pending, Counts}
 use Rattle.protocol.specs.Traffic.{Tokens, Reports, Owing, Bests}
@@ -24,13 +24,12 @@ module _ {p : Plan} {s : State} (i : Inv p s) {u v k w b e : ℕ} {r : List Msg}
   others : Kept p S′
   others = kept i q (late-report w) S′.bw S′.be S′.fc s.halt s.dk s.dn S′.owe (suc v) s.oo
 
-  -- it is a child's
+  -- it is a child's, and is counted
   pub child : Child s u v k w
-  child = ⊎-elim (λ t. t)
-      (⊎-elim
-      (λ t. absurd (away (i.T1.t1e k v u (flip ends) (C.core-inf i ends q t) (sym (ap s.gc (C.inside i ends q)) ∙ t .0))))
-      (λ t. absurd (away (t .0))))
-      (i.R1.r1 k u v w ends (C.head i ends q))
+  child = C.child i ends q away
+
+  pub owed : s.owe v k ≡ 1
+  owed = C.owed i ends q away
 
   pub inf-u : Inf s u
   inf-u = child .0
@@ -49,13 +48,6 @@ module _ {p : Plan} {s : State} (i : Inv p s) {u v k w b e : ℕ} {r : List Msg}
 
   pub joined : Jn s k v u
   joined = let t = C.joined i ends q in (t .1, t .0)
-
-  -- and is counted
-  pub owed : s.owe v k ≡ 1
-  owed = i.F4c.f4n k v u (flip ends) inf-v joined away (inl (inf-u, inr (in-sum isR (C.head i ends q))))
-
-  pub count : 1 ≤ s.fc v
-  count = omega (arith, owed, i.F4.f4 v, le-sum p.g.L k (s.owe v) (joins-lt ends))
 
   -- ---- v's best
 

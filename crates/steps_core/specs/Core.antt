@@ -3,8 +3,8 @@
 use Rattle.protocol.specs.Prelude.{ℕ, _≤_, _<_, arith, _≡_, refl, sym, ap, subst, _∙_, _≢_, _⊎_, inl, inr, ⊎-elim, by-eq}
 use Rattle.protocol.specs.Prelude.{List, _∷_, sumL, Msg, none, initiate, report}
 use Rattle.protocol.specs.Prelude.{Plan, Ends, key, rank, flip, ends-two, State, Idle, key-none, key-edge, rank-lt}
-use Rattle.protocol.specs.Prelude.{isCI, isR, kinds, In, Bef, bef-before, in-cons, heads, upd2, at2, here-new, pop-head, pop-in, none-in, no-calls, some-report, set-dk}
-use Rattle.protocol.specs.Prelude.{GL, GC, DK, Inf, Jn, Live, CoreEnds, Spent, Inv, inf-found, te-find, up-other, no-find, no-due, rest-none, no-connect, no-initiate}
+use Rattle.protocol.specs.Prelude.{isCI, isR, kinds, In, in-sum, le-sum, joins-lt, Bef, bef-before, in-cons, heads, upd2, at2, here-new, pop-head, pop-in, none-in, no-calls, some-report, set-dk}
+use Rattle.protocol.specs.Prelude.{GL, GC, DK, Inf, Jn, Live, Child, CoreEnds, Spent, Inv, inf-found, te-find, up-other, no-find, no-due, rest-none, no-connect, no-initiate}
 
 module _ {p : Plan} {s : State} (i : Inv p s) {u v k w : ℕ} {r : List Msg} (ends : Ends p k u v) (q : s.ch u k ≡ report w ∷ r) where
   pub head : In (report w) (s.ch u k)
@@ -32,6 +32,21 @@ module _ {p : Plan} {s : State} (i : Inv p s) {u v k w : ℕ} {r : List Msg} (en
   -- v is not Find: it is no child's
   pub core-or-spent : s.st v ≢ 1 → CoreEnds s u v k w ⊎ Spent p s u v k w
   core-or-spent n = ⊎-elim (λ t. absurd (n (t .6))) (λ t. t) (i.R1.r1 k u v w ends head)
+
+  -- over another edge than v's in-branch it is a child's, and is counted
+  module _ (away : s.ib v ≢ k) where
+    pub child : Child s u v k w
+    child = ⊎-elim (λ t. t)
+        (⊎-elim
+        (λ t. absurd (away (i.T1.t1e k v u (flip ends) (core-inf t) (sym (ap s.gc inside) ∙ t .0))))
+        (λ t. absurd (away (t .0))))
+        (i.R1.r1 k u v w ends head)
+
+    pub owed : s.owe v k ≡ 1
+    owed = i.F4c.f4n k v u (flip ends) (child .5) (joined .1, joined .0) away (inl (child .0, inr (in-sum isR head)))
+
+    pub count : 1 ≤ s.fc v
+    count = omega (arith, owed, i.F4.f4 v, le-sum p.g.L k (s.owe v) (joins-lt ends))
 
   -- a weight that is no edge is the latest
   pub weight-le : key p w ≤ p.g.L
