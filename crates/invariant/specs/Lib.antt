@@ -1,4 +1,4 @@
 pub mod Step
+pub mod Safe
 pub mod Within
 pub mod Reach
-pub mod Safe

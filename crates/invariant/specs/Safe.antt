@@ -1,11 +1,11 @@
 -- Why a field that was set up and then only stepped is never refused by 31 or 32: the values and messages that the invariant allows,
 -- and what holds where a response could be refused.
-use Rattle.protocol.specs.Prelude.{ℕ, zero, suc, _+_, _≤_, _<_, arith, _≡_, refl, sym, ap, subst, _∙_, _≢_, _⊎_, inl, inr, ⊎-elim, by-eq, Bool, true, bit}
-use Rattle.protocol.specs.Prelude.{List, _∷_, sum, sum-le, le-sum, sumL, Msg, none, connect, initiate, test, report, Plan, Ends, end-lt, flip, joins-lt, State}
-use Rattle.protocol.specs.Prelude.{isR, Rouse, In, in-sum, all-in, pop-head, GL, Inv}
+use Rattle.protocol.specs.Prelude.{ℕ, suc, _+_, _≤_, _<_, arith, _≡_, ap, _≢_, by-eq, Bool, true, bit}
+use Rattle.protocol.specs.Prelude.{List, _∷_, sum, sum-le, Msg, connect, initiate, test, report, Plan, Ends, end-lt, flip, State}
+use Rattle.protocol.specs.Prelude.{Rouse, In, all-in, GL, Inv}
 use Rattle.base.specs.Log.{log2}
 use Rattle.budget.specs.Ceiling.{level}
-use Rattle.steps_core.specs.Core.{core-inf}
+use Rattle.steps_core.specs.Core.{count}
 
 module _ {p : Plan} {s : State} (i : Inv p s) where
   -- ---- 31: levels are at most ⌊log2 N⌋
@@ -60,20 +60,7 @@ module _ {p : Plan} {s : State} (i : Inv p s) where
 
   -- a Report of a child is counted
   pub child-count : (k u v w : ℕ) {r : List Msg} → Ends p k u v → s.ch u k ≡ report w ∷ r → s.ib v ≢ k → s.fc v ≢ 0
-  child-count k u v w e q n z =
-      let o = pop-head s.ch u k q in
-      let j = i.R1.r1j k u v w e o in
-      ⊎-elim
-      (λ t. omega (
-        arith,
-        i.F4.f4 v,
-        i.F4c.f4n k v u (flip e) (t .5) (j .1, j .0) n (inl (t .0, inr (in-sum isR o))),
-        le-sum p.g.L k (s.owe v) (joins-lt e),
-      ))
-      (⊎-elim
-      (λ t. n (i.T1.t1e k v u (flip e) (core-inf i e q t) (ap s.gc (sym (i.M1.m3 k u v e j)) ∙ t .0)))
-      (λ t. n (t .0)))
-      (i.R1.r1 k u v w e o)
+  child-count k u v w e q n z = omega (arith, count i e q n)
 
   -- procedures test, report and change-root find what they need
   pub test-level : (v : ℕ) → s.ot ≡ suc v → 1 ≤ s.lev v
