@@ -1,13 +1,13 @@
 -- An accepted plan as the protocol sees it: its graph, its nodes, the order of its edges. Directed links are the channels of that graph.
-use Prim.Native.Nat.{ℕ, _*_, _%_, _<_, _≤_}
+use Prim.Native.Nat.{ℕ, _*_, _%_, _<_}
 use native.Mathlib.Omega.{arith}
-use mathlib.Core.Path.{_≡_, refl, sym, ap, subst, _∙_}
-use mathlib.Core.Logic.{_≢_, _⊎_, inl, inr, ⊎-elim}
+use mathlib.Core.Path.{_≡_, refl, subst, _∙_}
+use mathlib.Core.Logic.{⊎-elim}
 use mathlib.Core.Bool.{true, cond}
 use borrow.Author.Tests.{eq-eqb}
-use Rattle.base.specs.Cond.{bool-cases, eqb-cases, by-eq}
-use Rattle.graph.specs.Graph.{Joins, up, down}
-use Rattle.graph.specs.Ways.{joins-lt, flip}
+use Rattle.base.specs.Cond.{eqb-cases}
+use Rattle.graph.specs.Graph.{up, down}
+use Rattle.graph.specs.Ways.{ends-same}
 use Rattle.plan.specs.declared.Plan as declared
 use Rattle.plan.specs.Links.{low, high, graphOf}
 use Rattle.plan.specs.Weights.{orderOf}
@@ -15,8 +15,7 @@ use Rattle.plan.specs.Accepted.{Accepted}
 use Rattle.search.specs.Own as O
 use Rattle.search.specs.Laws.{own-lower, own-higher}
 use Rattle.field.specs.Edges.{isOwn, ownOf, over, linkOf, from, dest}
-use Rattle.fieldlaws.specs.Places.{own-below, own-end, from-over, link-over, over-below, over-from}
-use Rattle.node.specs.Work.{Own}
+use Rattle.fieldlaws.specs.Places.{own-below, own-end, from-over, link-over, over-below}
 use Rattle.protocol.specs.Plan.{Plan, Ends}
 use Rattle.bridge.specs.Real.{ownP}
 
@@ -53,3 +52,10 @@ module _ (p : declared.Plan) (a : Accepted p) where
   ends-of d l = eqb-cases (d % 2) 0 (λ b. Ends net (linkOf d) (cond b (low p (linkOf d)) (high p (linkOf d))) (cond b (high p (linkOf d)) (low p (linkOf d))))
       (λ e. up (omega arith) refl refl)
       (λ n. down (omega arith) refl refl)
+
+  -- and v's directed link over k leads to k's other end
+  pub dest-is : {k v u : ℕ} → Ends net k v u → dest p (over p v k) ≡ u
+  dest-is {k} {v} e =
+      let o = ends-own e in
+      let d = over p v k in
+      ends-same (subst (λ x. Ends net k x (dest p d)) (from-over p v k o) (subst (λ x. Ends net x (from p d) (dest p d)) (link-over p v k) (ends-of d (over-below p v k o)))) e

@@ -1,0 +1,26 @@
+-- DEMAND 3: proved, with no premise.
+use mathlib.Core.Path.{_≡_}
+use Rattle.plan.specs.declared.Plan.{Plan}
+use Rattle.plan.specs.Accepted.{Accepted}
+use Rattle.field.specs.State.{State}
+use Rattle.calls.specs.Demand.{Demand3}
+use Rattle.roundlaws.specs.Reduce.{Protocol, demand3-from}
+use Rattle.demand.specs.Good.{Good, good-start}
+use Rattle.demand.specs.Steps.{step-fine}
+use Rattle.demand.specs.Rest.{stuck-none}
+use Rattle.demand.specs.Agree.{branch-tree, agreed}
+
+-- what the reduction asks of the protocol, for each accepted plan
+pub protocol : (p : Plan) (a : Accepted p) → Protocol p (Good p a)
+protocol p a = record {
+  start = good-start p a;
+  keeps = λ kind number s i g. step-fine p a s i g kind number .good;
+  unrefused = λ kind number s i g. (step-fine p a s i g kind number .no32, step-fine p a s i g kind number .no33);
+  stuck = λ s i g. stuck-none p a s g i;
+  branches = λ s i g. branch-tree p a s g;
+  agreed = λ s i g. agreed p a s g;
+}
+
+-- THE THEOREM
+pub demand3 : Demand3
+demand3 = demand3-from (λ p a. (Good p a, protocol p a))

@@ -1,0 +1,70 @@
+-- GOOD STATES of a field: those that the protocol reaches, seen without its ghosts. What a response does to them.
+use Prim.Native.Nat.{ℕ, _+_, _*_, _≤_, _<_}
+use native.Mathlib.Omega.{arith}
+use mathlib.Core.Path.{_≡_, refl, sym, ap, ap₂, subst, _∙_}
+use mathlib.Core.Logic.{_≢_}
+use mathlib.Core.Bool.{true, false, true≢false}
+use mathlib.Core.List.{List, [], _∷_, _++_}
+use lib.ListN.{length, replicate}
+use Rattle.base.specs.Cond.{by-eq}
+use Rattle.message.specs.Msg.{Msg}
+use Rattle.plan.specs.declared.Plan.{Plan}
+use Rattle.plan.specs.Accepted.{Accepted}
+use Rattle.node.specs.declared.Node.{Node}
+use Rattle.node.specs.Work.{Own, Work}
+use Rattle.node.specs.Rules.{respond, wakes}
+use Rattle.field.specs.Edges.{isOwn, ownOf, limitOf, ceilingOf}
+use Rattle.field.specs.State.{State, nodeAt, markAt}
+use Rattle.field.specs.Step.{wakeWork}
+use Rattle.field.specs.Held.{stateOf, fresh}
+use Rattle.protocol.specs.State as protocol
+use Rattle.protocol.specs.Step.{Idle}
+use Rattle.protocol.specs.Inv.{Inv}
+use Rattle.invariant.specs.Reach.{Reach, reach-setup, reach-steps, reach-ceiling}
+use Rattle.bridge.specs.Real.{Real, real, nodeOf, ownP, place}
+use Rattle.bridge.specs.Fin.{Fin, mark-at}
+use Rattle.demand_view.specs.Net.{net, own-same, ends-own}
+use Rattle.demand_view.specs.View.{view, nodes, nodes-in}
+use Rattle.demand_view.specs.Start.{view-start}
+
+pub record Good (p : Plan) (a : Accepted p) (s : State) : Type 0 where
+  -- a state of the protocol, between two responses, whose tables are the field's
+  pub at : protocol.State
+  pub is : real at ≡ view p s
+  pub idle : Idle at
+  -- it has the invariant, and the messages sent are paid for
+  pub reach : Reach (net p a) at (s .sent)
+
+module _ (p : Plan) (a : Accepted p) where
+  pub good-start : (lent : List ℕ) → Good p a (stateOf (record { field = fresh p; words = replicate (length lent) 0 }))
+  good-start lent = record { at = protocol.setup; is = sym (view-start p a lent); idle = (refl, refl, refl); reach = reach-setup (net p a) }
+
+  module _ (s : State) (g : Good p a s) where
+    -- the values of a module, the marks and the channels, read from the protocol's state
+    pub node-is : (v : ℕ) → v < p .modules → nodeOf (real g.at) v ≡ nodeAt s v
+    node-is v l = ap (λ (r : Real). nodeOf r v) (g.is) ∙ nodes-in p (s .cells) v l
+
+    pub mark-is : (v : ℕ) → g.at.mark v ≡ markAt p s v
+    mark-is v = ap (λ (r : Real). r.mark v) (g.is)
+
+    -- a rule of one node, applied there, is applied here
+    pub rule-is : (v : ℕ) → v < p .modules → (f : Own → Node → (ℕ → ℕ) → Work)
+        → f (ownP (net p a) v) (nodeOf (real g.at) v) (g.at.mark v) ≡ f (ownOf p v) (nodeAt s v) (markAt p s v)
+    rule-is v l f = ap (λ o. f o (nodeOf (real g.at) v) (g.at.mark v)) (sym (own-same p a v)) ∙ ap₂ (f (ownOf p v)) (node-is v l) (mark-is v)
+
+    -- small steps lead to tables r with the response w placed at v
+    module _ {v c : ℕ} {r : Real} {w : Work} (f : Fin (net p a) r v c 0 w (g.at)) where
+      reached : Reach (net p a) (f.to) (s .sent + length (w .sends))
+      reached = let e : f.n ≡ length (w .sends) = omega (arith, f.count) in subst (λ n. Reach (net p a) (f.to) (s .sent + n)) e (reach-steps (f.steps) (g.reach))
+
+      -- marks are of own links only (M1)
+      pub bare : (k : ℕ) → isOwn p v k ≡ false → w .mark k ≡ 0
+      bare k o = by-eq (w .mark k) 0 (λ e. e)
+          (λ n. absurd (true≢false (sym (ends-own p a (reached .inv .M1 .own v k (λ e. n (sym (mark-at (f.at) k) ∙ e)) .1)) ∙ o)))
+
+      -- 33 does not apply
+      pub room : s .sent + length (w .sends) ≤ ceilingOf p
+      room = reach-ceiling reached
+
+      pub good-after : (s′ : State) → s′ .sent ≡ s .sent + length (w .sends) → view p s′ ≡ place r v w → Good p a s′
+      good-after s′ e q = record { at = f.to; is = f.at.is ∙ sym q; idle = f.idle; reach = subst (Reach (net p a) (f.to)) (sym e) reached }

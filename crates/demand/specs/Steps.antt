@@ -1,0 +1,178 @@
+-- EVERY STEP, taken or refused, leaves a good state good, and 32 and 33 refuse none.
+use Prim.Native.Nat.{ℕ, suc, _+_, _*_, _≤_, _<_}
+use native.Mathlib.Omega.{arith}
+use mathlib.Core.Path.{_≡_, refl, sym, ap, subst, _∙_}
+use mathlib.Core.Logic.{_≢_, _⊎_, ⊎-elim}
+use mathlib.Core.Bool.{Bool, true, false, not, cond}
+use mathlib.Core.List.{List, [], _∷_, _++_}
+use lib.ListN.{length, getD}
+use lib.Dec.{eqb, ltb, leb}
+use borrow.Author.Tests.{leb-false, eq-eqb, ne-eqb, le-ltb}
+use Rattle.base.specs.Cond.{bool-cases, eqb-cases, by-eq, eqb-diff}
+use Rattle.base.specs.Loop.{After, taken, refused}
+use Rattle.base.specs.Pool.{All-here}
+use Rattle.base.specs.Keep.{First, first-out, first-passes, place, place-first}
+use Rattle.message.specs.Msg.{Msg}
+use Rattle.word.specs.Word.{linkIn, handOver}
+use Rattle.plan.specs.declared.Plan.{Plan}
+use Rattle.plan.specs.Accepted.{Accepted}
+use Rattle.node.specs.declared.Node.{Node}
+use Rattle.node.specs.Work.{Work, ASLEEP, BACK, REFUSED}
+use Rattle.node.specs.Rules.{respond, wakes}
+use Rattle.field.specs.Edges.{ownOf, linkOf, from, dest, limitOf, ceilingOf}
+use Rattle.field.specs.State.{State, nodeAt, msgIn, placed}
+use Rattle.field.specs.Step.{inAir, inQueue, without, settle, wakeWork, wake, moved, hand, serveWork, backOf, serve, step}
+use Rattle.fieldlaws.specs.Chan.{queue-parts}
+use Rattle.fieldlaws.specs.Lists.{WorkOk}
+use Rattle.fieldlaws.specs.Fits.{word-link, word-shaped}
+use Rattle.fieldlaws.specs.Cases.{Handed, Outcome, took, kept, hands}
+use Rattle.fieldlaws.specs.Keeps.{Sound, wake-ok, serve-ok}
+use Rattle.protocol.specs.Plan as protocol
+use Rattle.protocol.specs.Plan.{Ends}
+use Rattle.invariant.specs.Step.{inv-step}
+use Rattle.bridge.specs.Real.{Real, real, nodeOf, ownP}
+use Rattle.bridge.specs.Place.{toPop}
+use Rattle.bridge.specs.Fin.{Fin}
+use Rattle.bridge.specs.Bridge.{response, Taken, Waits, wakes-bridge, respond-bridge}
+use Rattle.demand_view.specs.Net.{net, ends-of}
+use Rattle.demand_view.specs.View.{view, tables, nodes, marksOf, chans}
+use Rattle.demand_view.specs.Chans.{chans-hand, chans-head, ahead, behind}
+use Rattle.demand_view.specs.Placed.{view-woken, view-taken, view-back, rest-cut}
+use Rattle.demand.specs.Good.{Good, node-is, rule-is, bare, room, good-after}
+
+-- what a step has to leave
+pub record Fine (p : Plan) (a : Accepted p) (r : After State) : Type 0 where
+  pub good : Good p a (r .state)
+  pub no32 : r .answer ≢ 32
+  pub no33 : r .answer ≢ 33
+
+module _ (p : Plan) (a : Accepted p) (s : State) (i : Sound p s) (g : Good p a s) where
+  -- refused by another number
+  other : (r : ℕ) → r ≢ 32 → r ≢ 33 → Fine p a (refused r s)
+  other r m n = record { good = g; no32 = m; no33 = n }
+
+  done : (s′ : State) → Good p a s′ → Fine p a (taken s′)
+  done s′ h = record { good = h; no32 = λ e. omega arith; no33 = λ e. omega arith }
+
+  -- a response that is not refused, for whose messages there is room
+  settled : (v : ℕ) (w : Work) (words back : List ℕ) → w .answer ≢ REFUSED → s .sent + length (w .sends) ≤ ceilingOf p
+      → Good p a (placed p v w s words back) → Fine p a (settle p v w s words back)
+  unfolding settle
+  settled v w words back n l h = rw (ne-eqb (w .answer) REFUSED n, le-ltb (ceilingOf p) (s .sent + length (w .sends)) l) (done _ h)
+
+  -- ---- wake
+
+  woken : (v : ℕ) → v < p .modules → nodeAt s v .status ≡ ASLEEP → Fine p a (settle p v (wakeWork p v s) s (s .words) [])
+  woken v l z =
+      let w = wakeWork p v s in
+      let f : Fin (net p a) (view p s) v 0 0 w (g.at) =
+      subst (λ r. Fin (net p a) r v 0 0 w (g.at)) (g.is)
+      (subst (λ x. Fin (net p a) (real g.at) v 0 0 x (g.at)) (rule-is p a s g v l wakes)
+      (wakes-bridge (net p a) (g.at) v (g.idle) l (ap (λ (n : Node). n .status) (node-is p a s g v l) ∙ z))) in
+      settled v w (s .words) [] (λ e. omega (arith, f.answer)) (room p a s g f)
+      (good-after p a s g f (placed p v w s (s .words) []) refl (view-woken p a v w (wake-ok p a s i v l) (bare p a s g f) l s (i .sized)))
+
+  wake-fine : (v : ℕ) → Fine p a (wake p v s)
+  unfolding wake
+  wake-fine v = bool-cases (leb (p .modules) v)
+      (λ b. rw b (other 41 (λ e. omega arith) (λ e. omega arith)))
+      (λ b. rw b (eqb-cases (nodeAt s v .status) ASLEEP (λ t. Fine p a (cond (not t) (refused 43 s) (settle p v (wakeWork p v s) s (s .words) [])))
+      (λ e. woken v (leb-false _ _ b) e)
+      (λ n. other 43 (λ e. omega arith) (λ e. omega arith))))
+
+  -- ---- hand over: the same state of the protocol
+
+  handed : (d : ℕ) (s′ : State) → Handed p d s s′ → Good p a s′
+  handed d s′ h =
+      let x = h .word in
+      let e : chans p (h .rest ++ (handOver x ∷ [])) ≡ chans p (s .words) = chans-hand p d x (s .words) (h .rest) (h .first) (word-shaped p x (All-here (first-out (h .first)) (i .fits .words))) in
+      subst (Good p a) (sym (h .is))
+      (record { at = g.at; is = g.is ∙ ap (tables (nodes p (s .cells)) (marksOf p (s .marks))) (sym e); idle = g.idle; reach = g.reach })
+
+  hand-fine : (d : ℕ) → Fine p a (hand p d s)
+  unfolding hand
+  hand-fine d = bool-cases (leb (2 * p .links) d)
+      (λ b. rw b (other 42 (λ e. omega arith) (λ e. omega arith)))
+      (λ b. rw b (bool-cases (leb (length (s .words)) (place (inAir d) (s .words)))
+      (λ c. rw c (other 44 (λ e. omega arith) (λ e. omega arith)))
+      (λ c. rw c (done _ (handed d _
+      (record { within = leb-false _ _ b; word = _; rest = _; first = place-first (inAir d) (s .words) 0 (leb-false _ _ c); is = refl }))))))
+
+  -- ---- serve
+
+  -- x, the first word of v's queue, is served; r are the other words
+  module _ (v : ℕ) (l : v < p .modules) (x : ℕ) (r : List ℕ) (o : First (inQueue p v) (s .words) x r) where
+    abbrev u : ℕ
+    u = from p (linkIn x)
+
+    abbrev k : ℕ
+    k = linkOf (linkIn x)
+
+    abbrev w : Work
+    w = serveWork p v x s
+
+    fits : linkIn x < 2 * p .links
+    fits = word-link p x (All-here (first-out o) (i .fits .words))
+
+    ends : Ends (net p a) k u v
+    ends = subst (λ y. Ends (net p a) k u y) (queue-parts p v x (first-passes o) .1) (ends-of p a (linkIn x) fits)
+
+    head : g.at.ch u k ≡ msgIn x ∷ chans p r u k
+    head = ap (λ (t : Real). t.ch u k) (g.is) ∙ chans-head p a v x (s .words) r o fits
+
+    ok : WorkOk (ownOf p v) (limitOf p) w
+    ok = serve-ok p a s i v x l (All-here (first-out o) (i .fits .words)) (first-passes o)
+
+    same : response (net p a) (g.at) v k (msgIn x) ≡ w
+    same = rule-is p a s g v l (λ y n m. respond y (limitOf p) (msgIn x) k n m)
+
+    -- the bridge's steps, told of the field
+    told : (c : ℕ) (t : List Msg) → Fin (net p a) (toPop u k t (real g.at)) v c 0 (response (net p a) (g.at) v k (msgIn x)) (g.at)
+        → Fin (net p a) (toPop u k t (view p s)) v c 0 w (g.at)
+    told c t f = subst (λ y. Fin (net p a) (toPop u k t y) v c 0 w (g.at)) (g.is) (subst (λ y. Fin (net p a) (toPop u k t (real g.at)) v c 0 y (g.at)) same f)
+
+    back-none : w .answer ≢ BACK → backOf w x ≡ []
+    unfolding backOf
+    back-none n = rw (ne-eqb (w .answer) BACK n) refl
+
+    back-one : w .answer ≡ BACK → backOf w x ≡ x ∷ []
+    unfolding backOf
+    back-one e = rw (eq-eqb (w .answer) BACK e) refl
+
+    consumed : Taken (net p a) (g.at) u v k (msgIn x) (chans p r u k) → Fine p a (settle p v w s r (backOf w x))
+    consumed t =
+        let f = told 0 (chans p r u k) (t .fin) in
+        subst (λ b. Fine p a (settle p v w s r b)) (sym (back-none (λ e. omega (arith, f.answer))))
+        (settled v w r [] (λ e. omega (arith, f.answer)) (room p a s g f)
+        (good-after p a s g f (placed p v w s r []) refl (view-taken p a v w ok (bare p a s g f) l s (i .sized) x r o fits)))
+
+    put-back : Waits (net p a) (g.at) u v k (msgIn x) (chans p r u k) → Fine p a (settle p v w s r (backOf w x))
+    put-back t =
+        let c = ahead p v x r (w .sends) in
+        let d = behind p v x r (w .sends) in
+        let f = told 1 (c ++ (msgIn x ∷ d)) (t .fin c d (rest-cut p a v w ok x (s .words) r o fits)) in
+        subst (λ b. Fine p a (settle p v w s r b)) (sym (back-one (f.answer)))
+        (settled v w r (x ∷ []) (λ e. omega (arith, f.answer)) (room p a s g f)
+        (good-after p a s g f (placed p v w s r (x ∷ [])) refl (view-back p a v w ok (bare p a s g f) l s (i .sized) x r o fits)))
+
+    served : Fine p a (settle p v w s r (backOf w x))
+    served = ⊎-elim consumed put-back (respond-bridge (λ y z t j. inv-step t j) (g.reach.inv) ends head (g.idle))
+
+  serve-fine : (v : ℕ) → Fine p a (serve p v s)
+  unfolding serve
+  serve-fine v = bool-cases (leb (p .modules) v)
+      (λ b. rw b (other 41 (λ e. omega arith) (λ e. omega arith)))
+      (λ b. rw b (bool-cases (leb (length (s .words)) (place (inQueue p v) (s .words)))
+      (λ c. rw c (other 45 (λ e. omega arith) (λ e. omega arith)))
+      (λ c. rw c (served v (leb-false _ _ b) _ _ (place-first (inQueue p v) (s .words) 0 (leb-false _ _ c))))))
+
+  -- THE LAW
+  pub step-fine : (kind number : ℕ) → Fine p a (step p kind number s)
+  unfolding step
+  step-fine kind number = by-eq kind 1
+      (λ e. rw e (wake-fine number))
+      (λ n₁. rw (eqb-diff kind 1 n₁) (by-eq kind 2
+      (λ e. rw e (hand-fine number))
+      (λ n₂. rw (eqb-diff kind 2 n₂) (by-eq kind 3
+      (λ e. rw e (serve-fine number))
+      (λ n₃. rw (eqb-diff kind 3 n₃) (other 54 (λ e. omega arith) (λ e. omega arith)))))))
