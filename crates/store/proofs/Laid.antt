@@ -25,7 +25,7 @@ module _ (lent : List ℕ) (m : ℕ) (ws : List ℕ) (n : ℕ) (e : lent ≡ lay
       let k : length lent ≡ m = ap length e ∙ layout-length m ws (omega arith) in
       record { within = omega arith; zeros = rw (waits, k) e }
 
-drop-zeros : (k m : ℕ) → _≡_ {A = List ℕ} (drop k (replicate m 0)) (replicate (m - k) 0)
+pub drop-zeros : (k m : ℕ) → _≡_ {A = List ℕ} (drop k (replicate m 0)) (replicate (m - k) 0)
 drop-zeros zero m = rw (sub-zero m)
 drop-zeros (suc k) zero = let e : _≡_ {A = ℕ} (0 - suc k) 0 = omega arith in rw e
 drop-zeros (suc k) (suc m) = let e : suc m - suc k ≡ m - k = omega arith in rw e (drop-zeros k m)

@@ -1,0 +1,2 @@
+pub mod Fresh
+pub mod Outcomes

@@ -1,0 +1,21 @@
+use Prim.Native.Nat.{ℕ}
+use mathlib.Core.List.{List}
+use mathlib.Core.Path.{ap}
+use lib.ListN.{replicate}
+use borrow.Author.Needs.{needs}
+use Rattle.plan.specs.declared.Plan.{Plan}
+use Rattle.field.specs.declared.Field.{Field}
+use Rattle.setup.proofs.fresh_field.Statement.{statement}
+use Rattle.setup.proofs.fresh_field.Tie as tie
+
+abbrev field-of : Plan → List ℕ → Field
+field-of p cells = record { plan = p; cells = cells; marks = replicate 1200 0; sent = 0 }
+
+lay-cells-requires : tie.Need-lay-cells-requires
+lay-cells-requires c κs = search needs
+
+returns : tie.Need-returns
+returns c = ap (λ (l : List ℕ). field-of (c .before .before .args .p) l) (c .lay-cells .ensures)
+
+pub fresh-field-spec : {M : Type 1} → statement M
+fresh-field-spec = tie.close (tie.spec lay-cells-requires returns)
