@@ -1,10 +1,10 @@
 -- THE BRIDGE: the response that the rules define for a node, at any state with the invariant, is a sequence of small steps, and is never
 -- refused by 32. For all kinds of messages and all corners of document 01.
-use Prim.Native.Nat.{ℕ, zero, suc, _+_, _≤_, _<_}
+use Prim.Native.Nat.{ℕ, _+_, _<_}
 use native.Mathlib.Omega.{arith}
-use mathlib.Core.Path.{_≡_, refl, sym, ap, subst, _∙_}
+use mathlib.Core.Path.{_≡_, refl, sym, ap, _∙_}
 use mathlib.Core.Logic.{_≢_, _⊎_, inl, inr, ⊎-elim}
-use mathlib.Core.List.{List, [], _∷_, _++_}
+use mathlib.Core.List.{List, _∷_, _++_}
 use lib.ListN.{length}
 use Rattle.base.specs.Cond.{by-eq}
 use Rattle.base.specs.Log.{log2}
@@ -16,7 +16,7 @@ use Rattle.protocol.specs.Prelude.{Plan, Ends, flip, end-lt, ends-irr, State, I
 use Rattle.protocol.specs.Step.{back}
 use Rattle.bridge.specs.Real.{Real, real, nodeOf, ownP, place}
 use Rattle.bridge.specs.Place.{post-else, place-start}
-use Rattle.bridge.specs.Fin.{At, Fin, Keeps, Serving, keeps-steps, over, last, same, resume, at-start, at-pop, st-is, ch-is}
+use Rattle.bridge.specs.Fin.{Fin, Keeps, Serving, keeps-steps, over, last, same, resume, at-start, at-pop, st-is, ch-is}
 use Rattle.bridge.specs.Wake.{wake-fin}
 use Rattle.bridge.specs.Connect.{connect-fin}
 use Rattle.bridge.specs.Initiate.{initiate-fin}

@@ -1,23 +1,23 @@
 -- (3) The response to Connect of an awake node, as a small step.
-use Prim.Native.Nat.{ℕ, zero, suc, _+_, _≤_, _<_}
+use Prim.Native.Nat.{ℕ, _+_, _≤_, _<_}
 use native.Mathlib.Omega.{arith}
 use native.Mathlib.Decide.{decLe}
 use mathlib.Core.Path.{_≡_, refl, sym, ap, ap₂, subst, _∙_}
-use mathlib.Core.Logic.{_≢_, _⊎_, inl, inr, ⊎-elim, by-cases}
-use mathlib.Core.List.{List, [], _∷_, _++_}
+use mathlib.Core.Logic.{_≢_, _⊎_, inl, inr, by-cases}
+use mathlib.Core.List.{List}
 use lib.ListN.{length}
 use Rattle.base.specs.Cond.{by-eq, upd-same}
 use Rattle.base.specs.Log.{log2}
 use Rattle.graph.specs.Size.{level-one}
 use Rattle.graph.specs.Ways.{flip}
-use Rattle.message.specs.Msg.{Msg, none, connect, initiate}
-use Rattle.node.specs.Work.{Work, FIND, BRANCH, BACK, putBack, withNode, setMark, setCount, degree}
+use Rattle.message.specs.Msg.{Msg, connect, initiate}
+use Rattle.node.specs.Work.{Work, BRANCH, putBack, withNode, setMark, setCount, degree}
 use Rattle.node.specs.Work as W
-use Rattle.node.specs.Rules.{joined, countUp, coreEnd, onConnect}
+use Rattle.node.specs.Rules.{joined, countUp, onConnect}
 use Rattle.node.specs.Rules as N
 use Rattle.node.specs.Laws.{count-rises, absorb-find, absorb-found, core-answers, connect-absorbed, connect-waits, connect-core}
-use Rattle.protocol.specs.Prelude.{Plan, Ends, end-lt, State, Step, Idle, Blocked, Inv, GL, pop-head, In, pop, absorbed}
-use Rattle.protocol.specs.Step.{back, absorb, core-reply}
+use Rattle.protocol.specs.Prelude.{Plan, end-lt, State, Step, Blocked, Inv, GL, pop-head, pop, absorbed}
+use Rattle.protocol.specs.Step.{absorb, core-reply}
 use Rattle.bridge.specs.Real.{Real, real, ownP}
 use Rattle.bridge.specs.Place.{toCount, toMark, toSend}
 use Rattle.bridge.specs.Own.{count-le}

@@ -1,26 +1,25 @@
 -- The procedures with which responses end, as small steps. That they are not refused follows from the invariant.
-use Prim.Native.Nat.{ℕ, zero, suc, _+_, _≤_, _<_}
+use Prim.Native.Nat.{ℕ, suc}
 use native.Mathlib.Omega.{arith}
-use mathlib.Core.Path.{_≡_, refl, sym, ap, ap₂, subst, _∙_}
+use mathlib.Core.Path.{_≡_, refl, sym, ap, ap₂, _∙_}
 use mathlib.Core.Logic.{_≢_, _⊎_, inl, inr, ⊎-elim}
-use mathlib.Core.Bool.{true, false}
-use mathlib.Core.List.{List, [], _∷_, _++_}
+use mathlib.Core.Bool.{true}
 use lib.ListN.{length}
 use borrow.Author.Tests.{eq-eqb, eqb-true}
 use Rattle.base.specs.Cond.{by-eq, upd}
-use Rattle.message.specs.Msg.{Msg, none, connect, test, report, change}
+use Rattle.message.specs.Msg.{none, connect, test, report, change}
 use Rattle.node.specs.Work.{Work, FOUND, BRANCH, basic, withNode, setMark, setStatus, setTest, earliest}
 use Rattle.node.specs.Work as W
-use Rattle.node.specs.Rules.{doReport, testOn, doTest, changeRoot}
+use Rattle.node.specs.Rules.{doReport, doTest, changeRoot}
 use Rattle.node.specs.Laws.{report-counts, report-tests, report-sends, test-over, test-sends, root-told, root-connects}
-use Rattle.protocol.specs.Plan.{Plan, Ends, rank, edge-some}
+use Rattle.protocol.specs.Plan.{Plan, Ends, edge-some}
 use Rattle.protocol.specs.State.{State, set-te, set-ot, set-op}
 use Rattle.protocol.specs.Step.{test-next, test-none, report-now, report-later, root-branch, root-half, root-merge}
 use Rattle.protocol.specs.Inv.{Inv}
 use Rattle.protocol.specs.Notion.{Inf}
 use Rattle.bridge.specs.Real.{Real, real, ownP}
 use Rattle.bridge.specs.Own.{Lacks, Finds, searched}
-use Rattle.bridge.specs.Fin.{At, Fin, Keeps, over, after, last, same, one-more, st-is, lev-is, id-is, bw-is, be-is, te-is, ib-is, fc-is, mark-at, at-status, at-test, at-mark, at-send}
+use Rattle.bridge.specs.Fin.{At, Fin, Keeps, after, last, same, one-more, lev-is, id-is, bw-is, be-is, te-is, ib-is, fc-is, mark-at, at-status, at-test, at-mark, at-send}
 
 module _ {p : Plan} {s : State} (i : Inv p s) {r : Real} {v : ℕ} {w : Work} (a : At r v w (real s)) (z : w .answer ≡ 0) where
   -- (9) procedure report

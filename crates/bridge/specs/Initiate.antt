@@ -1,21 +1,21 @@
 -- (4) The response to Initiate, as small steps.
-use Prim.Native.Nat.{ℕ, zero, suc, _+_, _*_, _≤_, _<_}
+use Prim.Native.Nat.{ℕ, suc, _+_, _*_, _≤_}
 use native.Mathlib.Omega.{arith}
-use mathlib.Core.Path.{_≡_, refl, sym, ap, ap₂, subst, _∙_}
-use mathlib.Core.Logic.{_≢_, _⊎_, inl, inr, ⊎-elim}
-use mathlib.Core.Bool.{Bool, true, false, cond, _&&_}
-use mathlib.Core.List.{List, [], _∷_, _++_}
+use mathlib.Core.Path.{_≡_, refl, sym, ap, subst, _∙_}
+use mathlib.Core.Logic.{_≢_, inl, inr}
+use mathlib.Core.Bool.{true, cond}
+use mathlib.Core.List.{List, []}
 use lib.ListN.{length, length-append}
 use lib.Dec.{eqb}
-use Rattle.base.specs.Cond.{bit, by-eq, upd, upd-same}
+use Rattle.base.specs.Cond.{bit, by-eq, upd-same}
 use Rattle.base.specs.Sum.{sum}
-use Rattle.message.specs.Msg.{Msg, none, initiate}
+use Rattle.message.specs.Msg.{Msg, initiate}
 use Rattle.node.specs.Work.{Work, FIND, FOUND, branches, number, onEach, withNode, setCount, degree}
 use Rattle.node.specs.Work as W
-use Rattle.node.specs.Rules.{told, copies, copied, seek, onInitiate, doTest}
+use Rattle.node.specs.Rules.{told, copies, onInitiate}
 use Rattle.node.specs.Rules as N
 use Rattle.node.specs.Laws.{seek-tests, initiate-find, initiate-found}
-use Rattle.protocol.specs.Prelude.{Plan, Ends, State, Step, Idle, Mode, Place, Inv, GL, GC, pop-head, In, pop, copy, fan, informed, copy-yes, flip}
+use Rattle.protocol.specs.Prelude.{Plan, State, Step, Mode, Place, GL, GC, pop-head, pop, copy, fan, informed, copy-yes}
 use Rattle.protocol.specs.Step.{tell}
 use Rattle.bridge.specs.Real.{Real, real, ownP, post}
 use Rattle.bridge.specs.Place.{toChans, toCount, toTold}

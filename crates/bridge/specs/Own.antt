@@ -1,20 +1,20 @@
 -- A node's own edges as its rules see them: the edges that end there, their order, searches and counts.
-use Prim.Native.Nat.{ℕ, zero, suc, _+_, _≤_, _<_, zero-le}
+use Prim.Native.Nat.{ℕ, zero, suc, _≤_, _<_}
 use native.Mathlib.Omega.{arith}
-use mathlib.Core.Path.{_≡_, refl, sym, ap, subst, _∙_}
+use mathlib.Core.Path.{_≡_, refl, sym, ap, _∙_}
 use mathlib.Core.Logic.{_≢_, _⊎_, inl, inr, ⊎-elim}
-use mathlib.Core.Bool.{Bool, true, false, cond, _&&_, _||_, true≢false}
-use lib.Dec.{eqb, ltb}
-use borrow.Author.Tests.{lt-ltb, eq-eqb, eqb-true}
-use Rattle.base.specs.Cond.{bit, bool-cases, eqb-cases, ltb-cases, by-eq}
-use Rattle.base.specs.Sum.{sum, sum-le, sum-eq}
-use Rattle.graph.specs.Graph.{Joins, up, down}
+use mathlib.Core.Bool.{Bool, true, false, _&&_, _||_, true≢false}
+use lib.Dec.{eqb}
+use borrow.Author.Tests.{lt-ltb, eq-eqb}
+use Rattle.base.specs.Cond.{bit, eqb-cases, ltb-cases, by-eq}
+use Rattle.base.specs.Sum.{sum, sum-le}
+use Rattle.graph.specs.Graph.{up, down}
 use Rattle.graph.specs.Ways.{joins-lt}
 use Rattle.graph.specs.Rank as R
 use Rattle.message.specs.Msg.{none}
-use Rattle.node.specs.Work.{Own, before, earliest, number, every, degree}
-use Rattle.node.specs.First.{first, Empty, Earliest, before-none, before-edges, none-before}
-use Rattle.protocol.specs.Plan.{Plan, Ends, key, rank, key-none, key-some, key-edge, rank-lt}
+use Rattle.node.specs.Work.{before, earliest, number, every, degree}
+use Rattle.node.specs.First.{first, before-none, before-edges, none-before}
+use Rattle.protocol.specs.Plan.{Plan, Ends, key, rank, key-none, key-edge, rank-lt}
 use Rattle.protocol.specs.State.{State}
 use Rattle.protocol.specs.Inv.{Inv}
 use Rattle.bridge.specs.Real.{ownP}

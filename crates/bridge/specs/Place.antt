@@ -1,11 +1,10 @@
 -- How placed responses change: one law for each assignment of the rules. A small step is made of the same assignments.
 use Prim.Native.Nat.{ℕ, _+_}
-use mathlib.Core.Path.{_≡_, refl, sym, ap, ap₂, _∙_, fun-ext}
-use mathlib.Core.Logic.{_≢_, _⊎_, inl, inr}
-use mathlib.Core.List.{List, [], _∷_, _++_, append-nil}
-use lib.ListN.{length}
+use mathlib.Core.Path.{_≡_, refl, sym, ap, _∙_, fun-ext}
+use mathlib.Core.Logic.{_≢_}
+use mathlib.Core.List.{List, [], _∷_, _++_}
 use Rattle.base.specs.Cond.{upd, upd-elim, upd-same, upd-other, upd2, upd2-elim}
-use Rattle.message.specs.Msg.{Msg, none}
+use Rattle.message.specs.Msg.{Msg}
 use Rattle.node.specs.declared.Node.{Node}
 use Rattle.node.specs.Work.{Work, Send, start, withNode, setMark, setStatus, setBest, setTest, setCount, setHalted}
 use Rattle.node.specs.Work as W

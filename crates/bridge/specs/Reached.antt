@@ -2,20 +2,20 @@
 -- messages. So no response is refused by 32, and none by 33.
 use Prim.Native.Nat.{ℕ, _+_, _*_, _≤_, _<_}
 use native.Mathlib.Omega.{arith}
-use mathlib.Core.Path.{_≡_, refl, sym, ap, subst, _∙_}
-use mathlib.Core.Logic.{_≢_, _⊎_, inl, inr, ⊎-elim}
-use mathlib.Core.List.{List, [], _∷_, _++_}
+use mathlib.Core.Path.{_≡_, subst}
+use mathlib.Core.Logic.{_⊎_, inl, inr, ⊎-elim}
+use mathlib.Core.List.{List, _∷_, _++_}
 use lib.ListN.{length}
 use Rattle.base.specs.Log.{log2}
 use Rattle.message.specs.Msg.{Msg}
 use Rattle.node.specs.Work.{Work}
 use Rattle.node.specs.Rules.{wakes}
-use Rattle.protocol.specs.Prelude.{Plan, Ends, State, Step, Idle, Blocked, Inv, pop}
+use Rattle.protocol.specs.Prelude.{Plan, Ends, State, Idle, pop}
 use Rattle.invariant.specs.Step.{inv-step}
 use Rattle.invariant.specs.Reach.{Reach, reach-steps, reach-ceiling}
 use Rattle.bridge.specs.Real.{Real, real, nodeOf, ownP, place}
 use Rattle.bridge.specs.Fin.{Fin, Keeps}
-use Rattle.bridge.specs.Bridge.{response, Taken, Waits, wakes-bridge, respond-bridge}
+use Rattle.bridge.specs.Bridge.{response, Waits, wakes-bridge, respond-bridge}
 
 -- every small step keeps the invariant
 pub keeps : (p : Plan) → Keeps p

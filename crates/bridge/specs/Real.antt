@@ -1,17 +1,12 @@
 -- The tables of a state that modules and channels really have, without the ghosts; and a response placed in them.
-use Prim.Native.Nat.{ℕ, zero, suc, _+_, _-_, _≤_, _<_}
-use native.Mathlib.Omega.{arith}
-use mathlib.Core.Path.{_≡_, refl, sym, ap, ap₂, subst, _∙_, fun-ext}
-use mathlib.Core.Logic.{_≢_, _⊎_, inl, inr}
-use mathlib.Core.Bool.{Bool, true, false, cond, _&&_, _||_}
+use Prim.Native.Nat.{ℕ, _+_}
+use mathlib.Core.Bool.{_&&_, _||_}
 use mathlib.Core.List.{List, [], _∷_, _++_}
 use lib.Dec.{eqb, ltb}
-use Rattle.base.specs.Cond.{upd, upd-elim, upd-same, upd-other, upd2, upd2-elim}
-use Rattle.message.specs.Msg.{Msg, none}
+use Rattle.base.specs.Cond.{upd, upd2}
+use Rattle.message.specs.Msg.{Msg}
 use Rattle.node.specs.declared.Node.{Node}
-use Rattle.node.specs.Work as W
 use Rattle.node.specs.Work.{Own, Work, Send}
-use Rattle.node.specs.Rules as N
 use Rattle.protocol.specs.Plan.{Plan}
 use Rattle.protocol.specs.State.{State}
 

@@ -1,26 +1,25 @@
 -- (7), (10), (12) The responses to Accept, Report and Change-root, as small steps.
-use Prim.Native.Nat.{ℕ, zero, suc, _+_, _-_, _≤_, _<_}
+use Prim.Native.Nat.{ℕ, suc, _-_, _<_}
 use native.Mathlib.Omega.{arith}
 use mathlib.Core.Path.{_≡_, refl, sym, ap, subst, _∙_}
 use mathlib.Core.Logic.{_≢_, _⊎_, inl, inr, ⊎-elim}
-use mathlib.Core.Bool.{Bool, true, false, cond}
-use mathlib.Core.List.{List, [], _∷_, _++_}
+use mathlib.Core.Bool.{Bool, false, cond}
+use mathlib.Core.List.{List}
 use lib.ListN.{length}
 use Rattle.base.specs.Cond.{by-eq, bool-cases, upd, upd2}
-use Rattle.base.specs.Pool.{sumL}
 use Rattle.base.specs.Sum.{le-sum}
 use Rattle.graph.specs.Ways.{joins-lt, flip}
 use Rattle.message.specs.Msg.{Msg, none, initiate, accept, report, change}
-use Rattle.node.specs.Work.{Work, putBack, before, withNode, setBest, setTest, setCount, setHalted}
+use Rattle.node.specs.Work.{Work, putBack, before, withNode, setCount}
 use Rattle.node.specs.Work as W
-use Rattle.node.specs.Rules.{onAccept, onReport, onChange, coreReport, childReport, better, doReport, changeRoot}
+use Rattle.node.specs.Rules.{onAccept, onReport, onChange, coreReport, better, doReport, changeRoot}
 use Rattle.node.specs.Laws.{child-reports, report-child, report-waits, report-core, core-decides, core-halts, core-edge, core-idle}
-use Rattle.protocol.specs.Prelude.{Plan, Ends, key, State, Step, Idle, Blocked, Better, Inv, GC, Inf, Jn, Outst, Child, CoreEnds, In, Bef, in-cons, heads, pop-head, in-sum, isR, isCI, pop, rooted, bested, set-te, set-op, set-owe, set-fc, kinds}
+use Rattle.protocol.specs.Prelude.{Plan, key, State, Step, Blocked, Better, Outst, Child, CoreEnds, In, Bef, in-cons, heads, pop-head, in-sum, isR, pop, rooted, bested, set-te, set-op, set-owe, set-fc, kinds}
 use Rattle.protocol.specs.Step.{accepted, child-report, core-nothing, core-halt, decide, change-root}
 use Rattle.protocol.specs.Run.{sends}
-use Rattle.bridge.specs.Real.{Real, real, ownP}
+use Rattle.bridge.specs.Real.{Real, ownP}
 use Rattle.bridge.specs.Own.{before-lt, before-ge}
-use Rattle.bridge.specs.Fin.{At, Fin, Keeps, Serving, after, last, same, st-is, bw-is, be-is, ib-is, fc-is, at-best, at-test, at-count, at-halted}
+use Rattle.bridge.specs.Fin.{Fin, Keeps, Serving, after, last, same, st-is, bw-is, be-is, ib-is, fc-is, at-best, at-test, at-count, at-halted}
 use Rattle.bridge.specs.Finish.{report-fin, root-fin}
 
 -- a weight x that came over k against v's best

@@ -1,23 +1,23 @@
 -- (6), (8) The responses to Test of an awake node, and to Reject, as small steps.
-use Prim.Native.Nat.{ℕ, zero, suc, _+_, _≤_, _<_}
+use Prim.Native.Nat.{ℕ, suc, _≤_, _<_}
 use native.Mathlib.Omega.{arith}
 use native.Mathlib.Decide.{decLe}
-use mathlib.Core.Path.{_≡_, refl, sym, ap, subst, _∙_}
-use mathlib.Core.Logic.{_≢_, _⊎_, inl, inr, ⊎-elim, by-cases}
+use mathlib.Core.Path.{_≡_, refl, sym, _∙_}
+use mathlib.Core.Logic.{_≢_, _⊎_, inl, inr, by-cases}
 use mathlib.Core.Bool.{cond}
-use mathlib.Core.List.{List, [], _∷_, _++_}
+use mathlib.Core.List.{List}
 use lib.ListN.{length}
 use lib.Dec.{eqb}
 use Rattle.base.specs.Cond.{by-eq, eqb-cases}
-use Rattle.message.specs.Msg.{Msg, none, test, accept, reject}
+use Rattle.message.specs.Msg.{Msg, test, accept, reject}
 use Rattle.node.specs.Work.{Work, BASIC, REJECTED, putBack}
 use Rattle.node.specs.Work as W
 use Rattle.node.specs.Rules.{doTest, strike, onTest, onReject}
 use Rattle.node.specs.Laws.{test-waits, test-accepted, test-crossed, test-rejected}
-use Rattle.protocol.specs.Prelude.{Plan, Ends, State, Step, Idle, Blocked, Strike, Inv, pop, marked, set-ot}
+use Rattle.protocol.specs.Prelude.{Plan, State, Step, Blocked, Strike, pop, marked, set-ot}
 use Rattle.protocol.specs.Step.{accept-test, reject-test, crossed-test, rejected}
-use Rattle.bridge.specs.Real.{Real, real, ownP}
-use Rattle.bridge.specs.Fin.{At, Fin, Keeps, Serving, after, last, same, one-more, lev-is, id-is, te-is, mark-at, at-mark, at-send}
+use Rattle.bridge.specs.Real.{Real, ownP}
+use Rattle.bridge.specs.Fin.{Fin, Keeps, Serving, after, last, same, one-more, lev-is, id-is, te-is, mark-at, at-mark, at-send}
 use Rattle.bridge.specs.Finish.{test-fin}
 
 -- the mark once Basic has become Rejected

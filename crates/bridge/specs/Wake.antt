@@ -1,15 +1,15 @@
 -- Procedure wakeup as a small step.
-use Prim.Native.Nat.{ℕ, zero, suc, _+_, _≤_, _<_}
+use Prim.Native.Nat.{ℕ, _<_}
 use native.Mathlib.Omega.{arith}
-use mathlib.Core.Path.{_≡_, refl, sym, ap, subst, _∙_}
-use mathlib.Core.Logic.{_≢_, _⊎_, inl, inr, ⊎-elim}
+use mathlib.Core.Path.{_≡_, refl}
+use mathlib.Core.Logic.{_⊎_, ⊎-elim}
 use lib.ListN.{length}
 use Rattle.base.specs.Cond.{by-eq}
-use Rattle.message.specs.Msg.{Msg, none, connect}
-use Rattle.node.specs.Work.{Work, BRANCH, every, withNode, earliest}
-use Rattle.node.specs.Rules.{wakeup, woken}
+use Rattle.message.specs.Msg.{connect}
+use Rattle.node.specs.Work.{Work, BRANCH, every, earliest}
+use Rattle.node.specs.Rules.{wakeup}
 use Rattle.node.specs.Laws.{wake-alone, wake-edge}
-use Rattle.protocol.specs.Plan.{Plan, Ends, edge-some}
+use Rattle.protocol.specs.Plan.{Plan, edge-some}
 use Rattle.protocol.specs.State.{State}
 use Rattle.protocol.specs.Step.{Idle, wake-lone, wake-half, wake-merge}
 use Rattle.bridge.specs.Real.{Real, real, ownP}
