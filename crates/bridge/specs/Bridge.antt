@@ -12,8 +12,9 @@ use Rattle.message.specs.Msg.{Msg, none, connect, initiate, test, accept, rejec
 use Rattle.node.specs.Work.{Own, Work, start, putBack, earliest, every}
 use Rattle.node.specs.Rules.{wakeup, wakes, respond, respondTo, onConnect, onInitiate, onTest, onAccept, onReject, onReport, onChange}
 use Rattle.node.specs.Laws.{wake-alone, wake-edge, awake-wakes, awake-is, asleep-not}
-use Rattle.protocol.specs.Prelude.{Plan, Ends, flip, end-lt, ends-irr, State, Idle, Blocked, Inv, Rouse, pop, pop-head, all-in}
+use Rattle.protocol.specs.Prelude.{Plan, Ends, flip, end-lt, ends-irr, State, Idle, Blocked, Inv, Rouse, pop, pop-head}
 use Rattle.protocol.specs.Step.{back}
+use Rattle.invariant.specs.Safe.{to-sleeper}
 use Rattle.bridge.specs.Real.{Real, real, nodeOf, ownP, place}
 use Rattle.bridge.specs.Place.{post-else, place-start}
 use Rattle.bridge.specs.Fin.{Fin, Keeps, Serving, keeps-steps, over, last, same, resume, at-start, at-pop, st-is, ch-is}
@@ -127,10 +128,10 @@ module _ {p : Plan} (keeps : Keeps p) {s : State} (i : Inv p s) {u v k : ℕ} {m
   w₀ = start (nodeOf (real s) v) (s.mark v)
 
   module _ (idle : Idle s) where
-    -- only Connect and Test are on their way to a sleeper (G6)
+    -- it is Connect or Test
     asleep : s.st v ≡ 0 → Taken p s u v k m rest ⊎ Waits p s u v k m rest
     asleep z =
-        let rouses = all-in (i.G6c.g6i k u v ends z) (pop-head s.ch u k q) in
+        let rouses = to-sleeper i k u v m ends (pop-head s.ch u k q) z in
         outcome (wakes-bridge p s v idle (end-lt p (flip ends)) z) (woken-awake (ownP p v) w₀) (respond-asleep (ownP p v) (log2 p.N) k w₀ m rouses z) (λ n h. absurd (n z))
 
     awake : s.st v ≢ 0 → Taken p s u v k m rest ⊎ Waits p s u v k m rest

@@ -8,24 +8,19 @@ use mathlib.Core.List.{List}
 use lib.ListN.{length}
 use Rattle.base.specs.Cond.{by-eq, upd-same}
 use Rattle.base.specs.Log.{log2}
-use Rattle.graph.specs.Size.{level-one}
-use Rattle.graph.specs.Ways.{flip}
 use Rattle.message.specs.Msg.{Msg, connect, initiate}
 use Rattle.node.specs.Work.{Work, BRANCH, putBack, withNode, setMark, setCount, degree}
 use Rattle.node.specs.Work as W
 use Rattle.node.specs.Rules.{joined, countUp, onConnect}
 use Rattle.node.specs.Rules as N
 use Rattle.node.specs.Laws.{count-rises, absorb-find, absorb-found, core-answers, connect-absorbed, connect-waits, connect-core}
-use Rattle.protocol.specs.Prelude.{Plan, end-lt, State, Step, Blocked, Inv, GL, pop-head, pop, absorbed}
+use Rattle.protocol.specs.Prelude.{Plan, State, Step, Blocked, pop-head, pop, absorbed}
 use Rattle.protocol.specs.Step.{absorb, core-reply}
+use Rattle.invariant.specs.Safe.{reply-le}
 use Rattle.bridge.specs.Real.{Real, real, ownP}
 use Rattle.bridge.specs.Place.{toCount, toMark, toSend}
 use Rattle.bridge.specs.Own.{count-le}
 use Rattle.bridge.specs.Fin.{At, Fin, Keeps, Serving, last, same, one-more, st-is, lev-is, id-is, fc-is, mark-at, at-count, at-mark, at-send}
-
--- a fragment's level is at most ⌊log2 N⌋ (G4)
-pub level-le : {p : Plan} {s : State} → Inv p s → (v : ℕ) → v < p.N → GL s v ≤ log2 p.N
-level-le {p} {s} i v l = level-one p.N s.fr (s.fr v) (GL s v) (i.G4.g4 v l)
 
 module _ {p : Plan} (keeps : Keeps p) {s : State} {r : Real} {u v k l : ℕ} {rest : List Msg} {w : Work} (sv : Serving p s r u v k (connect l) rest w) where
   abbrev o : W.Own
@@ -59,19 +54,13 @@ module _ {p : Plan} (keeps : Keeps p) {s : State} {r : Real} {u v k l : ℕ} {re
   absorb-fin : l < s.lev v → Fin p r v 0 (length (w .sends)) (onConnect o limit l k w) s
   absorb-fin lt = same (connect-absorbed o limit l k w (omega (arith, lev-is sv.at))) (by-eq (s.st v) 1 (absorb-find-fin lt) (absorb-found-fin lt))
 
-  -- not Basic: the other end of the core. Its fragment's level is the next one (C1), so at most ⌊log2 N⌋.
+  -- not Basic: Initiate of the next level, which is at most ⌊log2 N⌋
   core-fin : s.lev v ≤ l → s.mark v k ≢ 0 → Fin p r v 0 (length (w .sends)) (onConnect o limit l k w) s
   core-fin le b =
-      let here = pop-head s.ch u k sv.head in
       let m = initiate (s.lev v + 1) k 1 in
-      let mark-v : s.mark v k ≡ 1 = omega (arith, sv.inv.W0.mark-le v k, branch) in
-      let c = sv.inv.C1.c1 k u v l sv.ends here mark-v in
-      let low : w .node .level < limit = omega (arith, lev-is sv.at, c .1, c .2, level-le sv.inv u (end-lt p sv.ends)) in
+      let low : w .node .level < limit = omega (arith, lev-is sv.at, reply-le sv.inv k u v l sv.ends (pop-head s.ch u k sv.head) b) in
       same (connect-core o limit l k w (omega (arith, lev-is sv.at)) (λ e. b (mark-at sv.at k ∙ e)) ∙ (core-answers limit k w low ∙ ap (λ n. W.send k (initiate (n + 1) k 1) w) (sym (lev-is sv.at))))
       (last (core-reply sv.idle sv.ends sv.awake sv.head le b) (one-more w k m) sv.idle sv.fresh (at-send sv.at k m))
-    where
-      branch : s.mark v k ≢ 2
-      branch e = sv.inv.M1.m1 k v u (flip sv.ends) e .1 (sv.inv.C1.c1m k u v l sv.ends (pop-head s.ch u k sv.head))
 
   -- Basic: put back
   waits : s.lev v ≤ l → s.mark v k ≡ 0 → onConnect o limit l k w ≡ putBack w

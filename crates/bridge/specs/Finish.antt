@@ -16,7 +16,7 @@ use Rattle.protocol.specs.Plan.{Plan, Ends, edge-some}
 use Rattle.protocol.specs.State.{State, set-te, set-ot, set-op}
 use Rattle.protocol.specs.Step.{test-next, test-none, report-now, report-later, root-branch, root-half, root-merge}
 use Rattle.protocol.specs.Inv.{Inv}
-use Rattle.protocol.specs.Notion.{Inf}
+use Rattle.invariant.specs.Safe.{test-level, report-branch, root-edge}
 use Rattle.bridge.specs.Real.{Real, real, ownP}
 use Rattle.bridge.specs.Own.{Lacks, Finds, searched}
 use Rattle.bridge.specs.Fin.{At, Fin, Keeps, after, last, same, one-more, lev-is, id-is, bw-is, be-is, te-is, ib-is, fc-is, mark-at, at-status, at-test, at-mark, at-send}
@@ -24,21 +24,16 @@ use Rattle.bridge.specs.Fin.{At, Fin, Keeps, after, last, same, one-more
 module _ {p : Plan} {s : State} (i : Inv p s) {r : Real} {v : ℕ} {w : Work} (a : At r v w (real s)) (z : w .answer ≡ 0) where
   -- (9) procedure report
   module _ (t : s.ot ≡ 0) (o : s.op ≡ suc v) (c : s.oo ≡ 0) where
-    inf-p : Inf s v
-    inf-p = i.F1.f1 v (i.F2.f5p v o) .f1i
-
-    -- who searches has an in-branch (T1)
-    branch : s.ib v ≢ none
-    branch = i.T1.t1 v inf-p
+    branch : (u : ℕ) × Ends p (s.ib v) v u
+    branch = report-branch i v o
 
     later : (s.fc v ≢ 0) ⊎ (s.te v ≢ none) → doReport w ≡ w → Fin p r v 0 (length (w .sends)) (doReport w) s
     later h e = same e (last (report-later t o c h) (omega arith) (t, refl, c) z a)
 
     now : w .node .count ≡ 0 → w .node .test ≡ none → Fin p r v 0 (length (w .sends)) (doReport w) s
     now n h =
-        let e = i.U1.u1r v branch in
-        same (report-sends w n h (λ q. branch (ib-is a ∙ q)) ∙ sym (ap₂ (λ k x. W.send k (report x) (withNode (setStatus FOUND (w .node)) w)) (ib-is a) (bw-is a)))
-        (last (report-now t o c (e .1) refl (fc-is a ∙ n) (te-is a ∙ h)) (one-more w (s.ib v) (report (s.bw v))) (t, refl, c) z (at-status (at-send a (s.ib v) (report (s.bw v))) FOUND))
+        same (report-sends w n h (λ q. edge-some p (branch .1) (ib-is a ∙ q)) ∙ sym (ap₂ (λ k x. W.send k (report x) (withNode (setStatus FOUND (w .node)) w)) (ib-is a) (bw-is a)))
+        (last (report-now t o c (branch .1) refl (fc-is a ∙ n) (te-is a ∙ h)) (one-more w (s.ib v) (report (s.bw v))) (t, refl, c) z (at-status (at-send a (s.ib v) (report (s.bw v))) FOUND))
 
     pub report-fin : Fin p r v 0 (length (w .sends)) (doReport w) s
     report-fin = by-eq (w .node .count) 0
@@ -47,23 +42,17 @@ module _ {p : Plan} {s : State} (i : Inv p s) {r : Real} {v : ℕ} {w : Work} (a
 
   -- (11) procedure change-root
   module _ (t : s.ot ≡ 0) (o : s.op ≡ 0) (c : s.oo ≡ suc v) where
-    -- its node is informed and has a best weight, so a best edge (D3, B1)
-    best : s.be v ≢ none
-    best e =
-        let k = i.D3.d3 v (i.D3.f5r v c) in
-        k .d3w (i.B1.b1m v (k .d3i) e)
-
     abbrev k : ℕ
     k = s.be v
+
+    ends : (u : ℕ) × Ends p k v u
+    ends = root-edge i v c
 
     is-k : w .node .best ≡ k
     is-k = sym (be-is a)
 
     some : w .node .best ≢ none
-    some e = best (be-is a ∙ e)
-
-    ends : (u : ℕ) × Ends p k v u
-    ends = i.W1.w1e v best
+    some e = edge-some p (ends .1) (be-is a ∙ e)
 
     mark-k : s.mark v k ≡ w .mark (w .node .best)
     mark-k = mark-at a k ∙ ap (w .mark) (be-is a)
@@ -91,12 +80,6 @@ module _ {p : Plan} (keeps : Keeps p) {s : State} (i : Inv p s) {r : Real} {v : 
   abbrev edge : ℕ
   edge = earliest (ownP p v) (basic w) p.g.L
 
-  -- who searches is informed, so above level 0 (F1)
-  level : s.lev v ≢ 0
-  level e =
-      let h = i.F1.f1 v (i.F2.f5t v t) .f1i in
-      omega (arith, h .0, h .1)
-
   is-basic : (j : ℕ) → s.mark v j ≡ 0 → basic w j ≡ true
   is-basic j e = eq-eqb (w .mark j) 0 (sym (mark-at a j) ∙ e)
 
@@ -109,7 +92,7 @@ module _ {p : Plan} (keeps : Keeps p) {s : State} (i : Inv p s) {r : Real} {v : 
   test-edge : Finds p v (basic w) edge → Fin p r v 0 (length (w .sends)) (doTest (ownP p v) w) s
   test-edge h =
       let m = test (s.lev v) (s.id v) in
-      same (test-sends edge w (edge-some p (h .ends)) (λ q. level (lev-is a ∙ q)) ∙ sym (ap₂ (λ l f. W.send edge (test l f) (withNode (setTest edge (w .node)) w)) (lev-is a) (id-is a)))
+      same (test-sends edge w (edge-some p (h .ends)) (λ q. omega (arith, lev-is a, test-level i v t)) ∙ sym (ap₂ (λ l f. W.send edge (test l f) (withNode (setTest edge (w .node)) w)) (lev-is a) (id-is a)))
       (last (test-next t o c (h .ends) (mark-at a edge ∙ eqb-true (w .mark edge) 0 (h .holds), λ j u e q. h .least j u e (is-basic j q)))
       (one-more w edge m) (refl, o, c) z (at-test (at-send a edge m) edge))
 

@@ -15,8 +15,9 @@ use Rattle.node.specs.Work as W
 use Rattle.node.specs.Rules.{told, copies, onInitiate}
 use Rattle.node.specs.Rules as N
 use Rattle.node.specs.Laws.{seek-tests, initiate-find, initiate-found}
-use Rattle.protocol.specs.Prelude.{Plan, State, Step, Mode, Place, GL, GC, pop-head, pop, copy, fan, informed, copy-yes}
+use Rattle.protocol.specs.Prelude.{Plan, State, Step, Mode, Place, GC, pop-head, pop, copy, fan, informed, copy-yes}
 use Rattle.protocol.specs.Step.{tell}
+use Rattle.invariant.specs.Safe.{initiate-ok}
 use Rattle.bridge.specs.Real.{Real, real, ownP, post}
 use Rattle.bridge.specs.Place.{toChans, toCount, toTold}
 use Rattle.bridge.specs.Own.{ends-own, count-le}
@@ -99,10 +100,6 @@ module _ {p : Plan} (keeps : Keeps p) {s : State} {r : Real} {u v k l f x : ℕ}
       same (initiate-found o l f x k w (λ e. omega arith))
       (last (tell sv.idle sv.ends sv.head mode (placed .2)) length-is (refl, sv.idle .1, sv.idle .2) sv.fresh (told-at (w .node .count) (placed .0) (placed .1) 0 is))
 
-  -- the Find bit is 1 or 0 (I1)
+  -- the Find bit is 1 or 0
   pub initiate-fin : Fin p r v 0 (length (w .sends)) (onInitiate o l f x k w) s
-  initiate-fin =
-      let ok = sv.inv.I1.i1 k u v l f x sv.ends (pop-head s.ch u k sv.head) in
-      by-eq x 1 find-fin (λ n. found-fin (by-eq l (GL s v)
-      (λ e. omega (arith, ok .i1d e, sv.inv.W0.due-le v))
-      (λ e. ok .i1z (omega (arith, ok .i1g)))))
+  initiate-fin = by-eq x 1 find-fin (λ n. found-fin (omega (arith, initiate-ok sv.inv k u v l f x sv.ends (pop-head s.ch u k sv.head) .3)))

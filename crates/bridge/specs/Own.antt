@@ -7,7 +7,7 @@ use mathlib.Core.Bool.{Bool, true, false, _&&_, _||_, true≢false}
 use lib.Dec.{eqb}
 use borrow.Author.Tests.{lt-ltb, eq-eqb}
 use Rattle.base.specs.Cond.{bit, eqb-cases, ltb-cases, by-eq}
-use Rattle.base.specs.Sum.{sum, sum-le}
+use Rattle.base.specs.Sum.{sum}
 use Rattle.graph.specs.Graph.{up, down}
 use Rattle.graph.specs.Ways.{joins-lt}
 use Rattle.graph.specs.Rank as R
@@ -17,6 +17,7 @@ use Rattle.node.specs.First.{first, before-none, before-edges, none-before}
 use Rattle.protocol.specs.Plan.{Plan, Ends, key, rank, key-none, key-edge, rank-lt}
 use Rattle.protocol.specs.State.{State}
 use Rattle.protocol.specs.Inv.{Inv}
+use Rattle.invariant.specs.Safe as S
 use Rattle.bridge.specs.Real.{ownP}
 
 module _ (p : Plan) (v : ℕ) where
@@ -91,7 +92,4 @@ module _ (p : Plan) (v : ℕ) where
 
   -- the find-count is at most the number of own edges
   pub count-le : {s : State} → Inv p s → s.fc v ≤ degree (ownP p v)
-  count-le {s} i = omega (arith, i.F4.f4 v, number-sum every p.g.L, sum-le p.g.L (s.owe v) (λ k. bit (ownP p v .own k && true)) one)
-    where
-      one : (k : ℕ) → k < p.g.L → s.owe v k ≤ bit (ownP p v .own k && true)
-      one k l = by-eq (s.owe v k) 0 (λ e. omega arith) (λ n. rw (ends-own (i.F4.f4o v k n .1)) (i.F4.f4l v k))
+  count-le i = omega (arith, number-sum every p.g.L, S.count-le i v (λ k. ownP p v .own k && true) (λ k u e. rw (ends-own e)))

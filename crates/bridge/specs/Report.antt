@@ -1,22 +1,22 @@
 -- (7), (10), (12) The responses to Accept, Report and Change-root, as small steps.
 use Prim.Native.Nat.{ℕ, suc, _-_, _<_}
 use native.Mathlib.Omega.{arith}
-use mathlib.Core.Path.{_≡_, refl, sym, ap, subst, _∙_}
-use mathlib.Core.Logic.{_≢_, _⊎_, inl, inr, ⊎-elim}
+use mathlib.Core.Path.{_≡_, refl, sym, ap, _∙_}
+use mathlib.Core.Logic.{_≢_, _⊎_, inl, inr}
 use mathlib.Core.Bool.{Bool, false, cond}
 use mathlib.Core.List.{List}
 use lib.ListN.{length}
 use Rattle.base.specs.Cond.{by-eq, bool-cases, upd, upd2}
-use Rattle.base.specs.Sum.{le-sum}
-use Rattle.graph.specs.Ways.{joins-lt, flip}
-use Rattle.message.specs.Msg.{Msg, none, initiate, accept, report, change}
+use Rattle.graph.specs.Ways.{joins-lt}
+use Rattle.message.specs.Msg.{Msg, none, accept, report, change}
 use Rattle.node.specs.Work.{Work, putBack, before, withNode, setCount}
 use Rattle.node.specs.Work as W
 use Rattle.node.specs.Rules.{onAccept, onReport, onChange, coreReport, better, doReport, changeRoot}
 use Rattle.node.specs.Laws.{child-reports, report-child, report-waits, report-core, core-decides, core-halts, core-edge, core-idle}
-use Rattle.protocol.specs.Prelude.{Plan, key, State, Step, Blocked, Better, Outst, Child, CoreEnds, In, Bef, in-cons, heads, pop-head, in-sum, isR, pop, rooted, bested, set-te, set-op, set-owe, set-fc, kinds}
+use Rattle.protocol.specs.Prelude.{Plan, key, State, Step, Blocked, Better, In, pop-head, pop, rooted, bested, set-te, set-op, set-owe, set-fc}
 use Rattle.protocol.specs.Step.{accepted, child-report, core-nothing, core-halt, decide, change-root}
 use Rattle.protocol.specs.Run.{sends}
+use Rattle.invariant.specs.Safe.{child-count}
 use Rattle.bridge.specs.Real.{Real, ownP}
 use Rattle.bridge.specs.Own.{before-lt, before-ge}
 use Rattle.bridge.specs.Fin.{Fin, Keeps, Serving, after, last, same, st-is, bw-is, be-is, ib-is, fc-is, at-best, at-test, at-count, at-halted}
@@ -74,32 +74,14 @@ module _ {p : Plan} (keeps : Keeps p) {s : State} {r : Real} {u v k x : ℕ} {re
   edge : x ≢ none → x < p.g.L
   edge n = sv.inv.R1.r1r k u v x sv.ends here n
 
-  -- not over the in-branch: it is a child's, and one that v waits for (R1, F4)
-  child : s.ib v ≢ k → Child s u v k x
-  child n = ⊎-elim (λ c. c) (λ t. absurd (⊎-elim core (λ e. n (e .0)) t)) (sv.inv.R1.r1 k u v x sv.ends here)
-    where
-      core : CoreEnds s u v k x → ⊥
-      core c = ⊎-elim
-          (λ h. n (sv.inv.T1.t1e k v u (flip sv.ends) (h .0) (ap s.gc (sym (sv.inv.M1.m3 k u v sv.ends (sv.inv.R1.r1j k u v x sv.ends here))) ∙ c .0)))
-          (λ h. ⊎-elim (λ e. kinds (λ q. omega arith) e)
-          (λ t. let b = c .5 (initiate (s.gl (s.fr v)) k 1) (subst (λ l. Bef (report x) (initiate (s.gl (s.fr v)) k 1) l) (sym sv.head) (heads t)) in omega arith)
-          (in-cons (subst (λ l. In (initiate (s.gl (s.fr v)) k 1) l) sv.head (h .1))))
-          (c .6)
-
-  counted : s.ib v ≢ k → s.fc v ≢ 0
-  counted n e =
-      let c = child n in
-      let jn = sv.inv.R1.r1j k u v x sv.ends here in
-      let out : Outst s u k = inl (c .0, inr (in-sum isR here)) in
-      omega (arith, sv.inv.F4.f4 v, le-sum p.g.L k (s.owe v) (joins-lt sv.ends), sv.inv.F4c.f4n k v u (flip sv.ends) (c .5) (jn .1, jn .0) n out)
-
+  -- not over the in-branch: it is a child's, and counted
   child-fin : s.ib v ≢ k → Fin p r v 0 (length (w .sends)) (onReport o x k w) s
   child-fin n =
       let b = newWeight sv x in
       let e = newEdge sv x in
       let c = s.fc v - 1 in
       let t : Step p s (set-op (set-owe (set-fc (bested (pop s u k rest) v b e) (upd s.fc v c)) (upd2 s.owe v k 0)) (suc v)) = child-report sv.idle sv.ends sv.head n (chosen sv x edge) in
-      same (report-child o x k w (λ q. n (ib-is sv.at ∙ sym q)) ∙ (child-reports o x k w (λ q. counted n (fc-is sv.at ∙ q))
+      same (report-child o x k w (λ q. n (ib-is sv.at ∙ sym q)) ∙ (child-reports o x k w (λ q. child-count sv.inv k u v x sv.ends sv.head n (fc-is sv.at ∙ q))
       ∙ ap (λ d. doReport (withNode (better o k x (setCount (d - 1) (w .node))) w)) (sym (fc-is sv.at))))
       (after t (omega arith) (report-fin (keeps _ _ t sv.inv) (at-best (at-count sv.at c) e b) sv.fresh (sv.idle .0) refl (sv.idle .2)))
 
