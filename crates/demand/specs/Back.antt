@@ -1,9 +1,9 @@
 -- The messages that an awake node puts back are those that the protocol calls blocked.
 use Prim.Native.Nat.{ℕ, _+_}
 use native.Mathlib.Omega.{arith}
-use mathlib.Core.Path.{_≡_, refl, sym, ap, _∙_}
+use mathlib.Core.Path.{_≡_, sym}
 use mathlib.Core.Logic.{_≢_}
-use mathlib.Core.Bool.{Bool, true, false, cond, _&&_}
+use mathlib.Core.Bool.{Bool, cond, _&&_}
 use lib.Dec.{eqb, ltb, leb}
 use Rattle.base.specs.Cond.{eqb-cases, ltb-cases}
 use Rattle.base.specs.LoopLaws.{by-test}

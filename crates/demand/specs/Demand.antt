@@ -1,8 +1,6 @@
 -- DEMAND 3: proved, with no premise.
-use mathlib.Core.Path.{_≡_}
 use Rattle.plan.specs.declared.Plan.{Plan}
 use Rattle.plan.specs.Accepted.{Accepted}
-use Rattle.field.specs.State.{State}
 use Rattle.calls.specs.Demand.{Demand3}
 use Rattle.roundlaws.specs.Reduce.{Protocol, demand3-from}
 use Rattle.demand.specs.Good.{Good, good-start}

@@ -1,30 +1,25 @@
 -- GOOD STATES of a field: those that the protocol reaches, seen without its ghosts. What a response does to them.
-use Prim.Native.Nat.{ℕ, _+_, _*_, _≤_, _<_}
-use native.Mathlib.Omega.{arith}
+use Prim.Native.Nat.{ℕ, _+_, _<_}
 use mathlib.Core.Path.{_≡_, refl, sym, ap, ap₂, subst, _∙_}
-use mathlib.Core.Logic.{_≢_}
-use mathlib.Core.Bool.{true, false, true≢false}
-use mathlib.Core.List.{List, [], _∷_, _++_}
+use mathlib.Core.Bool.{false, true≢false}
+use mathlib.Core.List.{List}
 use lib.ListN.{length, replicate}
 use Rattle.base.specs.Cond.{by-eq}
-use Rattle.message.specs.Msg.{Msg}
 use Rattle.plan.specs.declared.Plan.{Plan}
 use Rattle.plan.specs.Accepted.{Accepted}
 use Rattle.node.specs.declared.Node.{Node}
 use Rattle.node.specs.Work.{Own, Work}
-use Rattle.node.specs.Rules.{respond, wakes}
-use Rattle.field.specs.Edges.{isOwn, ownOf, limitOf, ceilingOf}
+use Rattle.field.specs.Edges.{isOwn, ownOf}
 use Rattle.field.specs.State.{State, nodeAt, markAt}
-use Rattle.field.specs.Step.{wakeWork}
 use Rattle.field.specs.Held.{stateOf, fresh}
 use Rattle.protocol.specs.State as protocol
 use Rattle.protocol.specs.Step.{Idle}
-use Rattle.protocol.specs.Inv.{Inv}
-use Rattle.invariant.specs.Reach.{Reach, reach-setup, reach-steps, reach-ceiling}
+use Rattle.invariant.specs.Reach.{Reach, reach-setup}
 use Rattle.bridge.specs.Real.{Real, real, nodeOf, ownP, place}
-use Rattle.bridge.specs.Fin.{Fin, mark-at}
+use Rattle.bridge.specs.Fin.{mark-at}
+use Rattle.bridge.specs.Reached.{After}
 use Rattle.demand_view.specs.Net.{net, own-same, ends-own}
-use Rattle.demand_view.specs.View.{view, nodes, nodes-in}
+use Rattle.demand_view.specs.View.{view, nodes-in}
 use Rattle.demand_view.specs.Start.{view-start}
 
 pub record Good (p : Plan) (a : Accepted p) (s : State) : Type 0 where
@@ -52,19 +47,12 @@ module _ (p : Plan) (a : Accepted p) where
         → f (ownP (net p a) v) (nodeOf (real g.at) v) (g.at.mark v) ≡ f (ownOf p v) (nodeAt s v) (markAt p s v)
     rule-is v l f = ap (λ o. f o (nodeOf (real g.at) v) (g.at.mark v)) (sym (own-same p a v)) ∙ ap₂ (f (ownOf p v)) (node-is v l) (mark-is v)
 
-    -- small steps lead to tables r with the response w placed at v
-    module _ {v c : ℕ} {r : Real} {w : Work} (f : Fin (net p a) r v c 0 w (g.at)) where
-      reached : Reach (net p a) (f.to) (s .sent + length (w .sends))
-      reached = let e : f.n ≡ length (w .sends) = omega (arith, f.count) in subst (λ n. Reach (net p a) (f.to) (s .sent + n)) e (reach-steps (f.steps) (g.reach))
-
+    -- the protocol goes on to tables r with the response w placed at v
+    module _ {v c : ℕ} {r : Real} {w : Work} (f : After (net p a) r v c (s .sent) w) where
       -- marks are of own links only (M1)
       pub bare : (k : ℕ) → isOwn p v k ≡ false → w .mark k ≡ 0
       bare k o = by-eq (w .mark k) 0 (λ e. e)
-          (λ n. absurd (true≢false (sym (ends-own p a (reached .inv .M1 .own v k (λ e. n (sym (mark-at (f.at) k) ∙ e)) .1)) ∙ o)))
-
-      -- 33 does not apply
-      pub room : s .sent + length (w .sends) ≤ ceilingOf p
-      room = reach-ceiling reached
+          (λ n. absurd (true≢false (sym (ends-own p a (f.reach.inv.M1.own v k (λ e. n (sym (mark-at {w = w} (record { is = f.is }) k) ∙ e)) .1)) ∙ o)))
 
       pub good-after : (s′ : State) → s′ .sent ≡ s .sent + length (w .sends) → view p s′ ≡ place r v w → Good p a s′
-      good-after s′ e q = record { at = f.to; is = f.at.is ∙ sym q; idle = f.idle; reach = subst (Reach (net p a) (f.to)) (sym e) reached }
+      good-after s′ e q = record { at = f.to; is = f.is ∙ sym q; idle = f.idle; reach = subst (Reach (net p a) (f.to)) (sym e) (f.reach) }

@@ -1,12 +1,12 @@
 -- EVERY STEP, taken or refused, leaves a good state good, and 32 and 33 refuse none.
-use Prim.Native.Nat.{ℕ, suc, _+_, _*_, _≤_, _<_}
+use Prim.Native.Nat.{ℕ, _+_, _*_, _≤_, _<_}
 use native.Mathlib.Omega.{arith}
 use mathlib.Core.Path.{_≡_, refl, sym, ap, subst, _∙_}
-use mathlib.Core.Logic.{_≢_, _⊎_, ⊎-elim}
-use mathlib.Core.Bool.{Bool, true, false, not, cond}
+use mathlib.Core.Logic.{_≢_, ⊎-elim}
+use mathlib.Core.Bool.{not, cond}
 use mathlib.Core.List.{List, [], _∷_, _++_}
-use lib.ListN.{length, getD}
-use lib.Dec.{eqb, ltb, leb}
+use lib.ListN.{length}
+use lib.Dec.{leb}
 use borrow.Author.Tests.{leb-false, eq-eqb, ne-eqb, le-ltb}
 use Rattle.base.specs.Cond.{bool-cases, eqb-cases, by-eq, eqb-diff}
 use Rattle.base.specs.Loop.{After, taken, refused}
@@ -19,26 +19,25 @@ use Rattle.plan.specs.Accepted.{Accepted}
 use Rattle.node.specs.declared.Node.{Node}
 use Rattle.node.specs.Work.{Work, ASLEEP, BACK, REFUSED}
 use Rattle.node.specs.Rules.{respond, wakes}
-use Rattle.field.specs.Edges.{ownOf, linkOf, from, dest, limitOf, ceilingOf}
+use Rattle.field.specs.Edges.{ownOf, linkOf, from, limitOf, ceilingOf}
 use Rattle.field.specs.State.{State, nodeAt, msgIn, placed}
-use Rattle.field.specs.Step.{inAir, inQueue, without, settle, wakeWork, wake, moved, hand, serveWork, backOf, serve, step}
+use Rattle.field.specs.Step.{inAir, inQueue, settle, wakeWork, wake, hand, serveWork, backOf, serve, step}
 use Rattle.fieldlaws.specs.Chan.{queue-parts}
 use Rattle.fieldlaws.specs.Lists.{WorkOk}
 use Rattle.fieldlaws.specs.Fits.{word-link, word-shaped}
-use Rattle.fieldlaws.specs.Cases.{Handed, Outcome, took, kept, hands}
+use Rattle.fieldlaws.specs.Cases.{Handed}
 use Rattle.fieldlaws.specs.Keeps.{Sound, wake-ok, serve-ok}
-use Rattle.protocol.specs.Plan as protocol
 use Rattle.protocol.specs.Plan.{Ends}
-use Rattle.invariant.specs.Step.{inv-step}
-use Rattle.bridge.specs.Real.{Real, real, nodeOf, ownP}
+use Rattle.bridge.specs.Real.{Real, real}
 use Rattle.bridge.specs.Place.{toPop}
-use Rattle.bridge.specs.Fin.{Fin}
-use Rattle.bridge.specs.Bridge.{response, Taken, Waits, wakes-bridge, respond-bridge}
+use Rattle.bridge.specs.Bridge.{response}
+use Rattle.bridge.specs.Reached as R
+use Rattle.bridge.specs.Reached.{after-fits, wake-after, respond-after}
 use Rattle.demand_view.specs.Net.{net, ends-of}
 use Rattle.demand_view.specs.View.{view, tables, nodes, marksOf, chans}
 use Rattle.demand_view.specs.Chans.{chans-hand, chans-head, ahead, behind}
 use Rattle.demand_view.specs.Placed.{view-woken, view-taken, view-back, rest-cut}
-use Rattle.demand.specs.Good.{Good, node-is, rule-is, bare, room, good-after}
+use Rattle.demand.specs.Good.{Good, node-is, rule-is, bare, good-after}
 
 -- what a step has to leave
 pub record Fine (p : Plan) (a : Accepted p) (r : After State) : Type 0 where
@@ -48,8 +47,8 @@ pub record Fine (p : Plan) (a : Accepted p) (r : After State) : Type 0 where
 
 module _ (p : Plan) (a : Accepted p) (s : State) (i : Sound p s) (g : Good p a s) where
   -- refused by another number
-  other : (r : ℕ) → r ≢ 32 → r ≢ 33 → Fine p a (refused r s)
-  other r m n = record { good = g; no32 = m; no33 = n }
+  other : (r : ℕ) → 41 ≤ r → Fine p a (refused r s)
+  other r l = record { good = g; no32 = λ e. omega arith; no33 = λ e. omega arith }
 
   done : (s′ : State) → Good p a s′ → Fine p a (taken s′)
   done s′ h = record { good = h; no32 = λ e. omega arith; no33 = λ e. omega arith }
@@ -65,20 +64,20 @@ module _ (p : Plan) (a : Accepted p) (s : State) (i : Sound p s) (g : Good p a s
   woken : (v : ℕ) → v < p .modules → nodeAt s v .status ≡ ASLEEP → Fine p a (settle p v (wakeWork p v s) s (s .words) [])
   woken v l z =
       let w = wakeWork p v s in
-      let f : Fin (net p a) (view p s) v 0 0 w (g.at) =
-      subst (λ r. Fin (net p a) r v 0 0 w (g.at)) (g.is)
-      (subst (λ x. Fin (net p a) (real g.at) v 0 0 x (g.at)) (rule-is p a s g v l wakes)
-      (wakes-bridge (net p a) (g.at) v (g.idle) l (ap (λ (n : Node). n .status) (node-is p a s g v l) ∙ z))) in
-      settled v w (s .words) [] (λ e. omega (arith, f.answer)) (room p a s g f)
+      let f : R.After (net p a) (view p s) v 0 (s .sent) w =
+      subst (λ r. R.After (net p a) r v 0 (s .sent) w) (g.is)
+      (subst (R.After (net p a) (real g.at) v 0 (s .sent)) (rule-is p a s g v l wakes)
+      (wake-after (g.reach) (g.idle) l (ap (λ (n : Node). n .status) (node-is p a s g v l) ∙ z))) in
+      settled v w (s .words) [] (λ e. omega (arith, f.answer)) (after-fits f)
       (good-after p a s g f (placed p v w s (s .words) []) refl (view-woken p a v w (wake-ok p a s i v l) (bare p a s g f) l s (i .sized)))
 
   wake-fine : (v : ℕ) → Fine p a (wake p v s)
   unfolding wake
   wake-fine v = bool-cases (leb (p .modules) v)
-      (λ b. rw b (other 41 (λ e. omega arith) (λ e. omega arith)))
+      (λ b. rw b (other 41 (omega arith)))
       (λ b. rw b (eqb-cases (nodeAt s v .status) ASLEEP (λ t. Fine p a (cond (not t) (refused 43 s) (settle p v (wakeWork p v s) s (s .words) [])))
       (λ e. woken v (leb-false _ _ b) e)
-      (λ n. other 43 (λ e. omega arith) (λ e. omega arith))))
+      (λ n. other 43 (omega arith))))
 
   -- ---- hand over: the same state of the protocol
 
@@ -92,9 +91,9 @@ module _ (p : Plan) (a : Accepted p) (s : State) (i : Sound p s) (g : Good p a s
   hand-fine : (d : ℕ) → Fine p a (hand p d s)
   unfolding hand
   hand-fine d = bool-cases (leb (2 * p .links) d)
-      (λ b. rw b (other 42 (λ e. omega arith) (λ e. omega arith)))
+      (λ b. rw b (other 42 (omega arith)))
       (λ b. rw b (bool-cases (leb (length (s .words)) (place (inAir d) (s .words)))
-      (λ c. rw c (other 44 (λ e. omega arith) (λ e. omega arith)))
+      (λ c. rw c (other 44 (omega arith)))
       (λ c. rw c (done _ (handed d _
       (record { within = leb-false _ _ b; word = _; rest = _; first = place-first (inAir d) (s .words) 0 (leb-false _ _ c); is = refl }))))))
 
@@ -127,9 +126,9 @@ module _ (p : Plan) (a : Accepted p) (s : State) (i : Sound p s) (g : Good p a s
     same = rule-is p a s g v l (λ y n m. respond y (limitOf p) (msgIn x) k n m)
 
     -- the bridge's steps, told of the field
-    told : (c : ℕ) (t : List Msg) → Fin (net p a) (toPop u k t (real g.at)) v c 0 (response (net p a) (g.at) v k (msgIn x)) (g.at)
-        → Fin (net p a) (toPop u k t (view p s)) v c 0 w (g.at)
-    told c t f = subst (λ y. Fin (net p a) (toPop u k t y) v c 0 w (g.at)) (g.is) (subst (λ y. Fin (net p a) (toPop u k t (real g.at)) v c 0 y (g.at)) same f)
+    told : (c : ℕ) (t : List Msg) → R.After (net p a) (toPop u k t (real g.at)) v c (s .sent) (response (net p a) (g.at) v k (msgIn x))
+        → R.After (net p a) (toPop u k t (view p s)) v c (s .sent) w
+    told c t f = subst (λ y. R.After (net p a) (toPop u k t y) v c (s .sent) w) (g.is) (subst (R.After (net p a) (toPop u k t (real g.at)) v c (s .sent)) same f)
 
     back-none : w .answer ≢ BACK → backOf w x ≡ []
     unfolding backOf
@@ -139,31 +138,31 @@ module _ (p : Plan) (a : Accepted p) (s : State) (i : Sound p s) (g : Good p a s
     unfolding backOf
     back-one e = rw (eq-eqb (w .answer) BACK e) refl
 
-    consumed : Taken (net p a) (g.at) u v k (msgIn x) (chans p r u k) → Fine p a (settle p v w s r (backOf w x))
-    consumed t =
-        let f = told 0 (chans p r u k) (t .fin) in
+    consumed : R.After (net p a) (toPop u k (chans p r u k) (view p s)) v 0 (s .sent) w → Fine p a (settle p v w s r (backOf w x))
+    consumed f =
         subst (λ b. Fine p a (settle p v w s r b)) (sym (back-none (λ e. omega (arith, f.answer))))
-        (settled v w r [] (λ e. omega (arith, f.answer)) (room p a s g f)
+        (settled v w r [] (λ e. omega (arith, f.answer)) (after-fits f)
         (good-after p a s g f (placed p v w s r []) refl (view-taken p a v w ok (bare p a s g f) l s (i .sized) x r o fits)))
 
-    put-back : Waits (net p a) (g.at) u v k (msgIn x) (chans p r u k) → Fine p a (settle p v w s r (backOf w x))
-    put-back t =
-        let c = ahead p v x r (w .sends) in
-        let d = behind p v x r (w .sends) in
-        let f = told 1 (c ++ (msgIn x ∷ d)) (t .fin c d (rest-cut p a v w ok x (s .words) r o fits)) in
+    put-back : R.After (net p a) (toPop u k (ahead p v x r (w .sends) ++ (msgIn x ∷ behind p v x r (w .sends))) (view p s)) v 1 (s .sent) w
+        → Fine p a (settle p v w s r (backOf w x))
+    put-back f =
         subst (λ b. Fine p a (settle p v w s r b)) (sym (back-one (f.answer)))
-        (settled v w r (x ∷ []) (λ e. omega (arith, f.answer)) (room p a s g f)
+        (settled v w r (x ∷ []) (λ e. omega (arith, f.answer)) (after-fits f)
         (good-after p a s g f (placed p v w s r (x ∷ [])) refl (view-back p a v w ok (bare p a s g f) l s (i .sized) x r o fits)))
 
     served : Fine p a (settle p v w s r (backOf w x))
-    served = ⊎-elim consumed put-back (respond-bridge (λ y z t j. inv-step t j) (g.reach.inv) ends head (g.idle))
+    served = ⊎-elim
+        (λ f. consumed (told 0 (chans p r u k) f))
+        (λ t. put-back (told 1 _ (t .1 (ahead p v x r (w .sends)) (behind p v x r (w .sends)) (rest-cut p a v w ok x (s .words) r o fits))))
+        (respond-after (g.reach) (g.idle) ends head)
 
   serve-fine : (v : ℕ) → Fine p a (serve p v s)
   unfolding serve
   serve-fine v = bool-cases (leb (p .modules) v)
-      (λ b. rw b (other 41 (λ e. omega arith) (λ e. omega arith)))
+      (λ b. rw b (other 41 (omega arith)))
       (λ b. rw b (bool-cases (leb (length (s .words)) (place (inQueue p v) (s .words)))
-      (λ c. rw c (other 45 (λ e. omega arith) (λ e. omega arith)))
+      (λ c. rw c (other 45 (omega arith)))
       (λ c. rw c (served v (leb-false _ _ b) _ _ (place-first (inQueue p v) (s .words) 0 (leb-false _ _ c))))))
 
   -- THE LAW
@@ -175,4 +174,4 @@ module _ (p : Plan) (a : Accepted p) (s : State) (i : Sound p s) (g : Good p a s
       (λ e. rw e (hand-fine number))
       (λ n₂. rw (eqb-diff kind 2 n₂) (by-eq kind 3
       (λ e. rw e (serve-fine number))
-      (λ n₃. rw (eqb-diff kind 3 n₃) (other 54 (λ e. omega arith) (λ e. omega arith)))))))
+      (λ n₃. rw (eqb-diff kind 3 n₃) (other 54 (omega arith)))))))

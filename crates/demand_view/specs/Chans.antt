@@ -1,12 +1,10 @@
 -- The channels of the view: what sends, a hand-over, a service and a put-back do to them.
-use Prim.Native.Nat.{ℕ, _+_, _*_, _≤_, _<_}
-use native.Mathlib.Omega.{arith}
+use Prim.Native.Nat.{ℕ, _*_, _<_}
 use mathlib.Core.Path.{_≡_, refl, sym, ap, ap₂, subst, _∙_, fun-ext}
 use mathlib.Core.Logic.{_≢_, _⊎_, inl, inr, ⊎-elim}
-use mathlib.Core.Bool.{Bool, true, false, cond, true≢false}
+use mathlib.Core.Bool.{true, false, cond, true≢false}
 use mathlib.Core.List.{List, [], _∷_, _++_, append-assoc, append-nil}
-use lib.Dec.{eqb}
-use Rattle.base.specs.Cond.{bool-cases, by-eq, eqb-cases, eqb-same, eqb-diff, upd, upd-elim, upd-same, upd-other, upd2, upd2-elim}
+use Rattle.base.specs.Cond.{bool-cases, eqb-same, eqb-diff, upd2, upd2-elim}
 use Rattle.base.specs.Pool.{All, nil, con}
 use Rattle.base.specs.Keep.{First, first-passes}
 use Rattle.message.specs.Msg.{Msg}
@@ -14,14 +12,14 @@ use Rattle.word.specs.Word.{linkIn, shaped, handOver}
 use Rattle.plan.specs.declared.Plan.{Plan}
 use Rattle.plan.specs.Accepted.{Accepted}
 use Rattle.node.specs.Work.{Send}
-use Rattle.field.specs.Edges.{isOwn, over, linkOf, from, dest}
+use Rattle.field.specs.Edges.{isOwn, over, linkOf, from}
 use Rattle.field.specs.State.{msgIn, posted}
 use Rattle.field.specs.Step.{inAir, inQueue}
 use Rattle.fieldlaws.specs.Chan.{chan, ups, downs, hand-chan, queue-parts, take-own, take-other, back-own, back-other}
 use Rattle.fieldlaws.specs.Sends.{Packs, onto, post-chan}
-use Rattle.fieldlaws.specs.Places.{link-over, from-over, over-below, from-own, over-from, ends-apart}
+use Rattle.fieldlaws.specs.Places.{link-over, from-over, from-own, over-from, ends-apart}
 use Rattle.bridge.specs.Real.{post}
-use Rattle.bridge.specs.Place.{post-pop, post-else}
+use Rattle.bridge.specs.Place.{post-pop}
 use Rattle.demand_view.specs.View.{chans}
 
 module _ (p : Plan) where

@@ -1,6 +1,6 @@
 -- A response that is placed in the field is placed in the view: after a wakeup, a message taken, a message put back.
 use Prim.Native.Nat.{ℕ, _*_, _<_}
-use mathlib.Core.Path.{_≡_, refl, sym, ap, ap₂, _∙_}
+use mathlib.Core.Path.{_≡_, sym, ap, ap₂, _∙_}
 use mathlib.Core.Bool.{true, false}
 use mathlib.Core.List.{List, [], _∷_, _++_, append-nil}
 use Rattle.base.specs.Cond.{upd}
@@ -18,7 +18,7 @@ use Rattle.fieldlaws.specs.Lists.{WorkOk}
 use Rattle.fieldlaws.specs.Fits.{sends-pack}
 use Rattle.fieldlaws.specs.Keeps.{Sized}
 use Rattle.fieldlaws.specs.Sends.{Packs}
-use Rattle.bridge.specs.Real.{Real, post, place}
+use Rattle.bridge.specs.Real.{post, place}
 use Rattle.bridge.specs.Place.{toPop}
 use Rattle.demand_view.specs.View.{chans, tables, view, place-tables, nodes, nodes-put, marksOf, marks-put}
 use Rattle.demand_view.specs.Chans.{chans-post, chans-taken, chans-back, split, ahead, behind}

@@ -1,11 +1,10 @@
 -- The view of a setup is the protocol's setup.
-use Prim.Native.Nat.{ℕ, _*_, _≤_, _<_}
+use Prim.Native.Nat.{ℕ, _*_}
 use native.Mathlib.Omega.{arith}
 use mathlib.Core.Path.{_≡_, refl, ap, ap₂, _∙_, fun-ext}
 use mathlib.Core.Bool.{cond}
 use mathlib.Core.List.{List, []}
 use lib.ListN.{length, replicate, getD-replicate}
-use lib.Dec.{ltb}
 use Rattle.base.specs.Cond.{ltb-cases, bool-cases}
 use Rattle.plan.specs.declared.Plan.{Plan}
 use Rattle.plan.specs.Accepted.{Accepted}
@@ -21,7 +20,7 @@ use Rattle.fieldlaws.specs.Places.{over-below}
 use Rattle.fieldlaws.specs.Laid.{waiting-zeros}
 use Rattle.fieldlaws.specs.After.{fresh-node}
 use Rattle.protocol.specs.State.{setup}
-use Rattle.bridge.specs.Real.{Real, real}
+use Rattle.bridge.specs.Real.{real}
 use Rattle.demand_view.specs.View.{nodes, marksOf, chans, tables, view}
 use Rattle.demand_view.specs.Chans.{chans-own, chans-not}
 

@@ -1,14 +1,13 @@
 -- A field's state as the protocol's tables: one value of each module, the marks, and the channels of the directed links.
-use Prim.Native.Nat.{ℕ, _+_, _*_, _≤_, _<_}
+use Prim.Native.Nat.{ℕ, _*_, _≤_, _<_}
 use native.Mathlib.Omega.{arith}
-use mathlib.Core.Path.{_≡_, refl, sym, ap, ap₂, subst, _∙_, fun-ext}
-use mathlib.Core.Logic.{_≢_}
-use mathlib.Core.Bool.{Bool, true, false, cond}
+use mathlib.Core.Path.{_≡_, refl, sym, ap, subst, _∙_, fun-ext}
+use mathlib.Core.Bool.{false, cond}
 use mathlib.Core.List.{List, []}
 use lib.ListN.{length}
 use lib.Dec.{ltb}
 use borrow.Author.Tests.{lt-ltb}
-use Rattle.base.specs.Cond.{bool-cases, upd, upd-elim, upd-same, upd-other, by-eq}
+use Rattle.base.specs.Cond.{bool-cases, upd, upd-elim, upd-same, upd-other}
 use Rattle.message.specs.Msg.{Msg}
 use Rattle.plan.specs.declared.Plan.{Plan}
 use Rattle.node.specs.declared.Node.{Node}
@@ -16,7 +15,7 @@ use Rattle.node.specs.Work.{Work, setup}
 use Rattle.search.specs.Own as O
 use Rattle.search.specs.Laws.{mark-not}
 use Rattle.field.specs.Edges.{isOwn, over}
-use Rattle.field.specs.State.{State, nodeIn, putNode, markAt, putMarks}
+use Rattle.field.specs.State.{State, nodeIn, putNode, putMarks}
 use Rattle.fieldlaws.specs.Chan.{chan}
 use Rattle.fieldlaws.specs.Places.{node-same, node-other, mark-same, mark-other}
 use Rattle.bridge.specs.Real.{Real, nodeOf, post, place}
