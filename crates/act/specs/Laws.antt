@@ -8,7 +8,7 @@ use lib.Dec.{eqb}
 use borrow.Author.Tests.{eq-eqb, ne-eqb}
 use Rattle.base.specs.Cond.{upd}
 use Rattle.message.specs.Msg.{Msg, none, connect, initiate, test, accept, reject, report, change}
-use Rattle.message.specs.Header.{msgOf}
+use Rattle.message.specs.Header.{msgOf, partsOf, parts}
 use Rattle.node.specs.declared.Node.{Node}
 use Rattle.node.specs.Work.{Send, Work, send, setMark, withNode, start}
 use Rattle.search.specs.Own.{marked}
@@ -36,6 +36,20 @@ to-for to accept = refl
 to-for to reject = refl
 to-for to (report w) = refl
 to-for to change = refl
+
+-- the parts of what a well written Out says are its own: so it is packed as it stands
+pub parts-for : (to : ℕ) (m : Msg) → partsOf m ≡ parts (outFor to m .kind) (outFor to m .level) (outFor to m .carried) (outFor to m .find)
+unfolding partsOf
+parts-for to (connect l) = refl
+parts-for to (initiate l i f) = refl
+parts-for to (test l i) = refl
+parts-for to accept = refl
+parts-for to reject = refl
+parts-for to (report w) = refl
+parts-for to change = refl
+
+pub out-parts : (x : Out) → outFor (x .to) (msgIn x) ≡ x → partsOf (msgIn x) ≡ parts (x .kind) (x .level) (x .carried) (x .find)
+out-parts x e = parts-for (x .to) (msgIn x) ∙ ap (λ y. parts (y .kind) (y .level) (y .carried) (y .find)) e
 
 module _ (x : Out) (to : ℕ) (m : Msg) (e : x ≡ outFor to m) where
   pub formed-for : outFor (x .to) (msgIn x) ≡ x
