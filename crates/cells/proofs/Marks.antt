@@ -2,22 +2,21 @@
 use Prim.Native.Nat.{ℕ, _*_, _≤_, _<_}
 use native.Mathlib.Omega.{arith}
 use mathlib.Core.Path.{_≡_, refl, sym, ap, subst, _∙_}
-use mathlib.Core.Logic.{_≢_, inl, inr}
-use mathlib.Core.Bool.{true, cond, _&&_}
+use mathlib.Core.Logic.{_≢_}
+use mathlib.Core.Bool.{true, false, cond, _&&_, true≢false}
 use mathlib.Core.List.{List}
 use lib.ListN.{length, getD, set, length-set}
 use lib.Seq.{ext-getD, getD-set-same, getD-set-other}
 use lib.Dec.{eqb}
-use borrow.Author.Tests.{eq-eqb, ne-eqb}
-use Rattle.base.specs.Cond.{upd, upd-same, upd-other, by-eq, ltb-cases, eqb-cases}
+use borrow.Author.Tests.{ne-eqb}
+use Rattle.base.specs.Cond.{bool-cases, upd, upd-same, upd-other, by-eq, ltb-cases, eqb-cases}
 use Rattle.base.specs.None.{none}
 use Rattle.plan.specs.declared.Plan.{Plan}
 use Rattle.search.specs.Own.{marksIn, marked}
-use Rattle.search.specs.Laws.{mark-own}
-use Rattle.field.specs.Edges.{ownOf, isOwn, over, from, linkOf}
+use Rattle.search.specs.Laws.{mark-own, marked-other}
+use Rattle.field.specs.Edges.{isOwn, over, from, linkOf}
 use Rattle.field.specs.State.{newMark, putMarks}
 use Rattle.plan.specs.Accepted.{Accepted}
-use Rattle.fieldlaws.specs.Lists.{OwnOrNone}
 use Rattle.fieldlaws.specs.Places.{mark-at, length-new, over-from, from-own, link-over, over-below, from-over, own-below}
 use Rattle.cells.specs.Marks.{markPut}
 
@@ -31,6 +30,19 @@ new-cases : (p : Plan) (v : ℕ) (m : ℕ → ℕ) (d x r : ℕ)
 new-cases p v m d x r y n = ltb-cases d (2 * p .links) (λ b. r ≡ cond (b && eqb (from p d) v) (m (linkOf d)) x)
     (λ l. eqb-cases (from p d) v (λ b. r ≡ cond b (m (linkOf d)) x) (λ e. y l e) (λ f. n (λ k e. f e)))
     (λ g. n (λ l e. omega arith))
+
+marked-at : (m : ℕ → ℕ) (k c : ℕ) → k ≢ none → marked m k c ≡ upd m k c
+unfolding marked
+marked-at m k c n = rw (ne-eqb k none n)
+
+module _ (p : Plan) (marks : List ℕ) (v k c : ℕ) where
+  put-own : isOwn p v k ≡ true → markPut (p .links) (p .lower) (p .higher) marks v k c ≡ set marks (over p v k) c
+  unfolding markPut
+  put-own o = rw o
+
+  put-other : isOwn p v k ≡ false → markPut (p .links) (p .lower) (p .higher) marks v k c ≡ marks
+  unfolding markPut
+  put-other o = rw o
 
 module _ (p : Plan) (a : Accepted p) (marks : List ℕ) (v : ℕ) where
   -- by ends
@@ -61,7 +73,10 @@ module _ (p : Plan) (a : Accepted p) (marks : List ℕ) (v : ℕ) where
     one-mark = agree (upd (marksOf p marks v) k c) (set marks (over p v k) c) (length-set marks (over p v k) c) (λ d b. by-eq d (over p v k) (here d) (there d))
 
   -- what the code writes
-  pub mark-put : 2 * p .links ≤ length marks → (k c : ℕ) → OwnOrNone (ownOf p v) k → markPut (p .lower) marks v k c ≡ putMarks p marks v (marked (marksOf p marks v) k c)
-  unfolding markPut marked
-  mark-put sized k c (inl e) = rw (eq-eqb k none e) kept
-  mark-put sized k c (inr o) = rw (ne-eqb k none (λ e. omega (arith, own-below p v k o, a .linksOk))) (one-mark sized k o c)
+  pub mark-put : 2 * p .links ≤ length marks → (k c : ℕ) → markPut (p .links) (p .lower) (p .higher) marks v k c ≡ putMarks p marks v (marked (marksOf p marks v) k c)
+  mark-put sized k c = bool-cases (isOwn p v k)
+      (λ o. put-own p marks v k c o ∙ one-mark sized k o c ∙ ap (putMarks p marks v) (sym (marked-at (marksOf p marks v) k c (λ e. omega (arith, own-below p v k o, a .linksOk)))))
+      (λ o. put-other p marks v k c o ∙ agree (marked (marksOf p marks v) k c) marks refl (λ d b. new-cases p v (marked (marksOf p marks v) k c) d (getD marks d 0) (getD marks d 0)
+      (λ l f. own-is d l f ∙ sym (marked-other (marksOf p marks v) k c (linkOf d)
+      (λ q. true≢false (sym (subst (λ u. isOwn p u (linkOf d) ≡ true) f (from-own p a d l)) ∙ ap (isOwn p v) (sym q) ∙ o))))
+      (λ f. refl)))

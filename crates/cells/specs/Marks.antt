@@ -3,10 +3,8 @@ use Prim.Native.Nat.{ℕ}
 use mathlib.Core.Bool.{cond}
 use mathlib.Core.List.{List}
 use lib.ListN.{set}
-use lib.Dec.{eqb}
-use Rattle.base.specs.None.{none}
-use Rattle.search.specs.Own.{endIn}
+use Rattle.search.specs.Own.{isOwn, endIn}
 
--- v's mark for its link k becomes c; nothing is changed where k is none
-unfoldable pub markPut : List ℕ → List ℕ → ℕ → ℕ → ℕ → List ℕ
-markPut lower marks v k c = cond (eqb k none) marks (set marks (endIn lower v k) c)
+-- v's mark for its link k becomes c; nothing is changed where k is none, or no link of v
+unfoldable pub markPut : ℕ → List ℕ → List ℕ → List ℕ → ℕ → ℕ → ℕ → List ℕ
+markPut links lower higher marks v k c = cond (isOwn links lower higher v k) (set marks (endIn lower v k) c) marks

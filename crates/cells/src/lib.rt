@@ -1,9 +1,8 @@
 // The cells and marks of a field: one module's values read and written, one mark written.
 use node::Node;
 use search;
-ghost use Prim.Native.Nat.{_*_, _<_};
+ghost use Prim.Native.Nat.{_*_, _<_, _≤_};
 ghost use mathlib.Core.Path.{_≡_};
-ghost use mathlib.Core.Logic.{_⊎_};
 ghost use Rattle.field.specs.State.{nodeIn, putNode};
 ghost use Rattle.cells.specs.Marks.{markPut};
 
@@ -43,12 +42,23 @@ pub fn put_node(cells: &mut [u16; 1728], v: u16, n: Node)
     cells[c + 8] = n.halted;
 }
 
-// Module v's mark for its link k becomes c, unless k is none.
-pub fn put_mark(lower: &[u16; 600], marks: &mut [u8; 1200], v: u16, k: u16, c: u8)
-    requires { ⌜ (k < 600) ⊎ (k ≡ 65535) ⌝ }
-    ensures { λ _. ⌜ now (marks .exit) ≡ markPut (now (lower .entry)) (now (marks .entry)) v k c ⌝ }
+// Module v's mark for its link k becomes c, if k is a link of v.
+pub fn put_mark<'a>(
+    links: u16,
+    lower: &'a [u16; 600],
+    higher: &'a [u16; 600],
+    marks: &mut [u8; 1200],
+    v: u16,
+    k: u16,
+    c: u8,
+)
+    requires { ⌜ links ≤ 600 ⌝ }
+    ensures { λ _. ⌜ now (marks .exit) ≡ markPut links (now (lower .entry)) (now (higher .entry)) (now (marks .entry)) v k c ⌝ }
 {
-    if k == search::NONE {
+    if links <= k {
+        return;
+    }
+    if !search::owns(links, lower, higher, v, k) {
         return;
     }
     let i = search::end_at(lower, v, k) as usize;
