@@ -1,0 +1,2 @@
+// Rounds over a field in lent arrays: the hand-overs.
+pub mod air;
