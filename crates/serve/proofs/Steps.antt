@@ -1,0 +1,204 @@
+-- The two steps, outcome by outcome, as the code meets them.
+use Prim.Native.Nat.{ℕ, _*_, _≤_, _<_}
+use native.Mathlib.Omega.{arith}
+use mathlib.Core.Path.{_≡_, refl, sym, ap, subst, _∙_}
+use mathlib.Core.Logic.{_≢_, _⊎_, inl, inr, ⊎-elim}
+use mathlib.Core.Bool.{true, cond, and-eq-true-iff}
+use mathlib.Core.List.{List, []}
+use lib.ListN.{length, getD, take}
+use lib.Seq.{length-take-le, getD-take}
+use lib.Dec.{eqb}
+use borrow.Author.Tests.{le-leb, lt-leb, eq-eqb, ne-eqb}
+use Rattle.base.specs.Cond.{bool-cases}
+use Rattle.base.specs.Loop.{After, refused}
+use Rattle.base.specs.Keep.{First, first-passes, first-out, place, place-first}
+use Rattle.base.specs.Pool.{All, All-here}
+use Rattle.message.specs.Msg.{Msg, change, none}
+use Rattle.message.specs.Listed.{listed}
+use Rattle.message.proofs.Listed.{Means, means}
+use Rattle.word.specs.Word.{headerIn, carriedIn, linkIn, laidOut, shaped}
+use Rattle.plan.specs.declared.Plan.{Plan}
+use Rattle.node.specs.declared.Node.{Node}
+use Rattle.node.specs.Work.{Own, Work, Send, BACK, ASLEEP, TAKEN, earliest, every}
+use Rattle.node.specs.Rules.{wakeOn, wakes}
+use Rattle.act.specs.declared.Act.{Act}
+use Rattle.act.specs.Act.{workOf, Formed}
+use Rattle.reply.specs.Copies.{copiesIn}
+use Rattle.respond.specs.Fit.{Fit}
+use Rattle.field.specs.Edges.{isOwn, ownOf, linkOf, limitOf, ceilingOf}
+use Rattle.field.specs.State.{State, nodeIn, nodeAt, markAt, msgIn}
+use Rattle.field.specs.Step.{inQueue, without, settle, backOf, wakeWork, wake, serveWork, serveAt, serve}
+use Rattle.field.specs.Valid.{carriedFits, linkFits, levelFits, wordFits}
+use Rattle.fieldlaws.specs.Lists.{NodeOk, WorkOk}
+use Rattle.fieldlaws.specs.Keeps.{wake-ok, served-own, serve-ok}
+use Rattle.serve.specs.declared.Done.{Done}
+use Rattle.serve.specs.Lent.{stateOf, Ready, Stepped, Settles, workBy, settledBy}
+use Rattle.serve.proofs.Words.{past-length}
+use Rattle.serve.proofs.Outs.{first-ok, second-ok}
+
+-- ---- the definitions, by their outcomes
+
+module _ (p : Plan) (v : ℕ) (s : State) where
+  wake-41 : p .modules ≤ v → wake p v s ≡ refused 41 s
+  unfolding wake
+  wake-41 h = rw (le-leb _ _ h)
+
+  serve-41 : p .modules ≤ v → serve p v s ≡ refused 41 s
+  unfolding serve
+  serve-41 h = rw (le-leb _ _ h)
+
+  module _ (l : v < p .modules) where
+    wake-43 : nodeAt s v .status ≢ ASLEEP → wake p v s ≡ refused 43 s
+    unfolding wake
+    wake-43 h = rw (lt-leb _ _ l, ne-eqb (nodeAt s v .status) ASLEEP h)
+
+    wake-on : nodeAt s v .status ≡ ASLEEP → wake p v s ≡ settle p v (wakeWork p v s) s (s .words) []
+    unfolding wake
+    wake-on h = rw (lt-leb _ _ l, eq-eqb (nodeAt s v .status) ASLEEP h)
+
+    serve-45 : length (s .words) ≤ place (inQueue p v) (s .words) → serve p v s ≡ refused 45 s
+    unfolding serve
+    serve-45 h = rw (lt-leb _ _ l, le-leb _ _ h)
+
+    serve-on : place (inQueue p v) (s .words) < length (s .words) → serve p v s ≡ serveAt p v (place (inQueue p v) (s .words)) s
+    unfolding serve
+    serve-on h = rw (lt-leb _ _ l, lt-leb _ _ h)
+
+-- a wakeup is taken
+wake-taken : (o : Own) (n : Node) (m : ℕ → ℕ) → wakes o n m .answer ≡ TAKEN
+unfolding wakeOn
+wake-taken o n m = bool-cases (eqb (earliest o every (o.edges)) none) (λ e. rw e refl) (λ e. rw e refl)
+
+not-put-back : (w : Work) (x : ℕ) → w .answer ≡ TAKEN → backOf w x ≡ []
+unfolding backOf
+not-put-back w x e = rw e
+
+-- what a word that passes 31 says
+word-listed : (p : Plan) (x : ℕ) → wordFits p x ≡ true → listed (headerIn x) (carriedIn x) ≡ true
+unfolding wordFits
+word-listed p x e =
+    let a = and-eq-true-iff _ (levelFits p x) .0 e in
+    let b = and-eq-true-iff _ (linkFits p x) .0 (a .0) in
+    let c = and-eq-true-iff (laidOut x) (carriedFits p x) .0 (b .0) in
+    and-eq-true-iff (shaped x) (listed (headerIn x) (carriedIn x)) .0 (c .0) .1
+
+-- ---- in lent arrays
+
+-- the ceiling, as the code works it out
+pub settles-as : {links n sent ceiling M v i : ℕ} {marks lent : List ℕ} {a : Act} → ceiling ≡ M → Settles links marks lent n sent M v i a → Settles links marks lent n sent ceiling v i a
+settles-as e h = rw e h
+
+module _ (p : Plan) (cells marks lent : List ℕ) (n sent v : ℕ) (r : Ready p cells marks lent n sent) where
+  abbrev before : State
+  before = stateOf cells marks lent n sent
+
+  -- a refused step alters nothing
+  abbrev left : (State → After State) → ℕ → Type 0
+  left g answer = Stepped g cells marks lent n sent (record { answer = answer; waiting = n; sent = sent }) cells marks lent
+
+  stays : (g : State → After State) (answer : ℕ) → g before ≡ refused answer before → left g answer
+  stays g answer e = record { is = sym e; laid = r .laid }
+
+  many : length (take n lent) ≡ n
+  many = length-take-le n lent (r .laid .within)
+
+  -- what settling asks, of a response that stays within the lists
+  settles : (i j : ℕ) (msg : Msg) (a : Act) → v < p .modules → Formed a → WorkOk (ownOf p v) (limitOf p) (workBy p v j msg a before) → (i < n) ⊎ (a .answer ≢ BACK)
+      → Settles (p .links) marks lent n sent (ceilingOf p) v i a
+  settles i j msg a l f ok s = record {
+    few = r .plan .linksOk;
+    node = omega (arith, r .plan .modulesOk);
+    sized = r .sound .sized .marks;
+    laid = r .laid;
+    waiting = omega (arith, r .sound .fits .waiting, many);
+    ceiled = r .sound .fits .ceiling;
+    room = r .room;
+    served = s;
+    first = first-ok p (r .plan) v (markAt p before v) (copiesIn (ownOf p v) j msg (markAt p before v)) a f (ok .sends);
+    second = second-ok p (r .plan) v (markAt p before v) (copiesIn (ownOf p v) j msg (markAt p before v)) a f (ok .sends);
+  }
+
+  pub waking-41 : p .modules ≤ v → left (wake p v) 41
+  waking-41 h = stays (wake p v) 41 (wake-41 p v before h)
+
+  pub serving-41 : p .modules ≤ v → left (serve p v) 41
+  serving-41 h = stays (serve p v) 41 (serve-41 p v before h)
+
+  module _ (l : v < p .modules) where
+    pub waking-43 : (x : Node) → x ≡ nodeIn cells (v * 9) → x .status ≢ 0 → left (wake p v) 43
+    waking-43 x e h = stays (wake p v) 43 (wake-43 p v before l (λ q. h (ap (λ (y : Node). y .status) e ∙ q)))
+
+    module _ (x : Node) (ex : x ≡ nodeIn cells (v * 9)) (h : x .status ≡ 0) (a : Act) (f : Formed a)
+        (e : (cs : List Send) → workOf (markAt p before v) cs a ≡ wakes (ownOf p v) x (markAt p before v)) where
+      is-wake : workBy p v 0 change a before ≡ wakeWork p v before
+      is-wake = e _ ∙ ap (λ (y : Node). wakes (ownOf p v) y (markAt p before v)) ex
+
+      answers : a .answer ≡ TAKEN
+      answers = ap (λ (w : Work). w .answer) (e []) ∙ wake-taken (ownOf p v) x (markAt p before v)
+
+      pub waking-settles : Settles (p .links) marks lent n sent (ceilingOf p) v n a
+      waking-settles =
+          settles n 0 change a l f (subst (WorkOk (ownOf p v) (limitOf p)) (sym is-wake) (wake-ok p (r .plan) before (r .sound) v l)) (inr (λ q. omega (arith, answers)))
+
+      pub waking : (d : Done) (cells′ marks′ lent′ : List ℕ) → Stepped (settledBy p v n 0 0 change a) cells marks lent n sent d cells′ marks′ lent′
+          → Stepped (wake p v) cells marks lent n sent d cells′ marks′ lent′
+      waking d cells′ marks′ lent′ t = record {
+        is = t .is
+            ∙ ap (λ (b : List ℕ). settle p v (workBy p v 0 change a before) before (without n (take n lent)) b) (not-put-back (workBy p v 0 change a before) 0 answers)
+            ∙ ap (λ (ws : List ℕ). settle p v (workBy p v 0 change a before) before ws []) (past-length n (take n lent) (omega (arith, many)))
+            ∙ ap (λ (w : Work). settle p v w before (take n lent) []) is-wake
+            ∙ sym (wake-on p v before l (ap (λ (y : Node). y .status) (sym ex) ∙ h));
+        laid = t .laid;
+      }
+
+    -- i is the place of the first word of v's queue
+    module _ (i : ℕ) (ei : i ≡ place (inQueue p v) (take n lent)) where
+      pub serving-45 : n ≤ i → left (serve p v) 45
+      serving-45 h = stays (serve p v) 45 (serve-45 p v before l (omega (arith, many)))
+
+      module _ (k : i < n) (x : ℕ) (ex : x ≡ getD lent i 0) where
+        read : getD (take n lent) (place (inQueue p v) (take n lent)) 0 ≡ x
+        read = ap (λ (y : ℕ). getD (take n lent) y 0) (sym ei) ∙ getD-take n lent i 0 k ∙ sym ex
+
+        first : First (inQueue p v) (take n lent) x (without i (take n lent))
+        first =
+            subst (λ (y : ℕ). First (inQueue p v) (take n lent) x (without y (take n lent))) (sym ei)
+            (subst (λ (y : ℕ). First (inQueue p v) (take n lent) y (without (place (inQueue p v) (take n lent)) (take n lent))) read
+            (place-first (inQueue p v) (take n lent) 0 (omega (arith, many))))
+
+        fits : wordFits p x ≡ true
+        fits = All-here (first-out first) (r .sound .fits .words)
+
+        pub serving-listed : listed (headerIn x) (carriedIn x) ≡ true
+        serving-listed = word-listed p x fits
+
+        pub serving-means : Means (headerIn x) (carriedIn x) (msgIn x)
+        serving-means = means (headerIn x) (carriedIn x) serving-listed
+
+        pub serving-fit : Fit (p .links) (p .lower) (p .higher) v (linkOf (linkIn x)) (nodeIn cells (v * 9))
+        serving-fit =
+            let o = r .sound .fits .nodes v l in
+            record {
+              small = r .plan .linksOk;
+              mine = served-own p (r .plan) before (r .sound) v x fits (first-passes first);
+              best = o .best;
+              weight = ⊎-elim (λ e. inr e) (λ b. inl (omega (arith, r .plan .linksOk))) (o .weight);
+            }
+
+        module _ (a : Act) (f : Formed a) (e : workBy p v (linkOf (linkIn x)) (msgIn x) a before ≡ serveWork p v x before) where
+          pub serving-settles : Settles (p .links) marks lent n sent (ceilingOf p) v i a
+          serving-settles =
+              settles i (linkOf (linkIn x)) (msgIn x) a l f
+              (subst (WorkOk (ownOf p v) (limitOf p)) (sym e) (serve-ok p (r .plan) before (r .sound) v x l fits (first-passes first))) (inl k)
+
+          pub serving : (j : ℕ) → j ≡ linkOf (linkIn x) → (d : Done) (cells′ marks′ lent′ : List ℕ) → Stepped (settledBy p v i x j (msgIn x) a) cells marks lent n sent d cells′ marks′ lent′
+              → Stepped (serve p v) cells marks lent n sent d cells′ marks′ lent′
+          serving j ej d cells′ marks′ lent′ t = record {
+            is = t .is ∙ ap (λ (y : ℕ). settledBy p v i x y (msgIn x) a before) ej ∙ ap (λ (w : Work). settle p v w before (without i (take n lent)) (backOf w x)) e ∙ sym (serve-on p v before l (omega (arith, many)) ∙ there);
+            laid = t .laid;
+          }
+            where
+              there : serveAt p v (place (inQueue p v) (take n lent)) before ≡ settle p v (serveWork p v x before) before (without i (take n lent)) (backOf (serveWork p v x before) x)
+              there =
+                  ap (λ (y : ℕ). settle p v (serveWork p v y before) before (without (place (inQueue p v) (take n lent)) (take n lent)) (backOf (serveWork p v y before) y)) read
+                  ∙ ap (λ (y : ℕ). settle p v (serveWork p v x before) before (without y (take n lent)) (backOf (serveWork p v x before) x)) (sym ei)

@@ -1,0 +1,72 @@
+use mathlib.Core.Path.{ap}
+use borrow.Author.Needs.{needs}
+use Rattle.field.specs.Edges.{linkOf}
+use Rattle.serve.proofs.Parts.{says, lists, fits-as, responds-as}
+use Rattle.serve.proofs.response.Statement.{statement}
+use Rattle.serve.proofs.response.Tie as tie
+
+floor-log2-requires : tie.Need-floor-log2-requires
+floor-log2-requires c κs = search needs
+
+link-requires : tie.Need-link-requires
+link-requires c κs = search needs
+
+header-requires : tie.Need-header-requires
+header-requires c κs = search needs
+
+kind-requires : tie.Need-kind-requires
+kind-requires c κs = search needs
+
+level-requires : tie.Need-level-requires
+level-requires c κs = search needs
+
+find-requires : tie.Need-find-requires
+find-requires c κs = search needs
+
+carried-requires : tie.Need-carried-requires
+carried-requires c κs = search needs
+
+load-requires : tie.Need-load-requires
+load-requires c κs = search needs
+
+respond-requires : tie.Need-respond-requires
+respond-requires c κs =
+    let k = c .before in
+    let f = k .before in
+    let l = f .before in
+    let d = l .before in
+    let h = d .before in
+    let i = h .before in
+    let s = i .before .before in (
+      fits-as _ _ _ _ (ap linkOf (i .link .ensures)) (c .load .ensures) (s .pre .1),
+      lists _ _ _ _ _ _ (h .header .ensures) (d .kind .ensures) (l .level .ensures) (f .find .ensures) (k .carried .ensures) (s .pre .2),
+    )
+
+returns : tie.Need-returns
+returns c =
+    let n = c .before in
+    let k = n .before in
+    let f = k .before in
+    let l = f .before in
+    let d = l .before in
+    let h = d .before in
+    let i = h .before in (
+      λ lent m sent. responds-as _ _ _ (i .before .floor-log2 .ensures) (ap linkOf (i .link .ensures))
+          (says _ _ _ _ _ _ (h .header .ensures) (d .kind .ensures) (l .level .ensures) (f .find .ensures) (k .carried .ensures)) (n .load .ensures) (c .respond .ensures .0),
+      c .respond .ensures .1,
+    )
+
+pub response-spec : {M : Type 1} → statement M
+response-spec =
+    tie.close
+    (tie.spec
+    floor-log2-requires
+    link-requires
+    header-requires
+    kind-requires
+    level-requires
+    find-requires
+    carried-requires
+    load-requires
+    respond-requires
+    returns)

@@ -1,0 +1,25 @@
+use borrow.Author.Needs.{needs}
+use Rattle.serve.proofs.Words.{none-out, one-out}
+use Rattle.serve.proofs.take_out.Statement.{statement}
+use Rattle.serve.proofs.take_out.Tie as tie
+
+returns : tie.Need-returns
+returns c = none-out _ _ _ (c .before .before .pre) (c .if1 .taken)
+
+leave-requires : tie.Need-leave-requires
+leave-requires c κs = search needs
+
+sub-result : tie.Need-sub-result
+sub-result c = search needs
+
+same-length : tie.Need-same-length
+same-length c = search needs
+
+returns-2 : tie.Need-returns-2
+returns-2 c =
+    let t = c .before .before in
+    let e = t .before .before in
+    one-out _ _ _ (e .before .before .pre) (e .if1 .left) _ (t .leave .ensures)
+
+pub take-out-spec : {M : Type 1} → statement M
+take-out-spec = tie.close (tie.spec returns leave-requires sub-result same-length returns-2)
