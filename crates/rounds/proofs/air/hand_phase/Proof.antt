@@ -9,14 +9,14 @@ use Rattle.base.specs.LoopLaws.{loop-zero, on, off, over}
 use Rattle.plan.specs.declared.Plan.{Plan}
 use Rattle.calls.specs.Rounds.{handTurn}
 use Rattle.store.specs.Laid.{Laid}
-use Rattle.rounds.specs.Over.{at}
+use Rattle.serve.specs.Lent.{stateOf}
 use Rattle.rounds.proofs.air.hand_phase.Statement.{statement}
 use Rattle.rounds.proofs.air.hand_phase.Tie as tie
 
 abbrev Inv-loop : tie.InvT-loop
 Inv-loop lent₀ n links d₀ lent d =
     (d ≤ 2 * links) × (length lent ≡ length lent₀) × Laid lent n
-    × ((p : Plan) (cells marks : List ℕ) (sent : ℕ) → links ≡ p .links → loop d (handTurn p) (at cells marks lent₀ n sent) ≡ taken (at cells marks lent n sent))
+    × ((p : Plan) (cells marks : List ℕ) (sent : ℕ) → links ≡ p .links → loop d (handTurn p) (stateOf cells marks lent₀ n sent) ≡ taken (stateOf cells marks lent n sent))
 
 abbrev μ-loop : tie.MeasureT-loop
 μ-loop lent₀ n links d₀ lent d = 2 * links - d

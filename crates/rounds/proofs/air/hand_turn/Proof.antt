@@ -1,5 +1,4 @@
 use Prim.Native.Nat.{ℕ, _-_, _≤_}
-use native.Mathlib.Omega.{arith}
 use mathlib.Core.Path.{_≡_, refl, sym, _∙_}
 use mathlib.Core.List.{List}
 use lib.ListN.{length}
@@ -10,7 +9,7 @@ use Rattle.base.specs.LoopLaws.{loop-zero, on, off, over}
 use Rattle.plan.specs.declared.Plan.{Plan}
 use Rattle.field.specs.Step.{hand}
 use Rattle.store.specs.Laid.{Laid}
-use Rattle.rounds.specs.Over.{at}
+use Rattle.serve.specs.Lent.{stateOf}
 use Rattle.rounds.proofs.Turns as T
 use Rattle.rounds.proofs.air.hand_turn.Statement.{statement}
 use Rattle.rounds.proofs.air.hand_turn.Tie as tie
@@ -18,7 +17,7 @@ use Rattle.rounds.proofs.air.hand_turn.Tie as tie
 abbrev Inv-loop : tie.InvT-loop
 Inv-loop lent₀ n links d q j₀ lent j =
     (j ≤ q) × (length lent ≡ length lent₀) × Laid lent n
-    × ((p : Plan) (cells marks : List ℕ) (sent : ℕ) → links ≡ p .links → loop j (λ i. hand p d) (at cells marks lent₀ n sent) ≡ taken (at cells marks lent n sent))
+    × ((p : Plan) (cells marks : List ℕ) (sent : ℕ) → links ≡ p .links → loop j (λ i. hand p d) (stateOf cells marks lent₀ n sent) ≡ taken (stateOf cells marks lent n sent))
 
 abbrev μ-loop : tie.MeasureT-loop
 μ-loop lent₀ n links d q j₀ lent j = q - j

@@ -1,0 +1,111 @@
+// The second half of a round: "then lets each module in number order serve as many as its queue then held".
+use serve;
+use serve::Done;
+use store;
+ghost use Rattle.plan.specs.Links.{planOf};
+ghost use Rattle.calls.specs.Rounds.{serveTurn, servePhase};
+ghost use Rattle.serve.specs.Lent.{Ready, Stepped};
+
+// Module v serves as many as its queue holds, where n words wait.
+fn serve_turn<'a>(
+    modules: u16,
+    links: u16,
+    lower: &'a [u16; 600],
+    higher: &'a [u16; 600],
+    near: &'a [u16; 600],
+    far: &'a [u16; 600],
+    cells: &mut [u16; 1728],
+    marks: &mut [u8; 1200],
+    lent: &mut [u64],
+    n: usize,
+    sent: u32,
+    v: u16,
+) -> Done
+    requires { ⌜ Ready (planOf modules links (now lower) (now higher) (now near) (now far)) (now cells) (now marks) (now lent) n sent ⌝ }
+    ensures { λ r. ⌜ Stepped (serveTurn (planOf modules links (now (lower .entry)) (now (higher .entry)) (now (near .entry)) (now (far .entry))) v)
+        (now (cells .entry)) (now (marks .entry)) (now (lent .entry)) n sent r (now (cells .exit)) (now (marks .exit)) (now (lent .exit))
+        × Ready (planOf modules links (now (lower .entry)) (now (higher .entry)) (now (near .entry)) (now (far .entry))) (now (cells .exit)) (now (marks .exit)) (now (lent .exit)) (r .waiting) (r .sent) ⌝ }
+{
+    let q = store::many_in_queue(lower, higher, &lent[..n], v);
+    let mut m = n;
+    let mut t = sent;
+    let mut j: usize = 0;
+    while j < q {
+        let s = serve::serve(
+            modules,
+            links,
+            lower,
+            higher,
+            near,
+            far,
+            cells,
+            marks,
+            lent,
+            m,
+            t,
+            v,
+        );
+        if s.answer != 0 {
+            return s;
+        }
+        m = s.waiting;
+        t = s.sent;
+        j += 1;
+    }
+    Done {
+        answer: 0,
+        waiting: m,
+        sent: t,
+    }
+}
+
+// The turns of all modules.
+pub fn serve_phase<'a>(
+    modules: u16,
+    links: u16,
+    lower: &'a [u16; 600],
+    higher: &'a [u16; 600],
+    near: &'a [u16; 600],
+    far: &'a [u16; 600],
+    cells: &mut [u16; 1728],
+    marks: &mut [u8; 1200],
+    lent: &mut [u64],
+    n: usize,
+    sent: u32,
+) -> Done
+    requires { ⌜ Ready (planOf modules links (now lower) (now higher) (now near) (now far)) (now cells) (now marks) (now lent) n sent ⌝ }
+    ensures { λ r. ⌜ Stepped (servePhase (planOf modules links (now (lower .entry)) (now (higher .entry)) (now (near .entry)) (now (far .entry))))
+        (now (cells .entry)) (now (marks .entry)) (now (lent .entry)) n sent r (now (cells .exit)) (now (marks .exit)) (now (lent .exit))
+        × Ready (planOf modules links (now (lower .entry)) (now (higher .entry)) (now (near .entry)) (now (far .entry))) (now (cells .exit)) (now (marks .exit)) (now (lent .exit)) (r .waiting) (r .sent) ⌝ }
+{
+    let mut m = n;
+    let mut t = sent;
+    let mut v: u16 = 0;
+    while v < modules {
+        let s = serve_turn(
+            modules,
+            links,
+            lower,
+            higher,
+            near,
+            far,
+            cells,
+            marks,
+            lent,
+            m,
+            t,
+            v,
+        );
+        if s.answer != 0 {
+            return s;
+        }
+        m = s.waiting;
+        t = s.sent;
+        v += 1;
+    }
+    Done {
+        answer: 0,
+        waiting: m,
+        sent: t,
+    }
+}
