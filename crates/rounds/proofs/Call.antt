@@ -47,7 +47,7 @@ module _ (f : Field) (lent : List ℕ) (c : Checked) where
   run-31 limit e n = run-refused h limit (sym (ap (λ (x : Checked). x .ok) e) ∙ not-true _ n)
 
   module _ (full : Full f) (e : c ≡ checkOf h) (yes : not (c .ok) ≡ false) where
-    passes : valid h ≡ true
+    pub passes : valid h ≡ true
     passes = sym (ap (λ (x : Checked). x .ok) e) ∙ not-false _ yes
 
     live : Live h
@@ -63,7 +63,7 @@ module _ (f : Field) (lent : List ℕ) (c : Checked) where
     waits : take (c .waiting) lent ≡ H.stateOf h .words
     waits = front lent (c .waiting) (ap (λ (x : Checked). x .waiting) e)
 
-    starts : stateOf (f .cells) (f .marks) lent (c .waiting) (f .sent) ≡ H.stateOf h
+    pub starts : stateOf (f .cells) (f .marks) lent (c .waiting) (f .sent) ≡ H.stateOf h
     starts = ap (λ (w : List ℕ). record { cells = f .cells; marks = f .marks; words = w; sent = f .sent }) waits
 
     pub run-ready : Ready (f .plan) (f .cells) (f .marks) lent (c .waiting) (f .sent)

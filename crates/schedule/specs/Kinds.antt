@@ -1,15 +1,16 @@
 -- The last test of a schedule, and the outcomes of the whole check.
 use Prim.Native.Nat.{ℕ, _+_, _-_, _*_, _/_, _%_, _≤_, _<_}
+use native.Mathlib.Nat.{div-add-mod'}
 use native.Mathlib.Omega.{arith}
 use mathlib.Core.Path.{_≡_, refl, sym, ap, _∙_}
 use mathlib.Core.Logic.{_≢_}
-use mathlib.Core.Bool.{Bool, true, false, not, cond, _&&_, true≢false}
+use mathlib.Core.Bool.{Bool, true, false, not, cond, _&&_, true≢false, and-eq-true-iff}
 use mathlib.Core.List.{List}
 use lib.ListN.{length, getD}
 use lib.Dec.{eqb, ltb, leb}
-use borrow.Author.Tests.{lt-ltb, le-ltb, le-leb, lt-leb, eq-eqb, ne-eqb}
+use borrow.Author.Tests.{lt-ltb, le-ltb, le-leb, lt-leb, eq-eqb, ne-eqb, eqb-true, not-false}
 use Rattle.int16.specs.Int16.{at16}
-use Rattle.base.specs.Cond.{bool-cases}
+use Rattle.base.specs.Cond.{bool-cases, ltb-cases}
 use Rattle.base.specs.Test.{every, every-all, all-every}
 use Rattle.calls.specs.Schedule.{stepsIn, kindOf, lengthFits, kindListed, scheduleRefusal}
 
@@ -57,3 +58,23 @@ module _ (s : List ℕ) where
 -- a number above 3 is no kind
 pub unlisted : (k : ℕ) → 4 ≤ k → false ≡ kindListed k
 unlisted k h = simp (le-leb 1 k (omega arith), lt-leb k 3 (omega arith))
+
+-- what a schedule that is taken says of its length: each step has its three bytes
+pub taken-size : (s : List ℕ) → scheduleRefusal s ≡ 0 → (3 ≤ length s) × (stepsIn s * 3 + 3 ≡ length s)
+unfolding scheduleRefusal
+taken-size s = ltb-cases (length s) 3 (λ b. _≡_ {A = ℕ} (cond b 51 (cond (not (eqb (getD s 0 0) 1)) 52 (cond (not (lengthFits s)) 53 (cond (not (every (stepsIn s) (λ i. kindListed (kindOf s i)))) 54 0)))) 0 → (3 ≤ length s) × (stepsIn s * 3 + 3 ≡ length s))
+    (λ l e. absurd (never 51 (omega arith) e))
+    (λ l. bool-cases (not (eqb (getD s 0 0) 1))
+    (λ v. rw v (λ e. absurd (never 52 (omega arith) e)))
+    (λ v. rw v (bool-cases (not (lengthFits s)) (λ w. rw w (λ e. absurd (never 53 (omega arith) e))) (λ w. rw w (λ e. (l, size l (not-false _ w)))))))
+  where
+    never : (n : ℕ) → 1 ≤ n → n ≡ 0 → ⊥
+    never n l e = omega arith
+
+    size : 3 ≤ length s → lengthFits s ≡ true → stepsIn s * 3 + 3 ≡ length s
+    size l f =
+        let t = and-eq-true-iff (eqb (at16 s 1 + 3) (length s)) (eqb (at16 s 1 % 3) 0) .0 f in
+        let a = eqb-true (at16 s 1 + 3) (length s) (t .0) in
+        let b = eqb-true (at16 s 1 % 3) 0 (t .1) in
+        let q : stepsIn s ≡ at16 s 1 / 3 = ap (λ (x : ℕ). x / 3) (omega arith) in
+        omega (arith, div-add-mod' (at16 s 1) 3)

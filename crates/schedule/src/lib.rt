@@ -19,7 +19,7 @@ fn is_kind(kind: u8) -> bool
 
 // Step i's kind.
 pub fn kind(s: &[u8], i: usize) -> u8
-    requires { ⌜ (i < 21846) × (5 + 3 * i < length (now s)) ⌝ }
+    requires { ⌜ 5 + 3 * i < length (now s) ⌝ }
     ensures { λ r. ⌜ r ≡ kindOf (now (s .entry)) i ⌝ }
 {
     s[3 + 3 * i]
@@ -27,7 +27,7 @@ pub fn kind(s: &[u8], i: usize) -> u8
 
 // Step i's number.
 pub fn number(s: &[u8], i: usize) -> u16
-    requires { ⌜ (i < 21846) × (5 + 3 * i < length (now s)) ⌝ }
+    requires { ⌜ 5 + 3 * i < length (now s) ⌝ }
     ensures { λ r. ⌜ r ≡ numberOf (now (s .entry)) i ⌝ }
 {
     int16::at(s, 4 + 3 * i)
@@ -35,7 +35,7 @@ pub fn number(s: &[u8], i: usize) -> u16
 
 // 54 if one of the n steps has a kind that is not listed, else 0.
 fn kinds(s: &[u8], n: usize) -> u32
-    requires { ⌜ (n < 21846) × (2 + 3 * n < length (now s)) ⌝ }
+    requires { ⌜ 2 + 3 * n < length (now s) ⌝ }
     ensures { λ r. ⌜ r ≡ kindsFrom (now (s .entry)) n ⌝ }
 {
     let mut i: usize = 0;
