@@ -1,0 +1,20 @@
+use mathlib.Core.Path.{sym, _∙_}
+use borrow.Author.Needs.{needs}
+use borrow.Author.Tests.{eq-eqb, ne-eqb}
+use Rattle.reader.proofs.place_after.Statement.{statement}
+use Rattle.reader.proofs.place_after.Tie as tie
+
+left-from-requires : tie.Need-left-from-requires
+left-from-requires c κs = search needs
+
+returns : tie.Need-returns
+returns c = simp (eq-eqb _ _ (sym (c .before .left-from .ensures) ∙ c .if1 .taken))
+
+add-result : tie.Need-add-result
+add-result c = search needs
+
+returns-2 : tie.Need-returns-2
+returns-2 c = simp (ne-eqb _ _ (λ z. c .if1 .left (c .before .left-from .ensures ∙ z)))
+
+pub place-after-spec : {M : Type 1} → statement M
+place-after-spec = tie.close (tie.spec left-from-requires returns add-result returns-2)
