@@ -18,11 +18,16 @@ archive() {
     fi
 }
 
-# A program over the oracle and the two archives: its name and its source.
+# A program over the oracle and archives: its name, its source, the exporting crates.
 linked() {
-    archive console
-    archive harness
+    name=$1 source=$2 libs=
+    shift 2
+    for crate in "$@"; do
+        archive "$crate"
+        libs="$libs -l static=$crate"
+    done
     oracle
-    rust --crate-name "$1" --extern oracle="$built/liboracle.rlib" "$2" -o "$built/$1" \
-        -L native=target/staticlib -l static=harness -l static=console
+    # shellcheck disable=SC2086
+    rust --crate-name "$name" --extern oracle="$built/liboracle.rlib" "$source" -o "$built/$name" \
+        -L native=target/staticlib $libs
 }

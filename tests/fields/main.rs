@@ -1,0 +1,246 @@
+//! Compares the compiled steps and runs with the oracle on fields that a host may make up: valid ones, most of which no
+//! run from setup reaches, spoilt ones, and for each item of 31 some in which this item alone is broken. Answer, cells,
+//! marks, sent count and all words must be the same. Prints counts, or panics at the first difference.
+
+mod items;
+mod library;
+
+use items::{broken, WAYS};
+use library::Record;
+use oracle::field::{waiting, Field, Word, HAND_OVER, SERVE, WAKE};
+use oracle::fields::{drawn, spoil};
+use oracle::rng::Rng;
+use oracle::schedule::{encode, Answer, Step};
+use oracle::{plans, rounds, schedule};
+use std::collections::BTreeMap;
+
+const VALID: usize = 6000;
+const STEPS: usize = 5;
+const SPOILT: usize = 6000;
+const RUNS: usize = 2000;
+const ALONE: usize = 60;
+
+/// How often each answer, each kind of step taken and each kind of message served came up.
+#[derive(Default)]
+struct Tally {
+    answers: BTreeMap<u32, usize>,
+    kinds: BTreeMap<u8, usize>,
+    served: BTreeMap<u8, usize>,
+    put_backs: usize,
+    ends: BTreeMap<u32, usize>,
+}
+
+impl Tally {
+    fn answered(&self, number: u32) -> usize {
+        self.answers.get(&number).copied().unwrap_or(0)
+    }
+}
+
+fn list<K: std::fmt::Display>(counts: &BTreeMap<K, usize>) -> String {
+    let each: Vec<String> = counts.iter().map(|(key, times)| format!("{key}:{times}")).collect();
+    each.join(" ")
+}
+
+/// A field and its words before and after a call of the oracle.
+struct Case<'a> {
+    field: &'a Field,
+    words: &'a [u64],
+    field_after: &'a Field,
+    words_after: &'a [u64],
+}
+
+const GUARD: usize = 8;
+
+/// Makes the compiled call on the field's record, with other words beside the lent ones and anything in the record's
+/// unused parts. It must answer and leave what the oracle did.
+fn same<T: PartialEq + std::fmt::Debug>(
+    rng: &mut Rng,
+    case: Case,
+    answer: T,
+    call: impl Fn(&mut Record, &mut [u64]) -> T,
+) {
+    let before = Record::of(case.field, rng);
+    let mut record = before.clone();
+    let beside: Vec<u64> = (0..2 * GUARD).map(|_| rng.next()).collect();
+    let around = |words: &[u64]| [&beside[..GUARD], words, &beside[GUARD..]].concat();
+    let mut lent = around(case.words);
+    let got = call(&mut record, &mut lent[GUARD..GUARD + case.words.len()]);
+    assert_eq!(got, answer, "the answer, for {:?} and words {:x?}", case.field, case.words);
+    let mut expected = before;
+    expected.put(case.field_after);
+    assert!(record == expected, "the record after {:?} and words {:x?}", case.field, case.words);
+    assert_eq!(lent, around(case.words_after), "the words, or those beside them, after {:?}", case.field);
+}
+
+/// One step on both sides; the oracle's outcome goes on.
+fn compare_step(rng: &mut Rng, tally: &mut Tally, field: &mut Field, words: &mut Vec<u64>, step: Step) -> u32 {
+    let (mut field_after, mut words_after) = (field.clone(), words.clone());
+    let outcome = field_after.step(&mut words_after, step.kind, step.number);
+    let answer = outcome.err().unwrap_or(0);
+    assert_eq!(answer == 31, !broken(field, words).is_empty(), "31 as its items say: {:?}", broken(field, words));
+    assert!(answer == 0 || field_after == *field && words_after == *words, "a refusal changes nothing");
+    let case = Case { field, words, field_after: &field_after, words_after: &words_after };
+    same(rng, case, answer, |record, words| record.step(words, step.kind, step.number));
+    *tally.answers.entry(answer).or_default() += 1;
+    if let Ok(done) = outcome {
+        *tally.kinds.entry(step.kind).or_default() += 1;
+        if let Some(word) = done.served {
+            *tally.served.entry(word.message.kind).or_default() += 1;
+            tally.put_backs += done.put_back as usize;
+        }
+    }
+    (*field, *words) = (field_after, words_after);
+    answer
+}
+
+/// A step; most of the time one for which there is a word or a module.
+fn some_step(rng: &mut Rng, field: &Field, words: &[u64]) -> Step {
+    let (n, l) = (field.plan.modules as usize, field.plan.links.len());
+    let word = match waiting(words) {
+        0 => None,
+        waiting => Word::unpack(words[rng.below(waiting)], 600).filter(|w| (w.directed as usize) < 2 * l),
+    };
+    let kind =
+        if rng.once_in(30) { rng.pick(&[0, 4, 5, 128, 255]) } else { rng.pick(&[WAKE, HAND_OVER, SERVE, SERVE]) };
+    let number = match (word, kind) {
+        _ if rng.once_in(20) => rng.pick(&[n, 2 * l, 192, 1200, 65535]) as u16,
+        (Some(word), HAND_OVER) if !rng.once_in(4) => word.directed,
+        (Some(word), SERVE) if !rng.once_in(4) => field.target(word.directed),
+        (_, HAND_OVER) => rng.below((2 * l).max(1)) as u16,
+        _ => rng.below(n.max(1)) as u16,
+    };
+    Step { kind, number }
+}
+
+fn some_field(rng: &mut Rng) -> (Field, Vec<u64>) {
+    let kind =
+        rng.pick(&["single", "path", "star", "ring", "complete", "small", "small", "small", "small", "medium", "full"]);
+    let plan = plans::good(rng, kind);
+    drawn(rng, &plan)
+}
+
+/// Valid fields, each with steps one after the other.
+fn valid_fields(rng: &mut Rng, tally: &mut Tally) {
+    for _ in 0..VALID {
+        let (mut field, mut words) = some_field(rng);
+        for _ in 0..STEPS {
+            let step = some_step(rng, &field, &words);
+            assert_ne!(compare_step(rng, tally, &mut field, &mut words, step), 31, "a drawn field is valid");
+        }
+    }
+}
+
+/// Fields with one value changed at random; how many of them are refused by 31.
+fn spoilt_fields(rng: &mut Rng, tally: &mut Tally) -> usize {
+    let mut refused = 0;
+    for _ in 0..SPOILT {
+        let (mut field, mut words) = some_field(rng);
+        let step = some_step(rng, &field, &words);
+        spoil(rng, &mut field, &mut words);
+        refused += (compare_step(rng, tally, &mut field, &mut words, step) == 31) as usize;
+    }
+    refused
+}
+
+/// A step that the field takes, if one of a few tries is.
+fn good_step(rng: &mut Rng, field: &Field, words: &[u64]) -> Step {
+    let takes = |step: &Step| field.clone().take(&mut words.to_vec(), step.kind, step.number).is_ok();
+    let tries: Vec<Step> = (0..8).map(|_| some_step(rng, field, words)).collect();
+    tries.iter().copied().find(takes).unwrap_or(tries[0])
+}
+
+/// Each way to break an item of 31: records in which this item alone is broken, each with a step that the sound field
+/// took. All are refused by 31 and left as they were.
+fn items_alone(rng: &mut Rng, tally: &mut Tally) -> BTreeMap<&'static str, usize> {
+    let mut counts = BTreeMap::new();
+    for (item, way, damage) in WAYS {
+        let (mut cases, mut tries) = (0, 0);
+        while cases < ALONE {
+            tries += 1;
+            assert!(tries < 200 * ALONE, "{item}, {way}: alone only {cases} times");
+            let (mut field, mut words) = some_field(rng);
+            let step = good_step(rng, &field, &words);
+            damage(rng, &mut field, &mut words);
+            if broken(&field, &words) == [item] {
+                let answer = compare_step(rng, tally, &mut field, &mut words, step);
+                assert_eq!(answer, 31, "{item}, {way}");
+                cases += 1;
+            }
+        }
+        *counts.entry(item).or_default() += cases;
+    }
+    counts
+}
+
+/// A schedule of some steps, now and then damaged.
+fn some_schedule(rng: &mut Rng, field: &Field, words: &[u64]) -> Vec<u8> {
+    let steps: Vec<Step> = (0..rng.below(8)).map(|_| some_step(rng, field, words)).collect();
+    let mut bytes = encode(&steps);
+    match rng.below(12) {
+        0 => bytes.truncate(rng.below(bytes.len())),
+        1 => bytes[rng.below(3)] ^= 1 << rng.below(8),
+        _ => {}
+    }
+    bytes
+}
+
+/// Runs of a schedule and runs of rounds, on valid and on spoilt fields.
+fn runs(rng: &mut Rng, tally: &mut Tally) {
+    for i in 0..RUNS {
+        let (mut field, mut words) = some_field(rng);
+        let bytes = some_schedule(rng, &field, &words);
+        let limit = rng.pick(&[0, 1, 2, 3, 20]);
+        if rng.once_in(6) {
+            spoil(rng, &mut field, &mut words);
+        }
+        let (mut field_after, mut words_after) = (field.clone(), words.clone());
+        let in_rounds = i % 2 == 0;
+        let Answer { done, refusal } = match in_rounds {
+            true => rounds::run(&mut field_after, &mut words_after, limit),
+            false => schedule::run(&mut field_after, &mut words_after, &bytes),
+        };
+        let refusal = refusal.unwrap_or(0);
+        *tally.ends.entry(refusal).or_default() += 1;
+        let case = Case { field: &field, words: &words, field_after: &field_after, words_after: &words_after };
+        let call = |record: &mut Record, words: &mut [u64]| match in_rounds {
+            true => record.rounds(words, limit),
+            false => record.run(words, &bytes),
+        };
+        same(rng, case, (done as usize, refusal), call);
+    }
+}
+
+fn main() {
+    let mut rng = Rng::new(31);
+    let mut tally = Tally::default();
+    valid_fields(&mut rng, &mut tally);
+    let refused = spoilt_fields(&mut rng, &mut tally);
+    let alone = items_alone(&mut rng, &mut tally);
+    runs(&mut rng, &mut tally);
+
+    for number in [0, 31, 32, 33, 41, 42, 43, 44, 45, 54] {
+        let times = tally.answered(number);
+        assert!(times >= 50, "answer {number} came only {times} times: {:?}", tally.answers);
+    }
+    for number in [0, 31, 32, 33, 41, 42, 43, 44, 45, 51, 52, 53, 54] {
+        assert!(tally.ends.contains_key(&number), "no run ended with {number}: {:?}", tally.ends);
+    }
+    for kind in 1..=3 {
+        assert!(tally.kinds.contains_key(&kind), "no step of kind {kind} was taken");
+    }
+    for kind in 1..=7 {
+        assert!(tally.served.contains_key(&kind), "no message of kind {kind} was served");
+    }
+    println!(
+        "fields: {VALID} valid with {STEPS} steps each, {SPOILT} spoilt ({refused} refused by 31) agree; answers {}",
+        list(&tally.answers)
+    );
+    println!(
+        "fields: steps taken, by kind {}; messages served, by kind {}, put back {}",
+        list(&tally.kinds),
+        list(&tally.served),
+        tally.put_backs
+    );
+    println!("fields: 31 by one item alone, all refused and unchanged: {}", list(&alone));
+    println!("fields: {RUNS} runs of rounds and of schedules agree; they end with {}", list(&tally.ends));
+}
