@@ -1,13 +1,110 @@
 //! The oracle's reporting program, and its comparison with another program that prints the same.
 //!
 //!   report                             prints what the reporting program prints for its standard input
-//!   report compare SEED COUNT CMD ..   runs CMD on the plans of samples/ and on COUNT drawn ones, some of them damaged
+//!   report compare SEED COUNT CMD ..   runs CMD on the plans of samples/, a plan of each number of modules, COUNT drawn
+//!                                      plans of all kinds, COUNT damaged ones and long inputs, and compares what it prints
 
 use oracle::compare::same_output;
-use oracle::plans;
+use oracle::kruskal;
+use oracle::plan::{self, Plan, MOST_MODULES};
+use oracle::plans::{self, KINDS, READINGS};
 use oracle::report::report;
 use oracle::rng::Rng;
+use std::collections::{BTreeMap, BTreeSet};
 use std::io::Read;
+
+struct Input {
+    name: String,
+    bytes: Vec<u8>,
+}
+
+fn input(name: impl Into<String>, bytes: Vec<u8>) -> Input {
+    Input { name: name.into(), bytes }
+}
+
+fn samples() -> Vec<Input> {
+    let files = std::fs::read_dir("samples").expect("run at the top of the repository");
+    let paths = files.map(|file| file.unwrap().path()).filter(|path| path.extension().is_some_and(|e| e == "plan"));
+    paths.map(|path| input(path.display().to_string(), std::fs::read(&path).unwrap())).collect()
+}
+
+/// A connected plan of each number of modules, the readings drawn in each way in turn.
+fn each_size(rng: &mut Rng) -> Vec<Input> {
+    let one = |n: u16| {
+        let pairs = plans::connected(rng, n, n as usize + n as usize % 7 * 30);
+        let readings = READINGS[n as usize % READINGS.len()];
+        input(format!("{n} modules"), plans::plan(rng, n, pairs, readings).encode())
+    };
+    (1..=MOST_MODULES).map(one).collect()
+}
+
+/// Inputs about as long as the longest plan, as long as a length can tell, and longer.
+fn long(rng: &mut Rng) -> Vec<Input> {
+    let head = |version: u8, n: u8, size: usize| {
+        let mut bytes = vec![version, 255, 255, 0, n, 0, 0];
+        bytes.resize(size, 0);
+        bytes
+    };
+    let full = plans::good(rng, "full").encode();
+    let behind = |count: usize| [full.clone(), vec![0; count]].concat();
+    vec![
+        input("the longest plan and a byte", behind(1)),
+        input("the longest plan and a link", behind(8)),
+        input("the longest plan and 100,000 bytes", behind(100_000)),
+        input("length 65535, no links", head(1, 1, 65538)),
+        input("length 65535, 193 modules", head(1, 193, 65538)),
+        input("length 65535 and a byte missing", head(1, 1, 65537)),
+        input("length 65535 and a byte behind", head(1, 1, 65539)),
+        input("length 65535 and many behind", head(1, 1, 300_000)),
+        input("version 2, long", head(2, 1, 300_000)),
+    ]
+}
+
+fn drawn(rng: &mut Rng, count: usize) -> Vec<Input> {
+    let mut inputs = Vec::new();
+    for i in 0..count {
+        let kind = KINDS[i % KINDS.len()];
+        inputs.push(input(format!("plan {i}, {kind}"), plans::good(rng, kind).encode()));
+        inputs.push(input(format!("damaged plan {i}"), plans::damaged(rng)));
+    }
+    inputs
+}
+
+/// The branch lines and the total are those of the tree that Kruskal's method finds.
+fn check_tree(plan: &Plan, printed: &str) {
+    let tree = kruskal::tree(plan);
+    let chosen = || (0..plan.links.len()).filter(|k| tree[*k] == 1);
+    let line = |k: usize| format!("branch {} {} {}", plan.links[k].lower, plan.links[k].higher, plan.cost(k as u16));
+    let total: u32 = chosen().map(|k| plan.cost(k as u16)).sum();
+    let mut lines: Vec<String> = chosen().map(line).collect();
+    lines.push(format!("total {total}"));
+    assert!(printed.lines().skip(2).take(lines.len()).eq(lines.iter()), "the tree is not Kruskal's");
+}
+
+fn equal_costs(plan: &Plan) -> bool {
+    let costs: BTreeSet<u32> = (0..plan.links.len()).map(|k| plan.cost(k as u16)).collect();
+    costs.len() < plan.links.len()
+}
+
+fn compare(inputs: &[Input], command: &[String]) {
+    let (mut taken, mut ties) = (0, 0);
+    let mut refused: BTreeMap<u32, usize> = BTreeMap::new();
+    for Input { name, bytes } in inputs {
+        let expected = report(bytes);
+        same_output(command, bytes, &expected, name);
+        match plan::read(bytes) {
+            Ok(plan) => {
+                check_tree(&plan, &expected);
+                taken += 1;
+                ties += equal_costs(&plan) as usize;
+            }
+            Err(number) => *refused.entry(number).or_default() += 1,
+        }
+    }
+    assert!(refused.keys().copied().eq(11..=19), "some refusal never came: {refused:?}");
+    println!("report: {} inputs, the same output; {taken} plans taken, {ties} with equal costs", inputs.len());
+    println!("report: refusals and how often: {refused:?}");
+}
 
 fn main() {
     let args: Vec<String> = std::env::args().skip(1).collect();
@@ -18,25 +115,10 @@ fn main() {
         return;
     }
     let number = |i: usize| args[i].parse::<u64>().expect("a number");
-    let (seed, count) = (number(1), number(2));
-    let mut inputs: Vec<(String, Vec<u8>)> = Vec::new();
-    for file in std::fs::read_dir("samples").expect("run at the top of the repository") {
-        let path = file.unwrap().path();
-        if path.extension().is_some_and(|e| e == "plan") {
-            inputs.push((path.display().to_string(), std::fs::read(&path).unwrap()));
-        }
-    }
-    let mut rng = Rng::new(seed);
-    for i in 0..count as usize {
-        let kind = plans::KINDS[i % plans::KINDS.len()];
-        let bytes = if i % 4 == 3 { plans::damaged(&mut rng) } else { plans::good(&mut rng, kind).encode() };
-        inputs.push((format!("input {i} of seed {seed}"), bytes));
-    }
-    let mut refused = 0;
-    for (name, bytes) in &inputs {
-        let expected = report(bytes);
-        refused += expected.starts_with("refused") as usize;
-        same_output(&args[3..], bytes, &expected, name);
-    }
-    println!("report: {} plans, {refused} of them refused, the same output", inputs.len());
+    let mut rng = Rng::new(number(1));
+    let mut inputs = samples();
+    inputs.extend(each_size(&mut rng));
+    inputs.extend(long(&mut rng));
+    inputs.extend(drawn(&mut rng, number(2) as usize));
+    compare(&inputs, &args[3..]);
 }

@@ -1,19 +1,25 @@
--- The total is at most the largest cost for each link passed.
 use Prim.Native.Nat.{_≤_, _*_, _-_}
 use native.Mathlib.Omega.{arith}
+use mathlib.Core.Path.{_≡_, _∙_, sym}
 use mathlib.Core.Logic.{⊎-elim}
 use borrow.Author.Needs.{needs}
-use Rattle.central.proofs.branches.Statement.{statement}
-use Rattle.central.proofs.branches.Tie as tie
+use Rattle.report.proofs.branches.Statement.{statement}
+use Rattle.report.proofs.branches.Tie as tie
+use Rattle.plan.specs.Weights.{costIn}
+use Rattle.report.specs.Total.{total, total-branch, total-other}
 
 abbrev Inv-loop : tie.InvT-loop
-Inv-loop p tree total₀ k₀ total k = (k ≤ 600) × (total ≤ 4294967295 * k)
+Inv-loop p marks total₀ k₀ sum k = (k ≤ 600) × (sum ≤ 4294967295 * k) × (sum ≡ total p marks k)
 
 abbrev μ-loop : tie.MeasureT-loop
-μ-loop p tree total₀ k₀ total k = 600 - k
+μ-loop p marks total₀ k₀ sum k = 600 - k
 
 loop-holds : tie.Need-loop-holds Inv-loop μ-loop
+unfolding total
 loop-holds c = search needs
+
+mul-if1 : tie.Need-mul-if1 Inv-loop μ-loop
+mul-if1 c = search needs
 
 array-read-if1 : tie.Need-array-read-if1 Inv-loop μ-loop
 array-read-if1 c = search needs
@@ -61,10 +67,19 @@ loop-less : tie.Need-loop-less Inv-loop μ-loop
 loop-less c = search needs
 
 loop-again : tie.Need-loop-again Inv-loop μ-loop
-loop-again c = ⊎-elim (λ w. omega arith) (λ w. omega arith) (c .if1 .came)
+unfolding costIn
+loop-again c =
+    let at = c .before .before .loop in
+    ⊎-elim
+    (λ w. (omega arith, omega arith, w .7 ∙ rw (at .inv .2, w .3 .ensures) (sym (total-branch _ _ _ (w .0 .taken)))))
+    (λ w. (omega arith, omega arith, w .1 ∙ at .inv .2 ∙ sym (total-other _ _ _ (w .0 .left))))
+    (c .if1 .came)
 
 returns : tie.Need-returns Inv-loop μ-loop
-returns c = search needs
+returns c =
+    let at = c .before .loop in
+    let end : at .k ≡ 600 = omega arith in
+    rw end at (at .inv .2)
 
 pub branches-spec : {M : Type 1} → statement M
 branches-spec =
@@ -73,6 +88,7 @@ branches-spec =
     Inv-loop
     μ-loop
     loop-holds
+    mul-if1
     array-read-if1
     mul-cost
     element-copy-out-cost
