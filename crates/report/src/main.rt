@@ -71,24 +71,14 @@ fn show(f: Field, rounds: u16) {
     print::line(b"rounds ", rounds as u64);
 }
 
-// The field of a plan, set up, module 0 woken, rounds run. (None of the three is refused: demand 3.)
+// What the field of a plan comes to.
 fn report(p: Plan, words: &mut [u64]) {
-    let s = setup::setup(p, words);
+    let s = settle::settle(p, words);
     if s.refusal != 0 {
         refused(s.refusal);
         return;
     }
-    let t = run::step(s.field, words, 1, 0);
-    if t.answer != 0 {
-        refused(t.answer);
-        return;
-    }
-    let r = rounds::run(t.field, words, 65535);
-    if r.refusal != 0 {
-        refused(r.refusal);
-        return;
-    }
-    show(r.field, r.rounds);
+    show(s.field, s.rounds);
 }
 
 fn main() {
