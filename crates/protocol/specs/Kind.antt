@@ -7,95 +7,51 @@ use mathlib.Core.Logic.{_≢_, _⊎_, inl, inr}
 use mathlib.Core.List.{List, [], _∷_, _++_}
 use Rattle.message.specs.Msg.{Msg, none, connect, initiate, test, accept, reject, report, change}
 
--- 1 for a Connect
+-- a value for each kind of message: Connect, Initiate, Test, Accept, Reject, Report, Change-root
+abbrev pub pick : (c i t a j r k : ℕ) → Msg → ℕ
+pick c i t a j r k (connect l) = c
+pick c i t a j r k (initiate l f x) = i
+pick c i t a j r k (test l f) = t
+pick c i t a j r k accept = a
+pick c i t a j r k reject = j
+pick c i t a j r k (report w) = r
+pick c i t a j r k change = k
+
+-- counters. 1 for a Connect
 abbrev pub isC : Msg → ℕ
-isC (connect l) = 1
-isC (initiate l f x) = 0
-isC (test l f) = 0
-isC accept = 0
-isC reject = 0
-isC (report w) = 0
-isC change = 0
+isC = pick 1 0 0 0 0 0 0
 
 -- 1 for an Initiate
 abbrev pub isI : Msg → ℕ
-isI (connect l) = 0
-isI (initiate l f x) = 1
-isI (test l f) = 0
-isI accept = 0
-isI reject = 0
-isI (report w) = 0
-isI change = 0
+isI = pick 0 1 0 0 0 0 0
 
 -- 1 for a Connect or an Initiate
 abbrev pub isCI : Msg → ℕ
-isCI (connect l) = 1
-isCI (initiate l f x) = 1
-isCI (test l f) = 0
-isCI accept = 0
-isCI reject = 0
-isCI (report w) = 0
-isCI change = 0
+isCI = pick 1 1 0 0 0 0 0
 
 -- 1 for a Test
 abbrev pub isT : Msg → ℕ
-isT (connect l) = 0
-isT (initiate l f x) = 0
-isT (test l f) = 1
-isT accept = 0
-isT reject = 0
-isT (report w) = 0
-isT change = 0
+isT = pick 0 0 1 0 0 0 0
 
 -- 1 for an answer: an Accept or a Reject
 abbrev pub isA : Msg → ℕ
-isA (connect l) = 0
-isA (initiate l f x) = 0
-isA (test l f) = 0
-isA accept = 1
-isA reject = 1
-isA (report w) = 0
-isA change = 0
+isA = pick 0 0 0 1 1 0 0
 
 -- 1 for an Accept
 abbrev pub isY : Msg → ℕ
-isY (connect l) = 0
-isY (initiate l f x) = 0
-isY (test l f) = 0
-isY accept = 1
-isY reject = 0
-isY (report w) = 0
-isY change = 0
+isY = pick 0 0 0 1 0 0 0
 
 -- 1 for a Report
 abbrev pub isR : Msg → ℕ
-isR (connect l) = 0
-isR (initiate l f x) = 0
-isR (test l f) = 0
-isR accept = 0
-isR reject = 0
-isR (report w) = 1
-isR change = 0
+isR = pick 0 0 0 0 0 1 0
 
 -- 1 for a Change-root
 abbrev pub isK : Msg → ℕ
-isK (connect l) = 0
-isK (initiate l f x) = 0
-isK (test l f) = 0
-isK accept = 0
-isK reject = 0
-isK (report w) = 0
-isK change = 1
+isK = pick 0 0 0 0 0 0 1
 
 -- the kind's number
 abbrev pub kind : Msg → ℕ
-kind (connect l) = 1
-kind (initiate l f x) = 2
-kind (test l f) = 3
-kind accept = 4
-kind reject = 5
-kind (report w) = 6
-kind change = 7
+kind = pick 1 2 3 4 5 6 7
 
 -- first argument: a level, or the weight of a Report
 abbrev pub arg1 : Msg → ℕ
