@@ -1,38 +1,21 @@
 -- Best weights and best edges of nodes in Find change: what stays of the clauses on channels.
-use Prim.Native.Nat.{ℕ, _≤_, _<_}
+use Prim.Native.Nat.{ℕ}
 use native.Mathlib.Omega.{arith}
-use mathlib.Core.Path.{_≡_, refl, sym, ap, subst, _∙_}
-use mathlib.Core.Logic.{_≢_, _⊎_, inl, inr, ⊎-elim}
-use Rattle.protocol.specs.Plan.{Plan, Ends, key}
+use mathlib.Core.Path.{_≡_, ap, _∙_}
+use mathlib.Core.Logic.{inl, inr, ⊎-elim}
+use Rattle.protocol.specs.Plan.{Plan, key}
 use Rattle.protocol.specs.State.{State, set-bw, set-be}
-use Rattle.protocol.specs.Notion.{Child, CoreEnds, Spent}
-use Rattle.protocol.specs.Traffic.{Hush, Tokens, Connects, Initiates, Telling, Reports, Owing, Ordered}
+use Rattle.protocol.specs.Notion.{CoreEnds}
+use Rattle.protocol.specs.Traffic.{Tokens, Reports}
+use Rattle.protocol.specs.Flow.{Flow}
 
 module _ (p : Plan) (s : State) (bw be : ℕ → ℕ) where
   abbrev pub rated : State
   rated = set-be (set-bw s bw) be
 
-  pub hush-best : Hush p s → Hush p rated
-  hush-best o = record { g6o = o.g6o; g6i = o.g6i }
-
-  pub connects-best : Connects p s → Connects p rated
-  connects-best o = record { c1m = o.c1m; c1 = o.c1 }
-
-  pub initiates-best : Initiates p s → Initiates p rated
-  initiates-best o = record { i1 = o.i1 }
-
-  pub telling-best : Telling p s → Telling p rated
-  telling-best o = record { u2 = o.u2; t2i = o.t2i; t4 = o.t4; t4n = o.t4n }
-
-  pub owing-best : Owing p s → Owing p rated
-  owing-best o = record { f4y = o.f4y; f4n = o.f4n }
-
-  pub ordered-best : Ordered p s → Ordered p rated
-  ordered-best o = record { q1 = o.q1 }
-
   -- a Found node keeps its best weight
   module _ (same : (w : ℕ) → s.st w ≡ 2 → bw w ≡ s.bw w) where
-    pub tokens-best : Tokens p s → Tokens p rated
+    tokens-best : Tokens p s → Tokens p rated
     tokens-best o = record {
       d1c = o.d1c;
       d1a = o.d1a;
@@ -56,4 +39,16 @@ module _ (p : Plan) (s : State) (bw be : ℕ → ℕ) where
           (λ t. inr (inr (t .0, t .1, t .2, t .3, t .4, ⊎-elim (λ l. inl (omega (arith, ap (key p) (same v (t .3))))) (λ l. inr (l .0, same v (t .3) ∙ l .1, l .2, l .3)) (t .5)))))
           (o.r1 k u v w e n);
       r1c = λ k u v w e n h d g. core-best u v k w (o.r1c k u v w e n h d g);
+    }
+
+    pub flow-best : Flow p s → Flow p rated
+    flow-best o = record {
+      G6c = record { g6o = o.G6c.g6o; g6i = o.G6c.g6i };
+      Dc = tokens-best o.Dc;
+      C1 = record { c1m = o.C1.c1m; c1 = o.C1.c1 };
+      I1 = record { i1 = o.I1.i1 };
+      T4 = record { u2 = o.T4.u2; t2i = o.T4.t2i; t4 = o.T4.t4; t4n = o.T4.t4n };
+      R1 = reports-best o.R1;
+      F4c = record { f4y = o.F4c.f4y; f4n = o.F4c.f4n };
+      Q1 = record { q1 = o.Q1.q1 };
     }

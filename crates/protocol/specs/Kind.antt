@@ -1,11 +1,10 @@
 -- Kinds of messages: counters for sums over a channel, what may stand before what, the level at the far end of a channel.
-use Prim.Native.Nat.{ℕ, zero, suc, _+_, _≤_, _<_, zero-le}
+use Prim.Native.Nat.{ℕ, _+_, _<_}
 use native.Mathlib.Omega.{arith}
-use native.Mathlib.Nat.{le-refl}
-use mathlib.Core.Path.{_≡_, refl, sym, ap, subst, _∙_}
-use mathlib.Core.Logic.{_≢_, _⊎_, inl, inr}
-use mathlib.Core.List.{List, [], _∷_, _++_}
-use Rattle.message.specs.Msg.{Msg, none, connect, initiate, test, accept, reject, report, change}
+use mathlib.Core.Path.{_≡_, refl, ap}
+use mathlib.Core.Logic.{_≢_}
+use mathlib.Core.List.{List, [], _∷_}
+use Rattle.message.specs.Msg.{Msg, connect, initiate, test, accept, reject, report, change}
 
 -- a value for each kind of message: Connect, Initiate, Test, Accept, Reject, Report, Change-root
 abbrev pub pick : (c i t a j r k : ℕ) → Msg → ℕ
@@ -133,6 +132,16 @@ top a (accept ∷ r) = top a r
 top a (reject ∷ r) = top a r
 top a ((report w) ∷ r) = top a r
 top a (change ∷ r) = top a r
+
+-- a Connect or an Initiate is one of them
+pub call-parts : (m : Msg) → isCI m ≡ isC m + isI m
+call-parts (connect l) = refl
+call-parts (initiate l f x) = refl
+call-parts (test l f) = refl
+call-parts accept = refl
+call-parts reject = refl
+call-parts (report w) = refl
+call-parts change = refl
 
 pub kinds : {x y : Msg} → kind x ≢ kind y → x ≢ y
 kinds n e = n (ap kind e)

@@ -13,6 +13,7 @@ pub mod Inv
 pub mod Lemmas
 pub mod Facts
 pub mod Same
+pub mod Flow
 pub mod Reopen
 pub mod Take
 pub mod Post
@@ -21,3 +22,4 @@ pub mod Wake
 pub mod Best
 pub mod Setup
 pub mod Prelude
+pub mod Weigh

@@ -1,21 +1,21 @@
 -- A Test or an answer m is sent by v over k: what stays of the clauses that do not speak of those.
-use Prim.Native.Nat.{ℕ, suc, _+_, _≤_, _<_}
+use Prim.Native.Nat.{ℕ, _≤_}
 use native.Mathlib.Omega.{arith}
 use mathlib.Core.Path.{_≡_, refl, sym, ap, subst, _∙_}
-use mathlib.Core.Logic.{_≢_, _⊎_, inl, inr, ⊎-elim}
-use mathlib.Core.List.{List, [], _∷_, _++_}
-use Rattle.base.specs.Cond.{upd2, upd2-elim}
-use Rattle.base.specs.Pool.{All, sumL}
-use Rattle.message.specs.Msg.{Msg, none, connect, initiate, report, change}
+use mathlib.Core.Logic.{_≢_, inl, inr, ⊎-elim}
+use mathlib.Core.List.{List}
+use Rattle.base.specs.Pool.{sumL}
+use Rattle.message.specs.Msg.{Msg}
 use Rattle.protocol.specs.Plan.{Plan, Ends}
 use Rattle.protocol.specs.State.{State, set-ch}
-use Rattle.protocol.specs.Kind.{isC, isI, isCI, isR, isK, Only, Rouse, Fits, top}
-use Rattle.protocol.specs.Chan.{In, Bef, at2, snoc, snoc-elim, snoc-old, in-snoc2, snoc-bef, snoc-sum, snoc-all, snoc-else}
+use Rattle.protocol.specs.Kind.{isC, isI, isCI, isR, isK, Only, Rouse, Fits, top, call-parts}
+use Rattle.protocol.specs.Chan.{In, at2, snoc, snoc-elim, snoc-old, in-snoc2, snoc-bef, snoc-sum, snoc-all, snoc-else}
 use Rattle.protocol.specs.Lemmas.{top-snoc}
 use Rattle.protocol.specs.Notion.{GL, Half}
-use Rattle.protocol.specs.Same.{Alike}
+use Rattle.protocol.specs.Same.{Alike, connects-same, initiates-same, owing-same, reports-same}
 use Rattle.protocol.specs.Take.{Plain}
 use Rattle.protocol.specs.Traffic.{Hush, Tokens, Telling, Ordered}
+use Rattle.protocol.specs.Flow.{Flow}
 
 module _ (p : Plan) (s : State) (v k : ℕ) {m : Msg} (h : Plain m) where
   abbrev posted : ℕ → ℕ → List Msg
@@ -25,7 +25,10 @@ module _ (p : Plan) (s : State) (v k : ℕ) {m : Msg} (h : Plain m) where
   pub before : {x : Msg} (f : Msg → ℕ) → f m ≡ 0 → 1 ≤ f x → (w j : ℕ) → In x (posted w j) → In x (s.ch w j)
   before f z o w j n = snoc-old s.ch v k m w j (λ e. omega (arith, ap f e)) n
 
-  pub post-alike : Alike s posted
+  no-init : isI m ≡ 0
+  no-init = omega (arith, h.no-call, call-parts m)
+
+  post-alike : Alike s posted
   post-alike = record {
     in-rep = λ a j w n. before isR (h.no-rep) (omega arith) a j n;
     call-sum = snoc-sum s.ch v k m isCI (h.no-call);
@@ -34,18 +37,18 @@ module _ (p : Plan) (s : State) (v k : ℕ) {m : Msg} (h : Plain m) where
     ahead = λ a j w n b. ⊎-elim (λ o. inl o) (λ t. absurd (omega (arith, ap isR (t .2), h.no-rep))) (snoc-bef s.ch v k m a j b);
   }
 
-  pub post-top : (n w j : ℕ) → top n (posted w j) ≡ top n (s.ch w j)
-  post-top n w j = snoc-elim s.ch v k m (λ l. top n l ≡ top n (s.ch w j)) w j (λ e f. top-snoc n m (s.ch w j) (h.no-init)) (λ d. refl)
+  post-top : (n w j : ℕ) → top n (posted w j) ≡ top n (s.ch w j)
+  post-top n w j = snoc-elim s.ch v k m (λ l. top n l ≡ top n (s.ch w j)) w j (λ e f. top-snoc n m (s.ch w j) no-init) (λ d. refl)
 
   -- v is awake; m may go to a sleeper, or the receiver is awake
-  pub post-hush : s.st v ≢ 0 → ((u : ℕ) → Ends p k v u → s.st u ≡ 0 → Rouse m) → Hush p s → Hush p (set-ch s posted)
+  post-hush : s.st v ≢ 0 → ((u : ℕ) → Ends p k v u → s.st u ≡ 0 → Rouse m) → Hush p s → Hush p (set-ch s posted)
   post-hush a g o = record {
     g6o = λ j w x e z. snoc-else s.ch v k m w j (inl (λ q. a (ap s.st q ∙ z))) ∙ o.g6o j w x e z;
     g6i = λ j w x e z. snoc-all s.ch v k m w j (λ b c. g x (subst (λ y. Ends p y v x) (sym c) (subst (λ y. Ends p j y x) (sym b) e)) z) (o.g6i j w x e z);
   }
 
   -- m may go over a half edge, or k is none
-  pub post-tokens : (Half s v k → Only (GL s v) m) → Tokens p s → Tokens p (set-ch s posted)
+  post-tokens : (Half s v k → Only (GL s v) m) → Tokens p s → Tokens p (set-ch s posted)
   post-tokens g o = record {
     d1c = λ j z y e t. in-snoc2 s.ch v k m z j (o.d1c j z y e t);
     d1a = λ j z y e t. snoc-all s.ch v k m z j
@@ -61,20 +64,33 @@ module _ (p : Plan) (s : State) (v k : ℕ) {m : Msg} (h : Plain m) where
       same : (w j : ℕ) → sumL isR (posted w j) ≡ sumL isR (s.ch w j)
       same = snoc-sum s.ch v k m isR (h.no-rep)
 
-  pub post-telling : Telling p s → Telling p (set-ch s posted)
+  post-telling : Telling p s → Telling p (set-ch s posted)
   post-telling o = record {
     u2 = λ j w c e b n. o.u2 j w c e b n ∙ sym (post-top (s.lev c) w j);
     t2i = λ j w c e b t n l. in-snoc2 s.ch v k m w j (o.t2i j w c e b t n l);
     t4 = λ j x y e b g. ⊎-elim (λ t. inl (omega (arith, same x j))) (⊎-elim (λ t. inr (inl (in-snoc2 s.ch v k m y j t))) (λ t. inr (inr t))) (o.t4 j x y e b g);
-    t4n = λ j x y e b g n. let t = o.t4n j x y e b g (omega (arith, same x j)) in (t .0, λ z. t .1 (before isI (h.no-init) (omega arith) y j z));
+    t4n = λ j x y e b g n. let t = o.t4n j x y e b g (omega (arith, same x j)) in (t .0, λ z. t .1 (before isI no-init (omega arith) y j z));
   }
     where
       same : (w j : ℕ) → sumL isC (posted w j) ≡ sumL isC (s.ch w j)
-      same = snoc-sum s.ch v k m isC (h.no-conn)
+      same = snoc-sum s.ch v k m isC (omega (arith, h.no-call, call-parts m))
 
   -- whatever is on the channel may stand before m
-  pub post-ordered : ((x : Msg) → In x (s.ch v k) → Fits x m) → Ordered p s → Ordered p (set-ch s posted)
+  post-ordered : ((x : Msg) → In x (s.ch v k) → Fits x m) → Ordered p s → Ordered p (set-ch s posted)
   post-ordered g o = record {
     q1 = λ j w x a b e t. ⊎-elim (λ y. o.q1 j w x a b e y)
         (λ y. subst (λ n. Fits a n) (sym (y .2)) (g a (subst (λ l. In a l) (sym (at2 s.ch (y .0) (y .1))) (y .3)))) (snoc-bef s.ch v k m w j t);
+  }
+
+  pub flow-post : s.st v ≢ 0 → ((u : ℕ) → Ends p k v u → s.st u ≡ 0 → Rouse m) → (Half s v k → Only (GL s v) m) → ((x : Msg) → In x (s.ch v k) → Fits x m)
+      → Flow p s → Flow p (set-ch s posted)
+  flow-post a b c d o = record {
+    G6c = post-hush a b o.G6c;
+    Dc = post-tokens c o.Dc;
+    C1 = connects-same p s posted (λ w j l n. before isC (omega (arith, h.no-call, call-parts m)) (omega arith) w j n) o.C1;
+    I1 = initiates-same p s posted (λ w j l f x n. before isI no-init (omega arith) w j n) o.I1;
+    T4 = post-telling o.T4;
+    R1 = reports-same p s posted post-alike o.R1;
+    F4c = owing-same p s posted (snoc-sum s.ch v k m isR (h.no-rep)) o.F4c;
+    Q1 = post-ordered d o.Q1;
   }

@@ -1,18 +1,18 @@
 -- Channels c′ in which the Reports are as they were: what the clauses on Reports, counts and best weights say stays.
 -- The results are about `set-ch s c′`; a step that also changes tables which a clause does not read has it by the same fields.
-use Prim.Native.Nat.{ℕ, suc, _+_, _≤_, _<_}
+use Prim.Native.Nat.{ℕ}
 use native.Mathlib.Omega.{arith}
-use mathlib.Core.Path.{_≡_, refl, sym, ap, subst, _∙_}
-use mathlib.Core.Logic.{_≢_, _⊎_, inl, inr, ⊎-elim}
+use mathlib.Core.Path.{_≡_, _∙_}
+use mathlib.Core.Logic.{_⊎_, inl, inr, ⊎-elim}
 use mathlib.Core.List.{List}
 use Rattle.base.specs.Pool.{sumL}
-use Rattle.message.specs.Msg.{Msg, none, connect, initiate, accept, reject, report}
-use Rattle.protocol.specs.Plan.{Plan, Ends, key, rank}
+use Rattle.message.specs.Msg.{Msg, connect, initiate, test, accept, reject, report}
+use Rattle.protocol.specs.Plan.{Plan, rank}
 use Rattle.protocol.specs.State.{State, set-ch}
-use Rattle.protocol.specs.Kind.{isCI, isR}
+use Rattle.protocol.specs.Kind.{isCI, isT, isA, isR}
 use Rattle.protocol.specs.Chan.{In, Bef}
-use Rattle.protocol.specs.Notion.{GL, GC, DK, Inf, Outst, Live, Covered, Child, CoreEnds, Spent}
-use Rattle.protocol.specs.Traffic.{Connects, Initiates, Answers, Reports, Owing, Bests}
+use Rattle.protocol.specs.Notion.{GL, Outst, Live, Covered, Child, CoreEnds, Spent}
+use Rattle.protocol.specs.Traffic.{Connects, Initiates, Testing, Answers, Reports, Owing, Bests}
 
 -- ---- as many Reports on each channel
 
@@ -58,6 +58,17 @@ initiates-same p s c′ old o = record { i1 = λ k u v l f x e n. o.i1 k u v l f
 pub answers-same : (p : Plan) (s : State) (c′ : ℕ → ℕ → List Msg) → ((w j : ℕ) → In accept (c′ w j) → In accept (s.ch w j))
     → ((w j : ℕ) → In reject (c′ w j) → In reject (s.ch w j)) → Answers p s → Answers p (set-ch s c′)
 answers-same p s c′ ya yr o = record { a1 = λ k u v e n. o.a1 k u v e (ya u k n); j1 = λ k u v e n. o.j1 k u v e (yr u k n) }
+
+-- as many Tests and answers on each channel, and no new Test
+pub testing-same : (p : Plan) (s : State) (c′ : ℕ → ℕ → List Msg) → ((w j l f : ℕ) → In (test l f) (c′ w j) → In (test l f) (s.ch w j))
+    → ((w j : ℕ) → sumL isT (c′ w j) ≡ sumL isT (s.ch w j)) → ((w j : ℕ) → sumL isA (c′ w j) ≡ sumL isA (s.ch w j)) → Testing p s → Testing p (set-ch s c′)
+testing-same p s c′ old t a o = record {
+  e1 = λ k u v l f e n. o.e1 k u v l f e (old u k l f n);
+  e1w = λ k u v l f e n. o.e1w k u v l f e (old u k l f n);
+  e2w = λ k v u e y z. omega (arith, o.e2w k v u e y z, t v k, a u k);
+  e2c = λ k v u e y z. omega (arith, o.e2c k v u e y z, t v k, a u k, t u k);
+  m6t = λ k v u e y z. t u k ∙ o.m6t k v u e y z;
+}
 
 -- ---- the same Reports, with the same Connects and Initiates before and behind them
 

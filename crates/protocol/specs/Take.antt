@@ -1,48 +1,28 @@
--- The head m of the channel from u over k is taken, and m is a Test or an answer: what stays of the clauses that do not speak of those.
-use Prim.Native.Nat.{ℕ, suc, _+_, _≤_, _<_}
+-- The head m of the channel from u over k is taken, and m is neither Connect nor Initiate: what stays of the clauses that do not speak of m.
+use Prim.Native.Nat.{ℕ, _≤_}
 use native.Mathlib.Omega.{arith}
 use mathlib.Core.Path.{_≡_, refl, sym, ap, subst, _∙_}
-use mathlib.Core.Logic.{_≢_, _⊎_, inl, inr, ⊎-elim}
+use mathlib.Core.Logic.{inl, inr, ⊎-elim}
 use mathlib.Core.List.{List, [], _∷_}
 use Rattle.base.specs.Cond.{upd2, upd2-elim}
 use Rattle.base.specs.Pool.{sumL}
-use Rattle.message.specs.Msg.{Msg, none, connect, initiate, report, change}
-use Rattle.protocol.specs.Plan.{Plan, Ends}
+use Rattle.message.specs.Msg.{Msg, test, accept, reject}
+use Rattle.protocol.specs.Plan.{Plan}
 use Rattle.protocol.specs.State.{State, set-ch}
-use Rattle.protocol.specs.Kind.{isC, isI, isCI, isR, isK, top}
-use Rattle.protocol.specs.Chan.{In, Bef, in-nil, at2, head-at, pop-head, pop-in, in-pop, pop-bef, bef-pop, pop-sum, pop-all}
+use Rattle.protocol.specs.Kind.{isC, isI, isCI, isR, isK, top, call-parts}
+use Rattle.protocol.specs.Chan.{In, in-nil, at2, head-at, pop-head, pop-in, in-pop, pop-bef, pop-sum, pop-all}
 use Rattle.protocol.specs.Lemmas.{top-cons}
-use Rattle.protocol.specs.Same.{Alike}
-use Rattle.protocol.specs.Traffic.{Hush, Tokens, Telling, Ordered}
+use Rattle.protocol.specs.Same.{Alike, connects-same, initiates-same, owing-same, reports-same}
+use Rattle.protocol.specs.Traffic.{Hush, Tokens, Connects, Initiates, Telling, Ordered}
+use Rattle.protocol.specs.Flow.{Flow}
 
--- neither Connect, nor Initiate, nor Report, nor Change-root
-pub record Plain (m : Msg) : Type 0 where
-  pub no-call : isCI m ≡ 0
-  pub no-init : isI m ≡ 0
-  pub no-conn : isC m ≡ 0
-  pub no-rep : isR m ≡ 0
-  pub no-change : isK m ≡ 0
-
-module _ (p : Plan) (s : State) (u k : ℕ) {m : Msg} {r : List Msg} (q : s.ch u k ≡ m ∷ r) (h : Plain m) where
+module _ (p : Plan) (s : State) (u k : ℕ) {m : Msg} {r : List Msg} (q : s.ch u k ≡ m ∷ r) where
   abbrev taken : ℕ → ℕ → List Msg
   taken = upd2 s.ch u k r
 
   -- those of the other kinds stay
   pub kept : {x : Msg} (f : Msg → ℕ) → f m ≡ 0 → 1 ≤ f x → (w j : ℕ) → In x (s.ch w j) → In x (taken w j)
   kept f z o w j n = in-pop s.ch u k q w j (λ e. omega (arith, ap f e)) n
-
-  pub take-alike : Alike s taken
-  take-alike = record {
-    in-rep = λ a j w n. pop-in s.ch u k q a j n;
-    call-sum = pop-sum s.ch u k q isCI (h.no-call);
-    in-init = λ a j l f x n. kept isI (h.no-init) (omega arith) a j n;
-    behind = λ a j w n b. inl (pop-bef s.ch u k q a j b);
-    ahead = λ a j w n b. inl (pop-bef s.ch u k q a j b);
-  }
-
-  pub take-top : (n w j : ℕ) → top n (taken w j) ≡ top n (s.ch w j)
-  take-top n w j = upd2-elim (λ l. top n l ≡ top n (s.ch w j)) s.ch u k r w j
-      (λ e f. sym (top-cons n m r (h.no-init)) ∙ ap (top n) (sym (head-at s.ch u k q w j e f))) (λ d. refl)
 
   pub take-hush : Hush p s → Hush p (set-ch s taken)
   take-hush o = record {
@@ -51,32 +31,87 @@ module _ (p : Plan) (s : State) (u k : ℕ) {m : Msg} {r : List Msg} (q : s.ch u
     g6i = λ j w x e z. pop-all s.ch u k q w j (o.g6i j w x e z);
   }
 
-  pub take-tokens : Tokens p s → Tokens p (set-ch s taken)
-  take-tokens o = record {
-    d1c = λ j z y e t. kept isC (h.no-conn) (omega arith) z j (o.d1c j z y e t);
-    d1a = λ j z y e t. pop-all s.ch u k q z j (o.d1a j z y e t);
-    d2c = λ j w x e t. kept isK (h.no-change) (omega arith) w j (o.d2c j w x e t);
-    k1 = λ j w x e n. o.k1 j w x e (pop-in s.ch u k q w j n);
-    d3r = λ j x y e t b. same y j ∙ o.d3r j x y e t b;
-    d4h = λ j x y e g d l t n. o.d4h j x y e g d l t (pop-in s.ch u k q y j n);
-    d4r = λ j x y e g d l t. kept isR (h.no-rep) (omega arith) y j (o.d4r j x y e g d l t);
-    d7 = λ j x y e g d t f. ⊎-elim (λ y. inl (omega (arith, same x j))) (λ t. inr (t .0, t .1, t .2, omega (arith, t .3, same y j))) (o.d7 j x y e g d t f);
-  }
-    where
-      same : (w j : ℕ) → sumL isR (taken w j) ≡ sumL isR (s.ch w j)
-      same = pop-sum s.ch u k q isR (h.no-rep)
+  pub take-connects : Connects p s → Connects p (set-ch s taken)
+  take-connects o = connects-same p s taken (λ w j l n. pop-in s.ch u k q w j n) o
 
-  pub take-telling : Telling p s → Telling p (set-ch s taken)
-  take-telling o = record {
-    u2 = λ j w c e b n. o.u2 j w c e b n ∙ sym (take-top (s.lev c) w j);
-    t2i = λ j w c e b t n l. kept isI (h.no-init) (omega arith) w j (o.t2i j w c e b t n l);
-    t4 = λ j x y e b g. ⊎-elim (λ t. inl (omega (arith, same x j)))
-        (⊎-elim (λ t. inr (inl (kept isI (h.no-init) (omega arith) y j t))) (λ t. inr (inr t))) (o.t4 j x y e b g);
-    t4n = λ j x y e b g n. let t = o.t4n j x y e b g (omega (arith, same x j)) in (t .0, λ z. t .1 (pop-in s.ch u k q y j z));
-  }
-    where
-      same : (w j : ℕ) → sumL isC (taken w j) ≡ sumL isC (s.ch w j)
-      same = pop-sum s.ch u k q isC (h.no-conn)
+  pub take-initiates : Initiates p s → Initiates p (set-ch s taken)
+  take-initiates o = initiates-same p s taken (λ w j l f x n. pop-in s.ch u k q w j n) o
 
   pub take-ordered : Ordered p s → Ordered p (set-ch s taken)
   take-ordered o = record { q1 = λ j w x a b e t. o.q1 j w x a b e (pop-bef s.ch u k q w j t) }
+
+  -- m is neither Connect nor Initiate
+  module _ (h : isCI m ≡ 0) where
+    no-init : isI m ≡ 0
+    no-init = omega (arith, call-parts m)
+
+    pub take-alike : Alike s taken
+    take-alike = record {
+      in-rep = λ a j w n. pop-in s.ch u k q a j n;
+      call-sum = pop-sum s.ch u k q isCI h;
+      in-init = λ a j l f x n. kept isI no-init (omega arith) a j n;
+      behind = λ a j w n b. inl (pop-bef s.ch u k q a j b);
+      ahead = λ a j w n b. inl (pop-bef s.ch u k q a j b);
+    }
+
+    pub take-telling : Telling p s → Telling p (set-ch s taken)
+    take-telling o = record {
+      u2 = λ j w c e b n. o.u2 j w c e b n ∙ sym (far (s.lev c) w j);
+      t2i = λ j w c e b t n l. kept isI no-init (omega arith) w j (o.t2i j w c e b t n l);
+      t4 = λ j x y e b g. ⊎-elim (λ t. inl (omega (arith, same x j)))
+          (⊎-elim (λ t. inr (inl (kept isI no-init (omega arith) y j t))) (λ t. inr (inr t))) (o.t4 j x y e b g);
+      t4n = λ j x y e b g n. let t = o.t4n j x y e b g (omega (arith, same x j)) in (t .0, λ z. t .1 (pop-in s.ch u k q y j z));
+    }
+      where
+        same : (w j : ℕ) → sumL isC (taken w j) ≡ sumL isC (s.ch w j)
+        same = pop-sum s.ch u k q isC (omega (arith, call-parts m))
+
+        far : (n w j : ℕ) → top n (taken w j) ≡ top n (s.ch w j)
+        far n w j = upd2-elim (λ l. top n l ≡ top n (s.ch w j)) s.ch u k r w j
+            (λ e f. sym (top-cons n m r no-init) ∙ ap (top n) (sym (head-at s.ch u k q w j e f))) (λ d. refl)
+
+-- neither Connect, nor Initiate, nor Report, nor Change-root: a Test or an answer
+pub record Plain (m : Msg) : Type 0 where
+  pub no-call : isCI m ≡ 0
+  pub no-rep : isR m ≡ 0
+  pub no-change : isK m ≡ 0
+
+pub plain-test : (l f : ℕ) → Plain (test l f)
+plain-test l f = record { no-call = refl; no-rep = refl; no-change = refl }
+
+pub plain-accept : Plain accept
+plain-accept = record { no-call = refl; no-rep = refl; no-change = refl }
+
+pub plain-reject : Plain reject
+plain-reject = record { no-call = refl; no-rep = refl; no-change = refl }
+
+module _ (p : Plan) (s : State) (u k : ℕ) {m : Msg} {r : List Msg} (q : s.ch u k ≡ m ∷ r) (h : Plain m) where
+  abbrev c′ : ℕ → ℕ → List Msg
+  c′ = upd2 s.ch u k r
+
+  take-tokens : Tokens p s → Tokens p (set-ch s c′)
+  take-tokens o = record {
+    d1c = λ j z y e t. kept p s u k q isC (omega (arith, h.no-call, call-parts m)) (omega arith) z j (o.d1c j z y e t);
+    d1a = λ j z y e t. pop-all s.ch u k q z j (o.d1a j z y e t);
+    d2c = λ j w x e t. kept p s u k q isK (h.no-change) (omega arith) w j (o.d2c j w x e t);
+    k1 = λ j w x e n. o.k1 j w x e (pop-in s.ch u k q w j n);
+    d3r = λ j x y e t b. same y j ∙ o.d3r j x y e t b;
+    d4h = λ j x y e g d l t n. o.d4h j x y e g d l t (pop-in s.ch u k q y j n);
+    d4r = λ j x y e g d l t. kept p s u k q isR (h.no-rep) (omega arith) y j (o.d4r j x y e g d l t);
+    d7 = λ j x y e g d t f. ⊎-elim (λ y. inl (omega (arith, same x j))) (λ t. inr (t .0, t .1, t .2, omega (arith, t .3, same y j))) (o.d7 j x y e g d t f);
+  }
+    where
+      same : (w j : ℕ) → sumL isR (c′ w j) ≡ sumL isR (s.ch w j)
+      same = pop-sum s.ch u k q isR (h.no-rep)
+
+  pub flow-take : Flow p s → Flow p (set-ch s c′)
+  flow-take o = record {
+    G6c = take-hush p s u k q o.G6c;
+    Dc = take-tokens o.Dc;
+    C1 = take-connects p s u k q o.C1;
+    I1 = take-initiates p s u k q o.I1;
+    T4 = take-telling p s u k q (h.no-call) o.T4;
+    R1 = reports-same p s c′ (take-alike p s u k q (h.no-call)) o.R1;
+    F4c = owing-same p s c′ (pop-sum s.ch u k q isR (h.no-rep)) o.F4c;
+    Q1 = take-ordered p s u k q o.Q1;
+  }

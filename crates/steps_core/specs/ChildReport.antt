@@ -1,17 +1,17 @@
 -- Report w from u at v over k, which is not v's in-branch: v counts down, weighs w against its best, procedure report comes next.
 use Rattle.protocol.specs.Prelude.{ℕ, suc, _-_, _≤_, arith, _≡_, refl, sym, ap, subst, _∙_, _≢_, _⊎_, inl, inr, ⊎-elim, by-eq}
-use Rattle.protocol.specs.Prelude.{List, _∷_, upd, upd-elim, upd-same, upd-other, upd2, upd2-elim, sumL, sum, sum-row, row-else}
+use Rattle.protocol.specs.Prelude.{List, _∷_, upd, upd-elim, upd-other, upd2, upd2-elim, sumL, sum, sum-row, row-else}
 use Rattle.protocol.specs.Prelude.{Msg, none, report}
-use Rattle.protocol.specs.Prelude.{Plan, Ends, key, rank, joins-lt, flip, ends-two, ends-same, key-none, key-edge, rank-lt}
+use Rattle.protocol.specs.Prelude.{Plan, Ends, key, rank, joins-lt, flip, ends-two, ends-same}
 use Rattle.protocol.specs.Prelude.{State, Idle, Better, pop, bested, set-ch, set-fc, set-owe, set-op}
 use Rattle.protocol.specs.Prelude.{isR, kinds, In, else-same, pop-in, in-pop, pop-le, pop-all}
-use Rattle.protocol.specs.Prelude.{GL, GC, Inf, Jn, Outst, Live, Covered, Child, Inv, no-root, reports-same, reports-best}
+use Rattle.protocol.specs.Prelude.{GL, GC, Inf, Jn, Outst, Live, Covered, Child, Inv, no-root, reports-same, reports-best, take-alike}
 use Rattle.protocol.specs.Search.{Pending, Counts}
 use Rattle.protocol.specs.Traffic.{Tokens, Reports, Owing, Bests}
-use Rattle.steps_core.specs.Late.{Kept, late-report, late-alike, kept}
+use Rattle.protocol.specs.Weigh as W
+use Rattle.protocol.specs.Weigh.{Leaves}
+use Rattle.steps_core.specs.Late.{Kept, late-report, kept}
 use Rattle.steps_core.specs.Core as C
-use Rattle.steps_core.specs.Weigh as W
-use Rattle.steps_core.specs.Weigh.{Leaves}
 
 module _ {p : Plan} {s : State} (i : Inv p s) {u v k w b e : ℕ} {r : List Msg} (idle : Idle s) (ends : Ends p k u v) (q : s.ch u k ≡ report w ∷ r)
     (away : s.ib v ≢ k) (better : Better p s v w k b e) where
@@ -123,7 +123,7 @@ module _ {p : Plan} {s : State} (i : Inv p s) {u v k w b e : ℕ} {r : List Msg}
 
   R1′ : Reports p S′
   R1′ =
-      let o = reports-best p (set-ch s c′) S′.bw S′.be (W.bw-found i (idle .2) find (flip ends) better leaves) (reports-same p s c′ (late-alike i q (late-report w)) i.R1) in
+      let o = reports-best p (set-ch s c′) S′.bw S′.be (W.bw-found i (idle .2) find (flip ends) better leaves) (reports-same p s c′ (take-alike p s u k q refl) i.R1) in
       record { r1r = o.r1r; r1j = o.r1j; r1 = o.r1; r1c = o.r1c }
 
   F4c′ : Owing p S′
@@ -163,61 +163,25 @@ module _ {p : Plan} {s : State} (i : Inv p s) {u v k w b e : ℕ} {r : List Msg}
         (i.B2.b2 j x y f m d g);
   }
     where
-      -- v's own best covers what a best weight that is no earlier covered
-      mine : (x y n : ℕ) → s.fr v ≡ s.fr x → s.bw y ≢ none → key p b ≤ key p (s.bw y) → key p (s.bw y) ≤ n → Covered p S′ x n
-      mine x y n z o l m =
-          let a = i.W1.w1w y o in (
-            v,
-            z,
-            inf-v,
-            λ c. omega (arith, ap (key p) (sym (upd-same s.bw v b) ∙ c), key-none p, key-edge p (s.bw y) a, rank-lt p (s.bw y) a),
-            inl find,
-            omega (arith, ap (key p) (upd-same s.bw v b)),
-          )
-
       live : (x : ℕ) → u ≢ x → Live s x → Live S′ x
       live x n (inl f) = inl f
       live x n (inr (inl g)) = inr (inl g)
       live x n (inr (inr l)) = inr (inr (subst (λ a. 1 ≤ sumL isR a) (sym (else-same s.ch u k r x (s.ib x) (inl n))) l))
 
+      -- the best of u, whose Report is gone, is weighed
       cover : (x n : ℕ) → Covered p s x n → Covered p S′ x n
-      cover x n t = by-eq v (t .0)
-          (λ z. mine x (t .0) n (ap s.fr z ∙ t .1) (t .3) (omega (arith, W.best-old i (idle .2) find (flip ends) better leaves, ap (λ a. key p (s.bw a)) z)) (t .5))
-          (λ d. by-eq u (t .0)
-          (λ z. mine x (t .0) n (sym (C.inside i ends q) ∙ ap s.fr z ∙ t .1) (t .3)
-          (omega (arith, W.best-w i (idle .2) find (flip ends) better leaves, ap (key p) (sym (ap s.bw z) ∙ best-u))) (t .5))
-          (λ a. let y = upd-other s.bw v b (t .0) d in (t .0, t .1, t .2, λ c. t .3 (sym y ∙ c), live (t .0) a (t .4), omega (arith, ap (key p) y, t .5))))
+      cover x n t = W.cover i (idle .2) find (flip ends) better leaves c′ (pop-le s.ch u k q isR) x n t (λ d. by-eq u (t .0)
+          (λ z. inl (sym (C.inside i ends q) ∙ ap s.fr z ∙ t .1, omega (arith, W.best-w i (idle .2) find (flip ends) better leaves, ap (key p) (sym (ap s.bw z) ∙ best-u))))
+          (λ a. inr (live (t .0) a (t .4))))
 
   pub inv-child-report : Inv p S′
-  inv-child-report = record {
-    W0 = i.W0;
-    W1 = W.W1′ i (idle .2) find (flip ends) better leaves;
-    G2 = i.G2;
-    G4 = i.G4;
-    G5 = i.G5;
-    G6 = W.G6′ i (idle .2) find (flip ends) better leaves;
-    M1 = i.M1;
-    U1 = i.U1;
-    D1 = i.D1;
-    D2 = W.D2′ i (idle .2) find (flip ends) better leaves;
-    D3 = W.D3′ i (idle .2) find (flip ends) better leaves;
-    D4 = W.D4′ i (idle .2) find (flip ends) better leaves;
-    T1 = i.T1;
-    T2 = i.T2;
-    F1 = i.F1;
-    F2 = F2′;
-    F4 = F4′;
-    E2 = i.E2;
-    B1 = W.B1′ i (idle .2) find (flip ends) better leaves;
+  inv-child-report = W.inv-weighed i (idle .2) find (flip ends) better leaves s.te S′.fc S′.owe (suc v) c′ F2′ F4′ i.E2 (record {
     G6c = others.G6c;
     Dc = Dc′;
     C1 = others.C1;
     I1 = others.I1;
     T4 = others.T4;
-    E1 = others.E1;
-    A1 = others.A1;
     R1 = R1′;
     F4c = F4c′;
-    B2 = B2′;
     Q1 = others.Q1;
-  }
+  }) others.E1 others.A1 B2′

@@ -3,9 +3,9 @@ use Rattle.protocol.specs.Prelude.{ℕ, _≤_, _<_, arith, _≡_, refl, sym, ap
 use Rattle.protocol.specs.Prelude.{List, _∷_, upd2, sumL, Msg, none, report}
 use Rattle.protocol.specs.Prelude.{Plan, Ends, key, flip, ends-two, ends-same, ends-irr, key-none, key-edge, rank-lt, rank-inj, State, Idle, pop}
 use Rattle.protocol.specs.Prelude.{isR, arg1, kinds, In, else-same, pop-in, in-pop, pop-le, pop-all}
-use Rattle.protocol.specs.Prelude.{GC, DK, Inf, Jn, Outst, Live, CoreEnds, Inv, inf-cases, joined-level, up-other, reports-same}
+use Rattle.protocol.specs.Prelude.{GC, DK, Inf, Jn, Outst, Live, CoreEnds, Inv, inf-cases, joined-level, up-other, reports-same, take-alike, inv-passing}
 use Rattle.protocol.specs.Traffic.{Tokens, Owing, Bests}
-use Rattle.steps_core.specs.Late.{Kept, late-report, late-alike, kept}
+use Rattle.steps_core.specs.Late.{Kept, late-report, kept}
 use Rattle.steps_core.specs.Core as C
 
 module _ {p : Plan} {s : State} (i : Inv p s) {u v k w : ℕ} {r : List Msg} (idle : Idle s) (ends : Ends p k u v) (q : s.ch u k ≡ report w ∷ r)
@@ -145,35 +145,13 @@ module _ {p : Plan} {s : State} (i : Inv p s) {u v k w : ℕ} {r : List Msg} (id
           (λ z. inr (inr (subst (λ l. 1 ≤ sumL isR l) (sym z) l)))
 
   pub inv-core-nothing : Inv p S′
-  inv-core-nothing = record {
-    W0 = i.W0;
-    W1 = i.W1;
-    G2 = i.G2;
-    G4 = i.G4;
-    G5 = i.G5;
-    G6 = i.G6;
-    M1 = i.M1;
-    U1 = i.U1;
-    D1 = i.D1;
-    D2 = i.D2;
-    D3 = i.D3;
-    D4 = i.D4;
-    T1 = i.T1;
-    T2 = i.T2;
-    F1 = i.F1;
-    F2 = i.F2;
-    F4 = i.F4;
-    E2 = i.E2;
-    B1 = i.B1;
+  inv-core-nothing = inv-passing i c′ (record {
     G6c = others.G6c;
     Dc = Dc′;
     C1 = others.C1;
     I1 = others.I1;
     T4 = others.T4;
-    E1 = others.E1;
-    A1 = others.A1;
-    R1 = reports-same p s c′ (late-alike i q (late-report w)) i.R1;
+    R1 = reports-same p s c′ (take-alike p s u k q refl) i.R1;
     F4c = F4c′;
-    B2 = B2′;
     Q1 = others.Q1;
-  }
+  }) others.E1 others.A1 B2′

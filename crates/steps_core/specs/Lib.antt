@@ -1,7 +1,6 @@
 pub mod Late
 pub mod Core
 pub mod CoreNothing
-pub mod Weigh
 pub mod ChildReport
 pub mod Rule
 pub mod Rooted

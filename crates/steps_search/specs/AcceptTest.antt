@@ -1,12 +1,11 @@
 -- Test (l, f) from u at v over k, of another fragment: v answers Accept.
-use Rattle.protocol.specs.Prelude.{ℕ, zero, suc, _+_, _≤_, _<_, arith, _≡_, refl, sym, ap, subst, _∙_, _≢_, _⊎_, inl, inr, ⊎-elim}
-use Rattle.protocol.specs.Prelude.{List, [], _∷_, _++_, upd2, by-eq, sumL}
-use Rattle.protocol.specs.Prelude.{Msg, none, connect, initiate, test, accept, reject, report, change}
-use Rattle.protocol.specs.Prelude.{Plan, Ends, joins-lt, flip, ends-same, ends-irr, State, Idle, set-ch, send, pop}
-use Rattle.protocol.specs.Prelude.{isC, isI, isT, isA, isR, fits-accept, In, in-sum, pop-head, pop-in, pop-sum, pop-le, none-in}
-use Rattle.protocol.specs.Prelude.{snoc, snoc-in, snoc-old, kinds, snoc-sum, GL, GC, DK, Inf, Jn, Waits, Inv, inf-awake}
-use Rattle.protocol.specs.Prelude.{Plain, take-alike, take-hush, take-tokens, take-telling, take-ordered, before, post-alike, post-hush, post-tokens, post-telling, post-ordered}
-use Rattle.protocol.specs.Prelude.{connects-same, initiates-same, reports-same, owing-same, bests-same}
+use Rattle.protocol.specs.Prelude.{ℕ, suc, _+_, _≤_, arith, _≡_, refl, sym, ap, subst, _∙_, _≢_, _⊎_, inl, inr, ⊎-elim}
+use Rattle.protocol.specs.Prelude.{List, _∷_, upd2, by-eq, sumL}
+use Rattle.protocol.specs.Prelude.{Msg, test, accept}
+use Rattle.protocol.specs.Prelude.{Plan, Ends, flip, ends-same, State, Idle, set-ch, send, pop}
+use Rattle.protocol.specs.Prelude.{isT, isA, isR, fits-accept, In, in-sum, pop-head, pop-in, pop-sum, pop-le, none-in}
+use Rattle.protocol.specs.Prelude.{snoc, snoc-in, snoc-old, kinds, snoc-sum, Inf, Waits, Inv, inf-awake}
+use Rattle.protocol.specs.Prelude.{plain-test, plain-accept, before, bests-same, flow, inv-passing, flow-take, flow-post}
 use Rattle.protocol.specs.Traffic.{AcceptOk, Testing, Answers}
 use Rattle.steps_search.specs.Answer.{tests, even}
 
@@ -23,12 +22,6 @@ module _ {p : Plan} {s : State} (i : Inv p s) {u v k l f : ℕ} {r : List Msg} (
 
   abbrev S′ : State
   S′ = send (pop s u k r) v k accept
-
-  asked : Plain (test l f)
-  asked = record { no-call = refl; no-init = refl; no-conn = refl; no-rep = refl; no-change = refl }
-
-  plain : Plain accept
-  plain = record { no-call = refl; no-init = refl; no-conn = refl; no-rep = refl; no-change = refl }
 
   head : In (test l f) (s.ch u k)
   head = pop-head s.ch u k q
@@ -64,10 +57,7 @@ module _ {p : Plan} {s : State} (i : Inv p s) {u v k l f : ℕ} {r : List Msg} (
   -- ---- the new channels
 
   old : {x : Msg} (g : Msg → ℕ) → g accept ≡ 0 → 1 ≤ g x → (w j : ℕ) → In x (c′ w j) → In x (s.ch w j)
-  old g z o w j h = pop-in s.ch u k q w j (before p s₁ v k plain g z o w j h)
-
-  same : (g : Msg → ℕ) → g accept ≡ 0 → g (test l f) ≡ 0 → (w j : ℕ) → sumL g (c′ w j) ≡ sumL g (s.ch w j)
-  same g a t w j = snoc-sum c₁ v k accept g a w j ∙ pop-sum s.ch u k q g t w j
+  old g z o w j h = pop-in s.ch u k q w j (before p s₁ v k plain-accept g z o w j h)
 
   level : (j w x : ℕ) → Ends p j w x → sumL isT (c′ w j) + sumL isA (c′ x j) ≡ sumL isT (s.ch w j) + sumL isA (s.ch x j)
   level = even p s ends q accept refl refl
@@ -100,35 +90,7 @@ module _ {p : Plan} {s : State} (i : Inv p s) {u v k l f : ℕ} {r : List Msg} (
       fresh = record { a1w = waits; a1m = basic; a1f = λ z. apart (sym z); a1l = omega (arith, i.E1.e1 k u v l f ends head .0) }
 
   pub inv-accept-test : Inv p S′
-  inv-accept-test = record {
-    W0 = i.W0;
-    W1 = i.W1;
-    G2 = i.G2;
-    G4 = i.G4;
-    G5 = i.G5;
-    G6 = i.G6;
-    M1 = i.M1;
-    U1 = i.U1;
-    D1 = i.D1;
-    D2 = i.D2;
-    D3 = i.D3;
-    D4 = i.D4;
-    T1 = i.T1;
-    T2 = i.T2;
-    F1 = i.F1;
-    F2 = i.F2;
-    F4 = i.F4;
-    E2 = i.E2;
-    B1 = i.B1;
-    G6c = post-hush p s₁ v k plain awake (λ x e z. absurd (inf-awake i u inf (ap s.st (ends-same (flip ends) e) ∙ z))) (take-hush p s u k q asked i.G6c);
-    Dc = post-tokens p s₁ v k plain (λ h. tt) (take-tokens p s u k q asked i.Dc);
-    C1 = connects-same p s c′ (λ w j a h. old isC refl (omega arith) w j h) i.C1;
-    I1 = initiates-same p s c′ (λ w j a b x h. old isI refl (omega arith) w j h) i.I1;
-    T4 = post-telling p s₁ v k plain (take-telling p s u k q asked i.T4);
-    E1 = E1′;
-    A1 = A1′;
-    R1 = reports-same p s₁ c′ (post-alike p s₁ v k plain) (reports-same p s c₁ (take-alike p s u k q asked) i.R1);
-    F4c = owing-same p s c′ (same isR refl refl) i.F4c;
-    B2 = bests-same p s c′ (same isR refl refl) i.B2;
-    Q1 = post-ordered p s₁ v k plain (λ x h. fits-accept x (none-in isA unanswered (pop-in s.ch u k q v k h))) (take-ordered p s u k q asked i.Q1);
-  }
+  inv-accept-test = inv-passing i c′
+      (flow-post p s₁ v k plain-accept awake (λ x e z. absurd (inf-awake i u inf (ap s.st (ends-same (flip ends) e) ∙ z))) (λ h. tt)
+      (λ x h. fits-accept x (none-in isA unanswered (pop-in s.ch u k q v k h))) (flow-take p s u k q (plain-test l f) (flow i)))
+      E1′ A1′ (bests-same p s c′ (λ w j. snoc-sum c₁ v k accept isR refl w j ∙ pop-sum s.ch u k q isR refl w j) i.B2)

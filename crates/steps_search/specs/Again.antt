@@ -1,44 +1,13 @@
 -- v, which waits on k, takes m from u over k, strikes its mark for k and is to test again: a Reject, and a Test that crossed its own.
-use Rattle.protocol.specs.Prelude.{ℕ, zero, suc, _+_, _≤_, _<_, arith, _≡_, refl, sym, ap, subst, _∙_, _≢_, _⊎_, inl, inr, ⊎-elim}
-use Rattle.protocol.specs.Prelude.{List, [], _∷_, _++_, upd2, by-eq, sumL}
-use Rattle.protocol.specs.Prelude.{Msg, none, connect, initiate, test, accept, reject, report, change}
-use Rattle.protocol.specs.Prelude.{Plan, Ends, key, rank, flip, ends-same, ends-irr, State, Idle, Strike, set-ch, set-mark, set-ot, marked, pop}
-use Rattle.protocol.specs.Prelude.{isC, isI, isT, isA, isR, In, pop-in, pop-sum, pop-le, else-same, here-new, at2, upd2-elim, none-in, Waits, Inv, waits-find}
-use Rattle.protocol.specs.Prelude.{Plain, take-alike, take-hush, take-tokens, take-telling, take-ordered}
-use Rattle.protocol.specs.Prelude.{connects-same, initiates-same, reports-same, owing-same, bests-same}
-use Rattle.protocol.specs.Prelude.{hush-open, tokens-open, connects-open, initiates-open, telling-open, reports-open, owing-open, ordered-open}
+use Rattle.protocol.specs.Prelude.{ℕ, suc, _+_, _≤_, arith, _≡_, refl, sym, ap, subst, _∙_, _≢_, _⊎_, inl, inr, ⊎-elim}
+use Rattle.protocol.specs.Prelude.{List, _∷_, upd2, by-eq, sumL}
+use Rattle.protocol.specs.Prelude.{Msg, test}
+use Rattle.protocol.specs.Prelude.{Plan, Ends, flip, ends-same, ends-irr, State, Idle, Strike, set-ch, set-mark, set-ot, marked, pop}
+use Rattle.protocol.specs.Prelude.{isT, isA, isR, In, pop-in, pop-sum, pop-le, else-same, here-new, at2, upd2-elim, none-in, Waits, Inv, waits-find}
+use Rattle.protocol.specs.Prelude.{Plain, bests-same, flow, flow-open, flow-take}
 use Rattle.protocol.specs.Search.{Pending, Tests}
 use Rattle.protocol.specs.Traffic.{Testing, Answers, Bests}
-use Rattle.steps_search.specs.Strike.{
-  struck,
-  up1,
-  up2,
-  up0,
-  dn0,
-  dn1,
-  dn2,
-  dn-other,
-  up-both,
-  dn-both,
-  connects-strike,
-  initiates-strike,
-  telling-strike,
-  reports-strike,
-  owing-strike,
-  hush-strike,
-  tokens-strike,
-  ordered-strike,
-  ranges-strike,
-  cores-strike,
-  sleepers-strike,
-  marks-strike,
-  inbounds-strike,
-  halves-strike,
-  tellings-strike,
-  rootings-strike,
-  finishes-strike,
-  kids-strike,
-}
+use Rattle.steps_search.specs.Strike.{struck, up1, up2, up0, dn0, dn1, dn2, dn-other, up-both, dn-both, flow-strike, inv-strike}
 
 pub record Repeat (p : Plan) (s : State) (u v k c : ℕ) (m : Msg) (r : List Msg) : Type 0 where
   pub idle : Idle s
@@ -234,35 +203,6 @@ module _ {p : Plan} {s : State} (i : Inv p s) {u v k c : ℕ} {m : Msg} {r : Lis
       o = bests-same p s c′ rep i.B2
 
   pub inv-again : Inv p S′
-  inv-again = record {
-    W0 = ranges-strike i back (h.strike) awake (h.inside) (h.free);
-    W1 = i.W1;
-    G2 = i.G2;
-    G4 = i.G4;
-    G5 = cores-strike i back (h.strike) awake (h.inside) (h.free);
-    G6 = sleepers-strike i back (h.strike) awake (h.inside) (h.free);
-    M1 = marks-strike i back (h.strike) awake (h.inside) (h.free);
-    U1 = inbounds-strike i back (h.strike) awake (h.inside) (h.free);
-    D1 = halves-strike i back (h.strike) awake (h.inside) (h.free);
-    D2 = tellings-strike i back (h.strike) awake (h.inside) (h.free);
-    D3 = rootings-strike i back (h.strike) awake (h.inside) (h.free);
-    D4 = finishes-strike i back (h.strike) awake (h.inside) (h.free);
-    T1 = i.T1;
-    T2 = kids-strike i back (h.strike) awake (h.inside) (h.free);
-    F1 = i.F1;
-    F2 = F2′;
-    F4 = i.F4;
-    E2 = E2′;
-    B1 = i.B1;
-    G6c = hush-open p s₂ s.te s.be s.fc (suc v) s.op s.oo (hush-strike p s₁ v k c (h.strike) (take-hush p s u k (h.took) (h.plain) i.G6c));
-    Dc = tokens-open p s₂ s.te s.be s.fc (suc v) s.op s.oo (tokens-strike p s₁ v k c (h.strike) (take-tokens p s u k (h.took) (h.plain) i.Dc));
-    C1 = connects-open p s₂ s.te s.be s.fc (suc v) s.op s.oo (connects-strike p s₁ v k c (h.strike) (connects-same p s c′ (λ w j l n. old w j n) i.C1));
-    I1 = initiates-open p s₂ s.te s.be s.fc (suc v) s.op s.oo (initiates-strike p s₁ v k c (h.strike) (initiates-same p s c′ (λ w j l f x n. old w j n) i.I1));
-    T4 = telling-open p s₂ s.te s.be s.fc (suc v) s.op s.oo (telling-strike p s₁ v k c (h.strike) (take-telling p s u k (h.took) (h.plain) i.T4));
-    E1 = E1′;
-    A1 = A1′;
-    R1 = reports-open p s₂ s.te s.be s.fc (suc v) s.op s.oo (reports-strike p s₁ v k c (h.strike) (reports-same p s c′ (take-alike p s u k (h.took) (h.plain)) i.R1));
-    F4c = owing-open p s₂ s.te s.be s.fc (suc v) s.op s.oo (owing-strike p s₁ v k c (h.strike) (owing-same p s c′ rep i.F4c));
-    B2 = B2′;
-    Q1 = ordered-open p s₂ s.te s.be s.fc (suc v) s.op s.oo (ordered-strike p s₁ v k c (h.strike) (take-ordered p s u k (h.took) (h.plain) i.Q1));
-  }
+  inv-again = inv-strike i back (h.strike) awake (h.inside) (h.free) (suc v) c′ F2′ E2′
+      (flow-open p s₂ s.te s.be s.fc (suc v) s.op s.oo (flow-strike p s₁ v k c (h.strike) (flow-take p s u k (h.took) (h.plain) (flow i))))
+      E1′ A1′ B2′

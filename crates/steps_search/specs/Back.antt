@@ -1,12 +1,12 @@
 -- A put-back keeps the invariant: the head m of the channel from u over k, which v would put back, goes to a later place.
-use Rattle.protocol.specs.Prelude.{ℕ, zero, suc, _+_, _≤_, _<_, arith, _≡_, refl, sym, ap, subst, _∙_, _≢_, _⊎_, inl, inr, ⊎-elim}
-use Rattle.protocol.specs.Prelude.{List, [], _∷_, _++_, upd2, upd2-elim, All, nil, con, sumL}
-use Rattle.protocol.specs.Prelude.{Msg, none, connect, initiate, test, accept, reject, report, change}
-use Rattle.protocol.specs.Prelude.{Plan, Ends, key, rank, joins-lt, flip, ends-same, State, Idle, Blocked, set-ch, pop}
-use Rattle.protocol.specs.Prelude.{isC, isI, isCI, isT, isA, isR, isK, Only, Rouse, Fits, top, top-mid, fits-test, fits-report}
-use Rattle.protocol.specs.Prelude.{In, Bef, bef-before, bef-behind, all-in, head-at, pop-head, rot, rot-in, in-rot, rot-bef, rot-sum, rot-all}
-use Rattle.protocol.specs.Prelude.{GL, GC, DK, Inf, Jn, Half, Told, Root, Inv, half-at, up-other, kinds, none-in, at2, in-nil, Alike, owing-same, bests-same, connects-same, initiates-same, answers-same, reports-same}
-use Rattle.protocol.specs.Traffic.{Tokens, Telling, Testing, Ordered}
+use Rattle.protocol.specs.Prelude.{ℕ, _≤_, arith, _≡_, refl, sym, ap, subst, _∙_, _≢_, inl, inr, ⊎-elim}
+use Rattle.protocol.specs.Prelude.{List, [], _∷_, _++_, upd2-elim, sumL}
+use Rattle.protocol.specs.Prelude.{Msg, connect, initiate, test, accept, reject, report, change}
+use Rattle.protocol.specs.Prelude.{Plan, Ends, State, Idle, Blocked, pop}
+use Rattle.protocol.specs.Prelude.{isC, isI, isCI, isT, isA, isR, Only, Fits, top, top-mid, fits-test, fits-report}
+use Rattle.protocol.specs.Prelude.{In, Bef, bef-behind, all-in, head-at, pop-head, rot, rot-in, in-rot, rot-bef, rot-sum, rot-all}
+use Rattle.protocol.specs.Prelude.{GL, Inv, half-at, up-other, kinds, none-in, at2, in-nil, Alike, owing-same, bests-same, connects-same, initiates-same, answers-same, testing-same, reports-same, inv-passing}
+use Rattle.protocol.specs.Traffic.{Tokens, Telling, Ordered}
 
 -- what is put back is no Initiate
 pub not-initiate : (s : State) (v k : ℕ) (m : Msg) → Blocked s v k m → isI m ≡ 0
@@ -131,15 +131,6 @@ module _ {p : Plan} {s : State} (i : Inv p s) {u v k : ℕ} {m : Msg} (a b : Lis
     t4n = λ k x y e j g n. let t = i.T4.t4n k x y e j g (omega (arith, same isC x k)) in (t .0, λ o. t .1 (old y k o));
   }
 
-  E1′ : Testing p S′
-  E1′ = record {
-    e1 = λ k u v l f e h. i.E1.e1 k u v l f e (old u k h);
-    e1w = λ k u v l f e h. i.E1.e1w k u v l f e (old u k h);
-    e2w = λ k v u e y z. omega (arith, i.E1.e2w k v u e y z, same isT v k, same isA u k);
-    e2c = λ k v u e y z. omega (arith, i.E1.e2c k v u e y z, same isT v k, same isA u k, same isT u k);
-    m6t = λ k v u e y z. same isT u k ∙ i.E1.m6t k v u e y z;
-  }
-
   Q1′ : Ordered p S′
   Q1′ = record {
     q1 = λ j w z x y e h. ⊎-elim (λ o. i.Q1.q1 j w z x y e o)
@@ -149,35 +140,16 @@ module _ {p : Plan} {s : State} (i : Inv p s) {u v k : ℕ} {m : Msg} (a b : Lis
   }
 
   pub inv-back : Inv p S′
-  inv-back = record {
-    W0 = i.W0;
-    W1 = i.W1;
-    G2 = i.G2;
-    G4 = i.G4;
-    G5 = i.G5;
-    G6 = i.G6;
-    M1 = i.M1;
-    U1 = i.U1;
-    D1 = i.D1;
-    D2 = i.D2;
-    D3 = i.D3;
-    D4 = i.D4;
-    T1 = i.T1;
-    T2 = i.T2;
-    F1 = i.F1;
-    F2 = i.F2;
-    F4 = i.F4;
-    E2 = i.E2;
-    B1 = i.B1;
+  inv-back = inv-passing i c′ (record {
     G6c = record { g6o = λ k v u e z. silent v k (i.G6c.g6o k v u e z); g6i = λ j w x e z. rot-all s.ch u k a b q w j (i.G6c.g6i j w x e z) };
     Dc = Dc′;
     C1 = connects-same p s c′ (λ w j l h. old w j h) i.C1;
     I1 = initiates-same p s c′ (λ w j l f x h. old w j h) i.I1;
     T4 = T4′;
-    E1 = E1′;
-    A1 = answers-same p s c′ (λ w j h. old w j h) (λ w j h. old w j h) i.A1;
     R1 = reports-same p s c′ alike i.R1;
     F4c = owing-same p s c′ (same isR) i.F4c;
-    B2 = bests-same p s c′ (same isR) i.B2;
     Q1 = Q1′;
-  }
+  })
+      (testing-same p s c′ (λ w j l f h. old w j h) (same isT) (same isA) i.E1)
+      (answers-same p s c′ (λ w j h. old w j h) (λ w j h. old w j h) i.A1)
+      (bests-same p s c′ (same isR) i.B2)

@@ -1,9 +1,9 @@
 -- Test of v's own fragment from u, over v's own test edge k: the mark is struck, procedure test comes next.
-use Rattle.protocol.specs.Prelude.{ℕ, zero, suc, _+_, _≤_, _<_, arith, _≡_, refl, sym, ap, subst, _∙_, _≢_, _⊎_, inl, inr, ⊎-elim}
-use Rattle.protocol.specs.Prelude.{List, [], _∷_, by-eq, sumL, Msg, test, accept, reject, Plan, Ends, flip, State, Idle, Strike, set-ot, marked, pop}
-use Rattle.protocol.specs.Prelude.{isT, isA, In, in-sum, pop-head, no-answers, Waits, Inv, rest-none}
+use Rattle.protocol.specs.Prelude.{ℕ, suc, _≤_, arith, _≡_, sym, ap, _≢_, _⊎_, inl, inr, ⊎-elim}
+use Rattle.protocol.specs.Prelude.{List, _∷_, by-eq, sumL, Msg, test, Plan, Ends, flip, State, Idle, Strike, set-ot, marked, pop}
+use Rattle.protocol.specs.Prelude.{isT, isA, In, in-sum, pop-head, no-answers, Waits, Inv, rest-none, plain-test}
 use Rattle.steps_search.specs.Own.{inside, branch-v, branch-u}
-use Rattle.steps_search.specs.Again.{Repeat, inv-again}
+use Rattle.steps_search.specs.Again.{inv-again}
 
 module _ {p : Plan} {s : State} (i : Inv p s) {u v k l f c : ℕ} {r : List Msg} (idle : Idle s) (ends : Ends p k u v) (awake : s.st v ≢ 0) (q : s.ch u k ≡ test l f ∷ r)
     (low : l ≤ s.lev v) (same : s.id v ≡ f) (edge : s.te v ≡ k) (strike : Strike s v k c) where
@@ -48,7 +48,7 @@ module _ {p : Plan} {s : State} (i : Inv p s) {u v k l f c : ℕ} {r : List Msg}
     idle = idle;
     ends = ends;
     took = q;
-    plain = record { no-call = refl; no-init = refl; no-conn = refl; no-rep = refl; no-change = refl };
+    plain = plain-test l f;
     strike = strike;
     wait = wait;
     inside = sym within;

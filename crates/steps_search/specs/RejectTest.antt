@@ -1,20 +1,16 @@
 -- Test of v's own fragment from u, over k that is not v's test edge: the mark is struck, v answers Reject.
-use Rattle.protocol.specs.Prelude.{ℕ, zero, suc, _+_, _≤_, _<_, arith, _≡_, refl, sym, ap, subst, _∙_, _≢_, _⊎_, inl, inr, ⊎-elim}
-use Rattle.protocol.specs.Prelude.{List, [], _∷_, _++_, upd2, upd2-elim, by-eq, sumL}
-use Rattle.protocol.specs.Prelude.{Msg, none, connect, initiate, test, accept, reject, report, change}
-use Rattle.protocol.specs.Prelude.{Plan, Ends, flip, ends-same, State, Idle, Strike, set-ch, set-mark, send, pop, marked}
-use Rattle.protocol.specs.Prelude.{isC, isI, isT, isA, isR, fits-reject, kinds, In, in-sum, pop-head, pop-in, pop-sum, pop-le, none-in, no-tests}
-use Rattle.protocol.specs.Prelude.{snoc, snoc-in, snoc-old, snoc-sum, Inf, Waits, Inv, inf-awake}
-use Rattle.protocol.specs.Prelude.{Plain, take-alike, take-hush, take-tokens, take-telling, take-ordered, before, post-alike, post-hush, post-tokens, post-telling, post-ordered}
-use Rattle.protocol.specs.Prelude.{connects-same, initiates-same, reports-same, owing-same, bests-same}
+use Rattle.protocol.specs.Prelude.{ℕ, suc, _+_, _≤_, arith, _≡_, refl, sym, ap, subst, _∙_, _≢_, _⊎_, inl, inr, ⊎-elim}
+use Rattle.protocol.specs.Prelude.{List, _∷_, upd2, upd2-elim, by-eq, sumL}
+use Rattle.protocol.specs.Prelude.{Msg, test, reject}
+use Rattle.protocol.specs.Prelude.{Plan, Ends, flip, ends-same, State, Idle, Strike, set-ch, send, pop, marked}
+use Rattle.protocol.specs.Prelude.{isT, isA, isR, fits-reject, kinds, In, in-sum, pop-head, pop-in, pop-sum, pop-le, none-in, no-tests}
+use Rattle.protocol.specs.Prelude.{snoc, snoc-in, snoc-old, snoc-sum, Waits, Inv, inf-awake}
+use Rattle.protocol.specs.Prelude.{plain-test, plain-reject, before, bests-same, flow, flow-take, flow-post}
 use Rattle.protocol.specs.Search.{Tests}
 use Rattle.protocol.specs.Traffic.{RejectOk, Testing, Answers, Bests}
 use Rattle.steps_search.specs.Own.{inf-u, inside, branch-v, branch-u}
 use Rattle.steps_search.specs.Answer.{tests, tests-here, even}
-use Rattle.steps_search.specs.Strike.{struck, up1, up2, up0, dn0, dn1, dn2, up-both, dn-both}
-use Rattle.steps_search.specs.Strike.{connects-strike, initiates-strike, telling-strike, reports-strike, owing-strike, hush-strike, tokens-strike, ordered-strike}
-use Rattle.steps_search.specs.Strike.{ranges-strike, cores-strike, sleepers-strike, marks-strike, inbounds-strike, halves-strike, tellings-strike, rootings-strike}
-use Rattle.steps_search.specs.Strike.{finishes-strike, kids-strike}
+use Rattle.steps_search.specs.Strike.{struck, up1, up2, up0, dn0, dn1, dn2, up-both, dn-both, flow-strike, inv-strike}
 
 module _ {p : Plan} {s : State} (i : Inv p s) {u v k l f c : ℕ} {r : List Msg} (idle : Idle s) (ends : Ends p k u v) (awake : s.st v ≢ 0) (q : s.ch u k ≡ test l f ∷ r)
     (low : l ≤ s.lev v) (same : s.id v ≡ f) (other : s.te v ≢ k) (strike : Strike s v k c) where
@@ -35,12 +31,6 @@ module _ {p : Plan} {s : State} (i : Inv p s) {u v k l f c : ℕ} {r : List Msg}
 
   abbrev S′ : State
   S′ = send (marked (pop s u k r) v k c) v k reject
-
-  asked : Plain (test l f)
-  asked = record { no-call = refl; no-init = refl; no-conn = refl; no-rep = refl; no-change = refl }
-
-  plain : Plain reject
-  plain = record { no-call = refl; no-init = refl; no-conn = refl; no-rep = refl; no-change = refl }
 
   head : In (test l f) (s.ch u k)
   head = pop-head s.ch u k q
@@ -85,7 +75,7 @@ module _ {p : Plan} {s : State} (i : Inv p s) {u v k l f c : ℕ} {r : List Msg}
   unanswered = omega (arith, alone, one)
 
   old : {x : Msg} (g : Msg → ℕ) → g reject ≡ 0 → 1 ≤ g x → (w j : ℕ) → In x (c′ w j) → In x (s.ch w j)
-  old g z o w j h = pop-in s.ch u k q w j (before p s₁ v k plain g z o w j h)
+  old g z o w j h = pop-in s.ch u k q w j (before p s₁ v k plain-reject g z o w j h)
 
   rep : (w j : ℕ) → sumL isR (c′ w j) ≡ sumL isR (s.ch w j)
   rep w j = snoc-sum c₁ v k reject isR refl w j ∙ pop-sum s.ch u k q isR refl w j
@@ -169,37 +159,8 @@ module _ {p : Plan} {s : State} (i : Inv p s) {u v k l f c : ℕ} {r : List Msg}
       o = bests-same p s c′ rep i.B2
 
   pub inv-reject-test : Inv p S′
-  inv-reject-test = record {
-    W0 = ranges-strike i (flip ends) strike awake within free;
-    W1 = i.W1;
-    G2 = i.G2;
-    G4 = i.G4;
-    G5 = cores-strike i (flip ends) strike awake within free;
-    G6 = sleepers-strike i (flip ends) strike awake within free;
-    M1 = marks-strike i (flip ends) strike awake within free;
-    U1 = inbounds-strike i (flip ends) strike awake within free;
-    D1 = halves-strike i (flip ends) strike awake within free;
-    D2 = tellings-strike i (flip ends) strike awake within free;
-    D3 = rootings-strike i (flip ends) strike awake within free;
-    D4 = finishes-strike i (flip ends) strike awake within free;
-    T1 = i.T1;
-    T2 = kids-strike i (flip ends) strike awake within free;
-    F1 = i.F1;
-    F2 = i.F2;
-    F4 = i.F4;
-    E2 = E2′;
-    B1 = i.B1;
-    G6c = hush-strike p s₂ v k c strike
-        (post-hush p s₁ v k plain awake (λ x e z. absurd (inf-awake i u (inf-u i ends head low same) (ap s.st (ends-same (flip ends) e) ∙ z))) (take-hush p s u k q asked i.G6c));
-    Dc = tokens-strike p s₂ v k c strike (post-tokens p s₁ v k plain (λ h. tt) (take-tokens p s u k q asked i.Dc));
-    C1 = connects-strike p s₂ v k c strike (connects-same p s c′ (λ w j a h. old isC refl (omega arith) w j h) i.C1);
-    I1 = initiates-strike p s₂ v k c strike (initiates-same p s c′ (λ w j a b x h. old isI refl (omega arith) w j h) i.I1);
-    T4 = telling-strike p s₂ v k c strike (post-telling p s₁ v k plain (take-telling p s u k q asked i.T4));
-    E1 = E1′;
-    A1 = A1′;
-    R1 = reports-strike p s₂ v k c strike (reports-same p s₁ c′ (post-alike p s₁ v k plain) (reports-same p s c₁ (take-alike p s u k q asked) i.R1));
-    F4c = owing-strike p s₂ v k c strike (owing-same p s c′ rep i.F4c);
-    B2 = B2′;
-    Q1 = ordered-strike p s₂ v k c strike
-        (post-ordered p s₁ v k plain (λ x h. fits-reject x (none-in isA unanswered (pop-in s.ch u k q v k h))) (take-ordered p s u k q asked i.Q1));
-  }
+  inv-reject-test = inv-strike i (flip ends) strike awake within free s.ot c′ i.F2 E2′
+      (flow-strike p s₂ v k c strike
+      (flow-post p s₁ v k plain-reject awake (λ x e z. absurd (inf-awake i u (inf-u i ends head low same) (ap s.st (ends-same (flip ends) e) ∙ z))) (λ h. tt)
+      (λ x h. fits-reject x (none-in isA unanswered (pop-in s.ch u k q v k h))) (flow-take p s u k q (plain-test l f) (flow i))))
+      E1′ A1′ B2′

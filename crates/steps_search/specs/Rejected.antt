@@ -1,9 +1,9 @@
 -- Reject from u at v over k: the mark is struck, procedure test comes next.
-use Rattle.protocol.specs.Prelude.{ℕ, zero, suc, _+_, _≤_, _<_, arith, _≡_, refl, sym, ap, subst, _∙_, _≢_, _⊎_, inl, inr, ⊎-elim}
-use Rattle.protocol.specs.Prelude.{List, [], _∷_, by-eq, sumL, Msg, reject, Plan, Ends, flip, State, Idle, Strike, set-ot, marked, pop}
-use Rattle.protocol.specs.Prelude.{isT, isA, In, in-sum, pop-head, Waits, Inv, rest-none}
+use Rattle.protocol.specs.Prelude.{ℕ, suc, _+_, _≤_, arith, _≡_, sym, ap, _≢_, inl}
+use Rattle.protocol.specs.Prelude.{List, _∷_, by-eq, sumL, Msg, reject, Plan, Ends, flip, State, Idle, Strike, set-ot, marked, pop}
+use Rattle.protocol.specs.Prelude.{isT, isA, in-sum, pop-head, Inv, rest-none, plain-reject}
 use Rattle.protocol.specs.Traffic.{RejectOk}
-use Rattle.steps_search.specs.Again.{Repeat, inv-again}
+use Rattle.steps_search.specs.Again.{inv-again}
 
 module _ {p : Plan} {s : State} (i : Inv p s) {u v k c : ℕ} {r : List Msg} (idle : Idle s) (ends : Ends p k u v) (q : s.ch u k ≡ reject ∷ r) (strike : Strike s v k c) where
   pub said : RejectOk s.te s.fr s.mark s.ot k u v
@@ -28,7 +28,7 @@ module _ {p : Plan} {s : State} (i : Inv p s) {u v k c : ℕ} {r : List Msg} (id
     idle = idle;
     ends = ends;
     took = q;
-    plain = record { no-call = refl; no-init = refl; no-conn = refl; no-rep = refl; no-change = refl };
+    plain = plain-reject;
     strike = strike;
     wait = said .j1w;
     inside = sym (said .j1f);

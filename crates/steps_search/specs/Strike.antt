@@ -1,11 +1,11 @@
 -- A mark of v for k that is Basic becomes Rejected: what stays of the clauses that read marks.
-use Rattle.protocol.specs.Prelude.{ℕ, zero, suc, _+_, _≤_, _<_, arith, _≡_, refl, sym, ap, subst, _∙_, _≢_, _⊎_, inl, inr, ⊎-elim}
-use Rattle.protocol.specs.Prelude.{upd2, upd2-elim, by-eq, none, Plan, Ends, Tree, key, rank, flip, ends-same, wider, State, Strike, set-mark}
-use Rattle.protocol.specs.Prelude.{Both, Joined, Bounding, Jn, Inf, Half, Told, Covered, Inv, no-root, at2}
+use Rattle.protocol.specs.Prelude.{ℕ, _≤_, arith, _≡_, sym, ap, subst, _∙_, _≢_, _⊎_, inl, inr, ⊎-elim}
+use Rattle.protocol.specs.Prelude.{upd2, upd2-elim, by-eq, Plan, Ends, key, rank, flip, ends-same, wider, State, Strike, set-mark, set-ch, set-ot, List, Msg}
+use Rattle.protocol.specs.Prelude.{Both, Bounding, Inv, Flow, at2}
 use Rattle.protocol.specs.Fragments.{Ranges, Cores, Sleepers, Marks, Inbounds}
 use Rattle.protocol.specs.Decisions.{Halves, Tellings, Rootings, Finishes}
-use Rattle.protocol.specs.Search.{Kids}
-use Rattle.protocol.specs.Traffic.{Hush, Tokens, Connects, Initiates, Telling, Reports, Owing, Ordered}
+use Rattle.protocol.specs.Search.{Kids, Pending, Tests}
+use Rattle.protocol.specs.Traffic.{Connects, Initiates, Telling, Testing, Answers, Reports, Owing, Bests}
 
 module _ (p : Plan) (s : State) (v k c : ℕ) (strike : Strike s v k c) where
   abbrev pub struck : ℕ → ℕ → ℕ
@@ -52,10 +52,10 @@ module _ (p : Plan) (s : State) (v k c : ℕ) (strike : Strike s v k c) where
 
   -- ---- clauses on channels
 
-  pub connects-strike : Connects p s → Connects p (set-mark s struck)
+  connects-strike : Connects p s → Connects p (set-mark s struck)
   connects-strike o = record { c1m = λ j u w l e n. up1 u j (o.c1m j u w l e n); c1 = λ j u w l e n m. o.c1 j u w l e n (dn1 w j m) }
 
-  pub initiates-strike : Initiates p s → Initiates p (set-mark s struck)
+  initiates-strike : Initiates p s → Initiates p (set-mark s struck)
   initiates-strike o = record {
     i1 = λ j u w l f x e n. let t = o.i1 j u w l f x e n in
         record {
@@ -72,7 +72,7 @@ module _ (p : Plan) (s : State) (v k c : ℕ) (strike : Strike s v k c) where
         };
   }
 
-  pub telling-strike : Telling p s → Telling p (set-mark s struck)
+  telling-strike : Telling p s → Telling p (set-mark s struck)
   telling-strike o = record {
     u2 = λ j w x e b n. o.u2 j w x e (dn-both j w x b) n;
     t2i = λ j w x e b h n l. o.t2i j w x e (dn-both j w x b) h n l;
@@ -80,23 +80,26 @@ module _ (p : Plan) (s : State) (v k c : ℕ) (strike : Strike s v k c) where
     t4n = λ j x y e b g n. o.t4n j x y e (dn-both j x y b) g n;
   }
 
-  pub reports-strike : Reports p s → Reports p (set-mark s struck)
+  reports-strike : Reports p s → Reports p (set-mark s struck)
   reports-strike o = record { r1r = o.r1r; r1j = λ j u w n e h. up-both j u w (o.r1j j u w n e h); r1 = o.r1; r1c = o.r1c }
 
-  pub owing-strike : Owing p s → Owing p (set-mark s struck)
+  owing-strike : Owing p s → Owing p (set-mark s struck)
   owing-strike o = record {
     f4y = λ j w x e n. let t = o.f4y j w x e n in (t .0, up-both j w x (t .1), t .2, t .3);
     f4n = λ j w x e h b n t. o.f4n j w x e h (dn-both j w x b) n t;
   }
 
-  pub hush-strike : Hush p s → Hush p (set-mark s struck)
-  hush-strike o = record { g6o = o.g6o; g6i = o.g6i }
-
-  pub tokens-strike : Tokens p s → Tokens p (set-mark s struck)
-  tokens-strike o = record { d1c = o.d1c; d1a = o.d1a; d2c = o.d2c; k1 = o.k1; d3r = o.d3r; d4h = o.d4h; d4r = o.d4r; d7 = o.d7 }
-
-  pub ordered-strike : Ordered p s → Ordered p (set-mark s struck)
-  ordered-strike o = record { q1 = o.q1 }
+  pub flow-strike : Flow p s → Flow p (set-mark s struck)
+  flow-strike o = record {
+    G6c = record { g6o = o.G6c.g6o; g6i = o.G6c.g6i };
+    Dc = record { d1c = o.Dc.d1c; d1a = o.Dc.d1a; d2c = o.Dc.d2c; k1 = o.Dc.k1; d3r = o.Dc.d3r; d4h = o.Dc.d4h; d4r = o.Dc.d4r; d7 = o.Dc.d7 };
+    C1 = connects-strike o.C1;
+    I1 = initiates-strike o.I1;
+    T4 = telling-strike o.T4;
+    R1 = reports-strike o.R1;
+    F4c = owing-strike o.F4c;
+    Q1 = record { q1 = o.Q1.q1 };
+  }
 
 -- ---- clauses on tables: v is awake, k lies inside the fragment and is not Branch at its other end where it is Basic at v
 
@@ -105,7 +108,7 @@ module _ {p : Plan} {s : State} (i : Inv p s) {u v k c : ℕ} (ends : Ends p k v
   abbrev m′ : ℕ → ℕ → ℕ
   m′ = struck p s v k c strike
 
-  pub ranges-strike : Ranges s.st s.halt s.due s.dk m′
+  ranges-strike : Ranges s.st s.halt s.due s.dk m′
   ranges-strike = record {
     st-le = i.W0.st-le;
     halt-le = i.W0.halt-le;
@@ -114,13 +117,13 @@ module _ {p : Plan} {s : State} (i : Inv p s) {u v k c : ℕ} (ends : Ends p k v
     mark-le = λ w j. upd2-elim (λ x. x ≤ 2) s.mark v k c w j (λ a b. ⊎-elim (λ t. omega (arith, t .1)) (λ t. omega (arith, t .1, i.W0.mark-le v k)) strike) (λ n. i.W0.mark-le w j);
   }
 
-  pub cores-strike : Cores p s.fr s.gl s.gc m′
+  cores-strike : Cores p s.fr s.gl s.gc m′
   cores-strike = record {
     g5r = i.G5.g5r;
     g5 = λ w x y l e. let t = i.G5.g5 w x y l e in (up-both p s v k c strike (s.gc (s.fr w)) x y (t .0), t .1);
   }
 
-  pub sleepers-strike : Sleepers p s.st s.fr s.gl s.dk s.due s.bw s.be s.ub s.halt m′
+  sleepers-strike : Sleepers p s.st s.fr s.gl s.dk s.due s.bw s.be s.ub s.halt m′
   sleepers-strike = record {
     g6 = i.G6.g6;
     g6m = λ w j z. up0 p s v k c strike w j (inl (λ q. awake (ap s.st q ∙ z))) (i.G6.g6m w j z);
@@ -129,7 +132,7 @@ module _ {p : Plan} {s : State} (i : Inv p s) {u v k c : ℕ} (ends : Ends p k v
     g7n = i.G6.g7n;
   }
 
-  pub marks-strike : Marks p s.fr m′
+  marks-strike : Marks p s.fr m′
   marks-strike = record {
     own = λ w j n. upd2-elim (λ x. x ≢ 0 → (y : ℕ) × Ends p j w y) s.mark v k c w j
         (λ a b m. (u, subst (λ x. Ends p j x u) a (subst (λ x. Ends p x v u) b ends))) (λ d m. i.M1.own w j m) n;
@@ -142,7 +145,7 @@ module _ {p : Plan} {s : State} (i : Inv p s) {u v k c : ℕ} (ends : Ends p k v
     m5 = λ j w x e h. i.M1.m5 j w x e (dn1 p s v k c strike w j h);
   }
 
-  pub inbounds-strike : Inbounds p s.ub s.ib m′
+  inbounds-strike : Inbounds p s.ub s.ib m′
   inbounds-strike = record {
     u1o = i.U1.u1o;
     u1 = λ j w x e h. up1 p s v k c strike w j (i.U1.u1 j w x e h);
@@ -151,7 +154,7 @@ module _ {p : Plan} {s : State} (i : Inv p s) {u v k c : ℕ} (ends : Ends p k v
     m3u = λ j w x e h. i.U1.m3u j w x e (dn-both p s v k c strike j w x h);
   }
 
-  pub halves-strike : Halves p s.dk s.dn s.de s.fr s.gl s.lev s.ub m′
+  halves-strike : Halves p s.dk s.dn s.de s.fr s.gl s.lev s.ub m′
   halves-strike = record {
     m2 = λ j w x e a b. i.D1.m2 j w x e (dn1 p s v k c strike w j a) (λ z. b (up1 p s v k c strike x j z));
     d1f = i.D1.d1f;
@@ -172,7 +175,7 @@ module _ {p : Plan} {s : State} (i : Inv p s) {u v k c : ℕ} (ends : Ends p k v
       out : (j z y : ℕ) → Ends p j z y → v ≡ y → k ≡ j → s.fr y ≡ s.fr z
       out j z y e q b = ap s.fr (sym q) ∙ inside ∙ ap s.fr (ends-same ends (subst (λ a. Ends p a v z) (sym b) (subst (λ a. Ends p j a z) (sym q) (flip e))))
 
-  pub tellings-strike : Tellings p s.dk s.dn s.de s.fr s.gl s.gc s.lev s.ib s.ub s.bw m′
+  tellings-strike : Tellings p s.dk s.dn s.de s.fr s.gl s.gc s.lev s.ib s.ub s.bw m′
   tellings-strike = record {
     d2f = i.D2.d2f;
     d2e = i.D2.d2e;
@@ -190,7 +193,7 @@ module _ {p : Plan} {s : State} (i : Inv p s) {u v k c : ℕ} (ends : Ends p k v
         };
   }
 
-  pub rootings-strike : Rootings p s.dk s.dn s.fr s.gl s.lev s.ib s.ub s.bw m′ s.oo
+  rootings-strike : Rootings p s.dk s.dn s.fr s.gl s.lev s.ib s.ub s.bw m′ s.oo
   rootings-strike = record {
     d3f = i.D3.d3f;
     d3o = i.D3.d3o;
@@ -199,12 +202,51 @@ module _ {p : Plan} {s : State} (i : Inv p s) {u v k c : ℕ} (ends : Ends p k v
         record { d3i = t.d3i; d3w = t.d3w; d3b = bounds p s v k c strike s.fr (key p (s.bw x)) x (t.d3b); d3u = t.d3u; d3v = t.d3v };
   }
 
-  pub finishes-strike : Finishes p s.dk s.fr s.gl s.gc s.lev s.bw s.halt s.due m′
+  finishes-strike : Finishes p s.dk s.fr s.gl s.gc s.lev s.bw s.halt s.due m′
   finishes-strike = record { d4 = λ j w x e h z. i.D4.d4 j w x e h (dn0 p s v k c strike w j z); d4i = i.D4.d4i; d5 = i.D4.d5; d6 = i.D4.d6; d6c = i.D4.d6c }
 
-  pub kids-strike : Kids p s.lev s.fr s.gl s.gc s.ib s.ub s.due m′
+  kids-strike : Kids p s.lev s.fr s.gl s.gc s.ib s.ub s.due m′
   kids-strike = record {
     t2 = λ j w x e b h n o. i.T2.t2 j w x e (dn-both p s v k c strike j w x b) h n o;
     t3 = λ j a b e h l m. i.T2.t3 j a b e (dn-both p s v k c strike j a b h) l m;
     t4u = λ j x y e b g l. i.T2.t4u j x y e (dn-both p s v k c strike j x y b) g l;
   }
+
+  -- the whole, where besides the open test and channels change
+  module _ (ot : ℕ) (c′ : ℕ → ℕ → List Msg) where
+    abbrev striking : State
+    striking = set-ot (set-mark (set-ch s c′) m′) ot
+
+    pub inv-strike : Pending s.st s.te s.fc ot s.op → Tests p s.te s.ib m′ ot → Flow p striking → Testing p striking → Answers p striking → Bests p striking → Inv p striking
+    inv-strike f2 e2 f e1 a1 b2 = record {
+      W0 = ranges-strike;
+      W1 = i.W1;
+      G2 = i.G2;
+      G4 = i.G4;
+      G5 = cores-strike;
+      G6 = sleepers-strike;
+      M1 = marks-strike;
+      U1 = inbounds-strike;
+      D1 = halves-strike;
+      D2 = tellings-strike;
+      D3 = rootings-strike;
+      D4 = finishes-strike;
+      T1 = i.T1;
+      T2 = kids-strike;
+      F1 = i.F1;
+      F2 = f2;
+      F4 = i.F4;
+      E2 = e2;
+      B1 = i.B1;
+      G6c = f.G6c;
+      Dc = f.Dc;
+      C1 = f.C1;
+      I1 = f.I1;
+      T4 = f.T4;
+      E1 = e1;
+      A1 = a1;
+      R1 = f.R1;
+      F4c = f.F4c;
+      B2 = b2;
+      Q1 = f.Q1;
+    }

@@ -1,13 +1,11 @@
 -- Procedure test with k the earliest Basic edge of v: v sends Test over k.
-use Rattle.protocol.specs.Prelude.{ℕ, zero, suc, _+_, _≤_, _<_, arith, _≡_, refl, sym, ap, subst, _∙_, _≢_, _⊎_, inl, inr, ⊎-elim}
-use Rattle.protocol.specs.Prelude.{List, [], _∷_, _++_, upd, upd-elim, upd-same, upd-other, by-eq, sumL}
-use Rattle.protocol.specs.Prelude.{Msg, none, connect, initiate, test, accept, reject, report, change}
-use Rattle.protocol.specs.Prelude.{Plan, Ends, key, rank, joins-lt, flip, ends-same, ends-irr, ends-key, edge-some, State, FirstBasic, set-te, set-ot, set-ch, send}
-use Rattle.protocol.specs.Prelude.{isC, isI, isT, isA, isR, arg1, arg2, fits-test, In, snoc, snoc-in, in-snoc2, snoc-sum, snoc-here, snoc-else, no-tests, none-in}
-use Rattle.protocol.specs.Prelude.{GL, DK, Inf, Jn, Waits, Covered, Inv, no-answer}
-use Rattle.protocol.specs.Prelude.{Plain, before, post-alike, post-hush, post-tokens, post-telling, post-ordered}
-use Rattle.protocol.specs.Prelude.{connects-same, initiates-same, reports-same, owing-same, bests-same, covered-to}
-use Rattle.protocol.specs.Prelude.{hush-open, tokens-open, connects-open, initiates-open, telling-open, reports-open, owing-open, ordered-open}
+use Rattle.protocol.specs.Prelude.{ℕ, suc, _+_, _≤_, arith, _≡_, refl, sym, ap, subst, _∙_, _≢_, _⊎_, inl, inr, ⊎-elim}
+use Rattle.protocol.specs.Prelude.{List, upd, upd-elim, upd-same, upd-other, by-eq, sumL}
+use Rattle.protocol.specs.Prelude.{Msg, none, test}
+use Rattle.protocol.specs.Prelude.{Plan, Ends, key, rank, flip, ends-same, ends-irr, ends-key, edge-some, State, FirstBasic, set-te, set-ot, set-ch, send}
+use Rattle.protocol.specs.Prelude.{isT, isA, isR, arg1, arg2, fits-test, snoc, snoc-in, snoc-sum, snoc-here, snoc-else, no-tests, none-in}
+use Rattle.protocol.specs.Prelude.{Inf, Waits, Inv, no-answer}
+use Rattle.protocol.specs.Prelude.{Plain, plain-test, before, bests-same, covered-to, flow, inv-asking, flow-open, flow-post}
 use Rattle.protocol.specs.Search.{Pending, Tests}
 use Rattle.protocol.specs.Traffic.{Testing, Answers, Bests}
 
@@ -22,7 +20,7 @@ module _ {p : Plan} {s : State} (i : Inv p s) {v k u : ℕ} (ot : s.ot ≡ suc v
   c′ = snoc s.ch v k m
 
   plain : Plain m
-  plain = record { no-call = refl; no-init = refl; no-conn = refl; no-rep = refl; no-change = refl }
+  plain = plain-test (s.lev v) (s.id v)
 
   pub find : s.st v ≡ 1
   find = i.F2.f5t v ot
@@ -171,39 +169,9 @@ module _ {p : Plan} {s : State} (i : Inv p s) {v k u : ℕ} (ot : s.ot ≡ suc v
         (i.B2.b2 j w x e a d g));
   }
 
-  abbrev s₁ : State
-  s₁ = set-ch s c′
-
   pub inv-test-next : Inv p S′
-  inv-test-next = record {
-    W0 = i.W0;
-    W1 = i.W1;
-    G2 = i.G2;
-    G4 = i.G4;
-    G5 = i.G5;
-    G6 = i.G6;
-    M1 = i.M1;
-    U1 = i.U1;
-    D1 = i.D1;
-    D2 = i.D2;
-    D3 = i.D3;
-    D4 = i.D4;
-    T1 = i.T1;
-    T2 = i.T2;
-    F1 = i.F1;
-    F2 = F2′;
-    F4 = i.F4;
-    E2 = E2′;
-    B1 = i.B1;
-    G6c = hush-open p s₁ S′.te s.be s.fc 0 s.op s.oo (post-hush p s v k plain (λ z. omega (arith, find)) (λ x e z. tt) i.G6c);
-    Dc = tokens-open p s₁ S′.te s.be s.fc 0 s.op s.oo (post-tokens p s v k plain (λ h. absurd (omega (arith, i.D1.d1 k v u ends h .d1m, least .0))) i.Dc);
-    C1 = connects-open p s₁ S′.te s.be s.fc 0 s.op s.oo (connects-same p s c′ (λ w j l h. before p s v k plain isC refl (omega arith) w j h) i.C1);
-    I1 = initiates-open p s₁ S′.te s.be s.fc 0 s.op s.oo (initiates-same p s c′ (λ w j l f x h. before p s v k plain isI refl (omega arith) w j h) i.I1);
-    T4 = telling-open p s₁ S′.te s.be s.fc 0 s.op s.oo (post-telling p s v k plain i.T4);
-    E1 = E1′;
-    A1 = A1′;
-    R1 = reports-open p s₁ S′.te s.be s.fc 0 s.op s.oo (reports-same p s c′ (post-alike p s v k plain) i.R1);
-    F4c = owing-open p s₁ S′.te s.be s.fc 0 s.op s.oo (owing-same p s c′ (same isR refl) i.F4c);
-    B2 = B2′;
-    Q1 = ordered-open p s₁ S′.te s.be s.fc 0 s.op s.oo (post-ordered p s v k plain (λ x h. fits-test (s.lev v) (s.id v) x (none-in isT own-test h)) i.Q1);
-  }
+  inv-test-next = inv-asking i S′.te 0 s.op c′ F2′ E2′
+      (flow-open p (set-ch s c′) S′.te s.be s.fc 0 s.op s.oo
+      (flow-post p s v k plain (λ z. omega (arith, find)) (λ x e z. tt) (λ h. absurd (omega (arith, i.D1.d1 k v u ends h .d1m, least .0)))
+      (λ x h. fits-test (s.lev v) (s.id v) x (none-in isT own-test h)) (flow i)))
+      E1′ A1′ B2′

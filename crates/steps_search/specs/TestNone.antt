@@ -1,10 +1,9 @@
 -- Procedure test with no edge in the state Basic: test edge none, procedure report comes next.
-use Rattle.protocol.specs.Prelude.{ℕ, zero, suc, _+_, _≤_, _<_, arith, _≡_, refl, sym, ap, subst, _∙_, _≢_, _⊎_, inl, inr, ⊎-elim}
-use Rattle.protocol.specs.Prelude.{List, [], _∷_, _++_, upd, upd-elim, upd-same, upd-other, by-eq, sumL}
-use Rattle.protocol.specs.Prelude.{Msg, none, connect, initiate, test, accept, reject, report, change}
-use Rattle.protocol.specs.Prelude.{Plan, Ends, key, rank, joins-lt, flip, edge-some, State, Idle, set-te, set-ot, set-op}
-use Rattle.protocol.specs.Prelude.{isT, isA, isR, In, GL, GC, DK, Inf, Jn, Waits, Inv, no-answer}
-use Rattle.protocol.specs.Prelude.{hush-open, tokens-open, connects-open, initiates-open, telling-open, reports-open, owing-open, ordered-open}
+use Rattle.protocol.specs.Prelude.{ℕ, suc, _≤_, arith, _≡_, refl, sym, ap, subst, _∙_, _≢_, _⊎_, inl, inr, ⊎-elim}
+use Rattle.protocol.specs.Prelude.{upd, upd-elim, upd-other, by-eq}
+use Rattle.protocol.specs.Prelude.{none}
+use Rattle.protocol.specs.Prelude.{Plan, Ends, key, rank, flip, edge-some, State, set-te, set-ot, set-op}
+use Rattle.protocol.specs.Prelude.{Waits, Inv, flow, inv-asking, flow-open}
 use Rattle.protocol.specs.Search.{Pending, Tests}
 use Rattle.protocol.specs.Traffic.{Testing, Answers, Bests}
 
@@ -81,35 +80,4 @@ module _ {p : Plan} {s : State} (i : Inv p s) {v : ℕ} (ot : s.ot ≡ suc v) (o
   }
 
   pub inv-test-none : Inv p S′
-  inv-test-none = record {
-    W0 = i.W0;
-    W1 = i.W1;
-    G2 = i.G2;
-    G4 = i.G4;
-    G5 = i.G5;
-    G6 = i.G6;
-    M1 = i.M1;
-    U1 = i.U1;
-    D1 = i.D1;
-    D2 = i.D2;
-    D3 = i.D3;
-    D4 = i.D4;
-    T1 = i.T1;
-    T2 = i.T2;
-    F1 = i.F1;
-    F2 = F2′;
-    F4 = i.F4;
-    E2 = E2′;
-    B1 = i.B1;
-    G6c = hush-open p s S′.te s.be s.fc 0 (suc v) s.oo i.G6c;
-    Dc = tokens-open p s S′.te s.be s.fc 0 (suc v) s.oo i.Dc;
-    C1 = connects-open p s S′.te s.be s.fc 0 (suc v) s.oo i.C1;
-    I1 = initiates-open p s S′.te s.be s.fc 0 (suc v) s.oo i.I1;
-    T4 = telling-open p s S′.te s.be s.fc 0 (suc v) s.oo i.T4;
-    E1 = E1′;
-    A1 = A1′;
-    R1 = reports-open p s S′.te s.be s.fc 0 (suc v) s.oo i.R1;
-    F4c = owing-open p s S′.te s.be s.fc 0 (suc v) s.oo i.F4c;
-    B2 = B2′;
-    Q1 = ordered-open p s S′.te s.be s.fc 0 (suc v) s.oo i.Q1;
-  }
+  inv-test-none = inv-asking i S′.te 0 (suc v) s.ch F2′ E2′ (flow-open p s S′.te s.be s.fc 0 (suc v) s.oo (flow i)) E1′ A1′ B2′

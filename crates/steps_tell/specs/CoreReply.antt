@@ -5,10 +5,10 @@ use Rattle.protocol.specs.Prelude.{Msg, connect, initiate, report}
 use Rattle.protocol.specs.Prelude.{Plan, Ends, joins-lt, flip, ends-same, ends-two, State, Idle, send, pop}
 use Rattle.protocol.specs.Prelude.{isC, isI, isT, isA, isR, isK, In}
 use Rattle.protocol.specs.Prelude.{GL, GC, Inf, Jn, Half, Inv, mark-awake, in-sum}
-use Rattle.protocol.specs.Prelude.{connects-same, answers-same, owing-same, bests-same}
+use Rattle.protocol.specs.Prelude.{connects-same, answers-same, testing-same, owing-same, bests-same, inv-passing}
 use Rattle.protocol.specs.Decisions.{HalfOk}
 use Rattle.protocol.specs.Search.{LowOk}
-use Rattle.protocol.specs.Traffic.{InitOk, Tokens, Initiates, Telling, Testing, Reports}
+use Rattle.protocol.specs.Traffic.{InitOk, Tokens, Initiates, Telling, Reports}
 use Rattle.steps_tell.specs.Laws.{beyond, six, init-eq, reports-far}
 use Rattle.steps_tell.specs.Reply as Y
 
@@ -153,48 +153,20 @@ module _ {p : Plan} {s : State} (i : Inv p s) {u v k l : ℕ} {r : List Msg} (id
       stays j x y e b g n = ⊎-elim (λ t. inl (omega (arith, Y.connects i ends q (s.lev v + 1) k 1 x j n)))
           (⊎-elim (λ t. inr (inl (kept isI refl (omega arith) y j t))) (λ t. inr (inr t))) (i.T4.t4 j x y e b g)
 
-  E1′ : Testing p S′
-  E1′ = record {
-    e1 = λ j w x a f e h. i.E1.e1 j w x a f e (old isT refl (omega arith) w j h);
-    e1w = λ j w x a f e h. i.E1.e1w j w x a f e (old isT refl (omega arith) w j h);
-    e2w = λ j w x e a b. omega (arith, i.E1.e2w j w x e a b, same isT refl refl w j, same isA refl refl x j);
-    e2c = λ j w x e a b. omega (arith, i.E1.e2c j w x e a b, same isT refl refl w j, same isA refl refl x j, same isT refl refl x j);
-    m6t = λ j w x e a b. same isT refl refl x j ∙ i.E1.m6t j w x e a b;
-  }
-
   R1′ : Reports p S′
   R1′ = reports-far p s c′ (λ j w x n e h. let o = old isR refl (omega arith) w j h in let d = no-report j w x n e o in Y.off i ends q (s.lev v + 1) k 1 w j (inr d) (inr d)) i.R1
 
   pub inv-core-reply : Inv p S′
-  inv-core-reply = record {
-    W0 = i.W0;
-    W1 = i.W1;
-    G2 = i.G2;
-    G4 = i.G4;
-    G5 = i.G5;
-    G6 = i.G6;
-    M1 = i.M1;
-    U1 = i.U1;
-    D1 = i.D1;
-    D2 = i.D2;
-    D3 = i.D3;
-    D4 = i.D4;
-    T1 = i.T1;
-    T2 = i.T2;
-    F1 = i.F1;
-    F2 = i.F2;
-    F4 = i.F4;
-    E2 = i.E2;
-    B1 = i.B1;
+  inv-core-reply = inv-passing i c′ (record {
     G6c = Y.hush-reply i ends q (s.lev v + 1) k 1 awake (mark-awake i u k (λ z. omega (arith, mark-u)));
     Dc = Dc′;
     C1 = connects-same p s c′ (λ w j n h. old isC refl (omega arith) w j h) i.C1;
     I1 = I1′;
     T4 = T4′;
-    E1 = E1′;
-    A1 = answers-same p s c′ (λ w j h. old isA refl (omega arith) w j h) (λ w j h. old isA refl (omega arith) w j h) i.A1;
     R1 = R1′;
     F4c = owing-same p s c′ (same isR refl refl) i.F4c;
-    B2 = bests-same p s c′ (same isR refl refl) i.B2;
     Q1 = Y.ordered-reply i ends q (s.lev v + 1) k 1 no-init;
-  }
+  })
+      (testing-same p s c′ (λ w j n f h. old isT refl (omega arith) w j h) (same isT refl refl) (same isA refl refl) i.E1)
+      (answers-same p s c′ (λ w j h. old isA refl (omega arith) w j h) (λ w j h. old isA refl (omega arith) w j h) i.A1)
+      (bests-same p s c′ (same isR refl refl) i.B2)

@@ -1,11 +1,12 @@
 -- v, which is Find, weighs w, which came over its own edge k, against its best: the clauses on best weights and best edges.
-use Rattle.protocol.specs.Prelude.{ℕ, _≤_, _<_, arith, _≡_, sym, ap, subst, _∙_, _≢_, ⊎-elim, by-eq}
+use Rattle.protocol.specs.Prelude.{ℕ, _≤_, _<_, arith, _≡_, sym, ap, subst, _∙_, _≢_, _⊎_, inl, ⊎-elim, by-eq}
 use Rattle.protocol.specs.Prelude.{List, upd, upd-elim, upd-same, upd-other, sumL, Msg, none}
-use Rattle.protocol.specs.Prelude.{Plan, Ends, key, joins-lt, edge-some, key-none, key-edge, rank-lt, State, Better, isR}
-use Rattle.protocol.specs.Prelude.{GL, DK, Inf, Jn, Inv, decided-find, no-root}
+use Rattle.protocol.specs.Prelude.{Plan, Ends, key, joins-lt, edge-some, key-none, key-edge, rank-lt, State, Better, set-bw, set-be, set-te, set-fc, set-owe, set-op, set-ch, isR}
+use Rattle.protocol.specs.Prelude.{GL, DK, Inf, Jn, Live, Covered, Inv, Flow, decided-find, no-root}
 use Rattle.protocol.specs.Fragments.{Values, Sleepers}
 use Rattle.protocol.specs.Decisions.{Tellings, Rootings, Finishes}
-use Rattle.protocol.specs.Search.{Weights}
+use Rattle.protocol.specs.Search.{Pending, Counts, Tests, Weights}
+use Rattle.protocol.specs.Traffic.{Testing, Answers, Bests}
 
 -- weight w leaves v's fragment, from an informed node of v's side to a node of no lower level
 abbrev pub Leaves : Plan → State → ℕ → ℕ → Type 0
@@ -50,7 +51,7 @@ module _ {p : Plan} {s : State} (i : Inv p s) {u v w k b e : ℕ} (calm : s.oo �
   pub cases {κ} : {C : Type κ} → (w ≢ none → b ≡ w → e ≡ k → C) → (b ≡ s.bw v → e ≡ s.be v → C) → C
   cases y n = ⊎-elim (λ t. y (early-some w (s.bw v) (i.W1.w1w v) (t .0)) (t .1) (t .2)) (λ t. n (t .1) (t .2)) better
 
-  pub W1′ : Values p bw′ be′
+  W1′ : Values p bw′ be′
   W1′ = record {
     w1w = λ x. upd-elim (λ a. a ≢ none → a < p.g.L) s.bw v b x
         (λ z n. cases (λ o a c. omega (arith, joins-lt (leaves o .2))) (λ a c. omega (arith, i.W1.w1w v (λ y. n (a ∙ y))))) (λ d n. i.W1.w1w x n);
@@ -60,7 +61,7 @@ module _ {p : Plan} {s : State} (i : Inv p s) {u v w k b e : ℕ} (calm : s.oo �
         (λ d n. i.W1.w1e x n);
   }
 
-  pub G6′ : Sleepers p s.st s.fr s.gl s.dk s.due bw′ be′ s.ub s.halt s.mark
+  G6′ : Sleepers p s.st s.fr s.gl s.dk s.due bw′ be′ s.ub s.halt s.mark
   G6′ = record {
     g6 = λ x h. let t = i.G6.g6 x h in let n : v ≢ x = λ z. omega (arith, find, ap s.st z) in
         record { g6g = t.g6g; g6d = t.g6d; g6u = t.g6u; g6w = upd-other s.bw v b x n ∙ t.g6w; g6e = upd-other s.be v e x n ∙ t.g6e };
@@ -70,7 +71,7 @@ module _ {p : Plan} {s : State} (i : Inv p s) {u v w k b e : ℕ} (calm : s.oo �
     g7n = i.G6.g7n;
   }
 
-  pub D2′ : Tellings p s.dk s.dn s.de s.fr s.gl s.gc s.lev s.ib s.ub bw′ s.mark
+  D2′ : Tellings p s.dk s.dn s.de s.fr s.gl s.gc s.lev s.ib s.ub bw′ s.mark
   D2′ = record {
     d2f = i.D2.d2f;
     d2e = i.D2.d2e;
@@ -89,10 +90,10 @@ module _ {p : Plan} {s : State} (i : Inv p s) {u v w k b e : ℕ} (calm : s.oo �
         };
   }
 
-  pub D3′ : Rootings p s.dk s.dn s.fr s.gl s.lev s.ib s.ub bw′ s.mark s.oo
+  D3′ : Rootings p s.dk s.dn s.fr s.gl s.lev s.ib s.ub bw′ s.mark s.oo
   D3′ = record { d3f = i.D3.d3f; d3o = i.D3.d3o; f5r = i.D3.f5r; d3 = λ x h. absurd (no-root i x calm (h .0)) }
 
-  pub D4′ : Finishes p s.dk s.fr s.gl s.gc s.lev bw′ s.halt s.due s.mark
+  D4′ : Finishes p s.dk s.fr s.gl s.gc s.lev bw′ s.halt s.due s.mark
   D4′ = record {
     d4 = i.D4.d4;
     d4i = λ j x y f g d l. let t = i.D4.d4i j x y f g d l in (t .0, bw-decided x (λ z. omega arith) ∙ t .1);
@@ -101,7 +102,7 @@ module _ {p : Plan} {s : State} (i : Inv p s) {u v w k b e : ℕ} (calm : s.oo �
     d6c = i.D4.d6c;
   }
 
-  pub B1′ : Weights p s.lev s.fr s.gl bw′ be′ s.side
+  B1′ : Weights p s.lev s.fr s.gl bw′ be′ s.side
   B1′ = record {
     b1n = λ x h. by-eq v x
         (λ z y. let o = sym (upd-same s.bw v b) ∙ ap bw′ z ∙ y in
@@ -115,6 +116,46 @@ module _ {p : Plan} {s : State} (i : Inv p s) {u v w k b e : ℕ} (calm : s.oo �
         (λ z n. subst (λ x. Leaves p s x b) z (cases (λ o a c. subst (Leaves p s v) (sym a) (leaves o)) (λ a c. subst (Leaves p s v) (sym a) (i.B1.b1 v inf (λ y. n (a ∙ y))))))
         (λ d n. i.B1.b1 x h n);
   }
+
+  -- the whole, where besides test edges, find-counts, what is owed or open, and channels change
+  module _ (te fc : ℕ → ℕ) (owe : ℕ → ℕ → ℕ) (op : ℕ) (c′ : ℕ → ℕ → List Msg) where
+    abbrev weighed : State
+    weighed = set-op (set-owe (set-fc (set-te (set-be (set-bw (set-ch s c′) bw′) be′) te) fc) owe) op
+
+    pub inv-weighed : Pending s.st te fc s.ot op → Counts p fc owe → Tests p te s.ib s.mark s.ot
+        → Flow p weighed → Testing p weighed → Answers p weighed → Bests p weighed → Inv p weighed
+    inv-weighed f2 f4 e2 f e1 a1 b2 = record {
+      W0 = i.W0;
+      W1 = W1′;
+      G2 = i.G2;
+      G4 = i.G4;
+      G5 = i.G5;
+      G6 = G6′;
+      M1 = i.M1;
+      U1 = i.U1;
+      D1 = i.D1;
+      D2 = D2′;
+      D3 = D3′;
+      D4 = D4′;
+      T1 = i.T1;
+      T2 = i.T2;
+      F1 = i.F1;
+      F2 = f2;
+      F4 = f4;
+      E2 = e2;
+      B1 = B1′;
+      G6c = f.G6c;
+      Dc = f.Dc;
+      C1 = f.C1;
+      I1 = f.I1;
+      T4 = f.T4;
+      E1 = e1;
+      A1 = a1;
+      R1 = f.R1;
+      F4c = f.F4c;
+      B2 = b2;
+      Q1 = f.Q1;
+    }
 
   -- the channels c′ have no more Reports
   module _ (c′ : ℕ → ℕ → List Msg) (fewer : (x j : ℕ) → sumL isR (c′ x j) ≤ sumL isR (s.ch x j)) where
@@ -142,3 +183,20 @@ module _ {p : Plan} {s : State} (i : Inv p s) {u v w k b e : ℕ} (calm : s.oo �
         at-v y z n m = cases
             (λ o a c. subst (λ j. Kid p s bw′ c′ v j (bw′ v)) (sym (z ∙ c)) (subst (Kid p s bw′ c′ v k) (sym (y ∙ a)) (kid o (λ f. m (z ∙ c ∙ f ∙ sym (y ∙ a))))))
             (λ a c. same-kid v inf n m (z ∙ c) (y ∙ a))
+
+    -- v's own best covers
+    pub mine : (x n : ℕ) → s.fr v ≡ s.fr x → b ≢ none → key p b ≤ n → Covered p (set-bw (set-ch s c′) bw′) x n
+    mine x n z o l = (v, z, inf, (λ y. o (sym (upd-same s.bw v b) ∙ y)), inl find, omega (arith, ap (key p) (upd-same s.bw v b)))
+
+    -- what a best weight covered is covered: by the same, if it is live, or by v's, if that is not later
+    pub cover : (x n : ℕ) (t : Covered p s x n)
+        → (v ≢ t .0 → ((s.fr v ≡ s.fr x) × (key p b ≤ key p (s.bw (t .0)))) ⊎ Live (set-ch s c′) (t .0)) → Covered p (set-bw (set-ch s c′) bw′) x n
+    cover x n t h = by-eq v (t .0)
+        (λ z. own (ap s.fr z ∙ t .1) (omega (arith, best-old, ap (λ a. key p (s.bw a)) z)))
+        (λ d. ⊎-elim (λ o. own (o .0) (o .1))
+        (λ l. let y = upd-other s.bw v b (t .0) d in (t .0, t .1, t .2, λ a. t .3 (sym y ∙ a), l, omega (arith, ap (key p) y, t .5))) (h d))
+      where
+        own : s.fr v ≡ s.fr x → key p b ≤ key p (s.bw (t .0)) → Covered p (set-bw (set-ch s c′) bw′) x n
+        own z l =
+            let a = i.W1.w1w (t .0) (t .3) in
+            mine x n z (λ y. omega (arith, ap (key p) y, key-none p, key-edge p (s.bw (t .0)) a, rank-lt p (s.bw (t .0)) a)) (omega (arith, t .5))
