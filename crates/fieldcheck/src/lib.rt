@@ -23,8 +23,8 @@ pub struct Checked {
     pub waiting: usize,
 }
 
-// How many words stand before the first zero.
-fn waiting(lent: &[u64]) -> usize
+// How many words wait: those before the first zero.
+pub fn waiting(lent: &[u64]) -> usize
     ensures { λ r. ⌜ r ≡ length (waitingIn (now (lent .entry))) ⌝ }
 {
     let mut i: usize = 0;

@@ -3,8 +3,8 @@ mod air;
 mod queue;
 mod round;
 
+use admit;
 use field::Field;
-use fieldcheck;
 ghost use mathlib.Core.Path.{_≡_};
 ghost use Rattle.calls.specs.Call.{runRounds};
 
@@ -20,21 +20,7 @@ pub fn run(f: Field, words: &mut [u64], limit: u16) -> Rounds
     ensures { λ r. ⌜ record { done = r .rounds; answer = r .refusal; state = record { field = r .field; words = now (words .exit) } }
         ≡ runRounds limit (record { field = f; words = now (words .entry) }) ⌝ }
 {
-    let p = f.plan;
-    let mut cells = f.cells;
-    let mut marks = f.marks;
-    let c = fieldcheck::check(
-        p.modules,
-        p.links,
-        &p.lower,
-        &p.higher,
-        &p.near,
-        &p.far,
-        &cells,
-        &marks,
-        f.sent,
-        words,
-    );
+    let c = admit::admit(f, words);
     if !c.ok {
         return Rounds {
             rounds: 0,
@@ -42,6 +28,9 @@ pub fn run(f: Field, words: &mut [u64], limit: u16) -> Rounds
             field: f,
         };
     }
+    let p = f.plan;
+    let mut cells = f.cells;
+    let mut marks = f.marks;
     let w = round::rounds(
         p.modules,
         p.links,

@@ -19,7 +19,7 @@ use Rattle.fieldcheck.specs.Checked.{checkOf}
 use Rattle.store.specs.Laid.{Laid}
 use Rattle.serve.specs.declared.Done.{Done}
 use Rattle.serve.specs.Lent.{stateOf, Stepped}
-use Rattle.rounds.proofs.Call.{Full, passes, starts}
+use Rattle.admit.specs.Admitted.{invalid, passes, starts, again}
 
 -- a step's end, with the words laid out again
 abbrev put : Held → After State → After Held
@@ -46,40 +46,31 @@ module _ (h : Held) where
   unfolding runBytes
   run-goes bytes e z = simp (e, eq-eqb (scheduleRefusal bytes) 0 z)
 
-module _ (f : Field) (lent : List ℕ) (c : Checked) where
+module _ (f : Field) (lent : List ℕ) (c : Checked) (e : c ≡ checkOf (record { field = f; words = lent })) where
   abbrev h : Held
   h = record { field = f; words = lent }
 
-  invalid : c ≡ checkOf h → not (c .ok) ≡ true → valid h ≡ false
-  invalid e n = sym (ap (λ (x : Checked). x .ok) e) ∙ not-true _ n
+  pub step-31 : (kind number : ℕ) → not (c .ok) ≡ true → refused 31 h ≡ stepAlone kind number h
+  step-31 kind number n = step-refused h kind number (invalid f lent c e n)
 
-  pub step-31 : (kind number : ℕ) → c ≡ checkOf h → not (c .ok) ≡ true → refused 31 h ≡ stepAlone kind number h
-  step-31 kind number e n = step-refused h kind number (invalid e n)
+  pub run-31 : (bytes : List ℕ) → not (c .ok) ≡ true → refusedRun 31 h ≡ runBytes bytes h
+  run-31 bytes n = run-refused h bytes (invalid f lent c e n)
 
-  pub run-31 : (bytes : List ℕ) → c ≡ checkOf h → not (c .ok) ≡ true → refusedRun 31 h ≡ runBytes bytes h
-  run-31 bytes e n = run-refused h bytes (invalid e n)
-
-  module _ (full : Full f) (e : c ≡ checkOf h) (yes : not (c .ok) ≡ false) where
-    -- what the arrays hold, as what the host holds
-    again : (cells marks words : List ℕ) (n sent : ℕ) → Laid words n → length words ≡ length lent
-        → _≡_ {A = Held} (record { field = record { plan = f .plan; cells = cells; marks = marks; sent = sent }; words = words }) (heldOf h (stateOf cells marks words n sent))
-    again cells marks words n sent l k =
-        ap (λ (w : List ℕ). record { field = record { plan = f .plan; cells = cells; marks = marks; sent = sent }; words = w }) (l .zeros ∙ ap (λ (m : ℕ). layout m (take n words)) k)
-
+  module _ (y : not (c .ok) ≡ false) where
     pub step-done : (kind number : ℕ) (d : Done) (cells marks words : List ℕ)
         → Stepped (step (f .plan) kind number) (f .cells) (f .marks) lent (c .waiting) (f .sent) d cells marks words → length words ≡ length lent
         → record { answer = d .answer; state = record { field = record { plan = f .plan; cells = cells; marks = marks; sent = d .sent }; words = words } } ≡ stepAlone kind number h
     step-done kind number d cells marks words q k =
-        ap (λ (x : Held). record { answer = d .answer; state = x }) (again cells marks words (d .waiting) (d .sent) (q .laid) k)
-        ∙ ap (put h) (q .is ∙ ap (step (f .plan) kind number) (starts f lent c full e yes)) ∙ step-goes h kind number (passes f lent c full e yes)
+        ap (λ (x : Held). record { answer = d .answer; state = x }) (again f lent cells marks words (d .waiting) (d .sent) (q .laid) k)
+        ∙ ap (put h) (q .is ∙ ap (step (f .plan) kind number) (starts f lent c e)) ∙ step-goes h kind number (passes f lent c e y)
 
     pub run-54 : (bytes : List ℕ) (bad : ℕ) → bad ≡ scheduleRefusal bytes → bad ≢ 0 → refusedRun bad h ≡ runBytes bytes h
-    run-54 bytes bad b n = ap (λ (x : ℕ). refusedRun x h) b ∙ run-bad h bytes (passes f lent c full e yes) (λ z. n (b ∙ z))
+    run-54 bytes bad b n = ap (λ (x : ℕ). refusedRun x h) b ∙ run-bad h bytes (passes f lent c e y) (λ z. n (b ∙ z))
 
     pub run-done : (bytes : List ℕ) (bad : ℕ) → bad ≡ scheduleRefusal bytes → bad ≡ 0 → (done answer : ℕ) (cells marks words : List ℕ) (n sent : ℕ)
         → record { done = done; answer = answer; state = stateOf cells marks words n sent } ≡ scheduleRun (f .plan) bytes (stateOf (f .cells) (f .marks) lent (c .waiting) (f .sent))
         → Laid words n → length words ≡ length lent
         → record { done = done; answer = answer; state = record { field = record { plan = f .plan; cells = cells; marks = marks; sent = sent }; words = words } } ≡ runBytes bytes h
     run-done bytes bad b z done answer cells marks words n sent q l k =
-        ap (λ (x : Held). record { done = done; answer = answer; state = x }) (again cells marks words n sent l k)
-        ∙ ap (putBack h) (q ∙ ap (scheduleRun (f .plan) bytes) (starts f lent c full e yes)) ∙ run-goes h bytes (passes f lent c full e yes) (sym b ∙ z)
+        ap (λ (x : Held). record { done = done; answer = answer; state = x }) (again f lent cells marks words n sent l k)
+        ∙ ap (putBack h) (q ∙ ap (scheduleRun (f .plan) bytes) (starts f lent c e)) ∙ run-goes h bytes (passes f lent c e y) (sym b ∙ z)

@@ -1,8 +1,8 @@
 // A step given alone, and a run of a schedule, over a field. 31 is checked first, and once.
 mod steps;
 
+use admit;
 use field::Field;
-use fieldcheck;
 use schedule;
 ghost use mathlib.Core.Path.{_≡_};
 ghost use Rattle.field.specs.Held.{stepAlone};
@@ -26,27 +26,16 @@ pub fn step(f: Field, words: &mut [u64], kind: u8, number: u16) -> Taken
     ensures { λ r. ⌜ record { answer = r .answer; state = record { field = r .field; words = now (words .exit) } }
         ≡ stepAlone kind number (record { field = f; words = now (words .entry) }) ⌝ }
 {
-    let p = f.plan;
-    let mut cells = f.cells;
-    let mut marks = f.marks;
-    let c = fieldcheck::check(
-        p.modules,
-        p.links,
-        &p.lower,
-        &p.higher,
-        &p.near,
-        &p.far,
-        &cells,
-        &marks,
-        f.sent,
-        words,
-    );
+    let c = admit::admit(f, words);
     if !c.ok {
         return Taken {
             answer: 31,
             field: f,
         };
     }
+    let p = f.plan;
+    let mut cells = f.cells;
+    let mut marks = f.marks;
     let d = steps::step(
         p.modules,
         p.links,
@@ -77,21 +66,7 @@ pub fn run(f: Field, words: &mut [u64], bytes: &[u8]) -> Ran
     ensures { λ r. ⌜ record { done = r .steps; answer = r .refusal; state = record { field = r .field; words = now (words .exit) } }
         ≡ runBytes (now (bytes .entry)) (record { field = f; words = now (words .entry) }) ⌝ }
 {
-    let p = f.plan;
-    let mut cells = f.cells;
-    let mut marks = f.marks;
-    let c = fieldcheck::check(
-        p.modules,
-        p.links,
-        &p.lower,
-        &p.higher,
-        &p.near,
-        &p.far,
-        &cells,
-        &marks,
-        f.sent,
-        words,
-    );
+    let c = admit::admit(f, words);
     if !c.ok {
         return Ran {
             steps: 0,
@@ -107,6 +82,9 @@ pub fn run(f: Field, words: &mut [u64], bytes: &[u8]) -> Ran
             field: f,
         };
     }
+    let p = f.plan;
+    let mut cells = f.cells;
+    let mut marks = f.marks;
     let w = steps::steps(
         p.modules,
         p.links,

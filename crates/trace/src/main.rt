@@ -8,7 +8,6 @@ ghost use Rattle.int16.specs.Int16.{at16};
 ghost use Rattle.plan.specs.Refusal.{planRefusal};
 ghost use Rattle.field.specs.Edges.{ceilingOf};
 ghost use Rattle.field.specs.Held.{fresh};
-ghost use Rattle.field.specs.Valid.{waitingIn};
 ghost use Rattle.calls.specs.Call.{runBytes};
 use libc::STDIN_FILENO;
 use node::Node;
@@ -95,20 +94,6 @@ fn modules(p: Plan, cells: [u16; 1728], marks: [u8; 1200])
     }
 }
 
-// How many words wait.
-fn waiting(lent: &[u64]) -> usize
-    ensures { λ r. ⌜ r ≡ length (waitingIn (now (lent .entry))) ⌝ }
-{
-    let mut i: usize = 0;
-    while i < lent.len() {
-        if lent[i] == 0 {
-            return i;
-        }
-        i += 1;
-    }
-    i
-}
-
 // A line for each of the first n words.
 fn words(lent: &[u64], n: usize)
     requires { ⌜ n ≤ length (now lent) ⌝ }
@@ -133,7 +118,7 @@ fn refusal(number: u32) {
 fn show(p: Plan, r: Ran, lent: &[u64])
     requires { ⌜ (p .modules ≤ 192) × (p .links ≤ 600) ⌝ }
 {
-    let n = waiting(lent);
+    let n = fieldcheck::waiting(lent);
     let f = r.field;
     let cells = f.cells;
     let marks = f.marks;

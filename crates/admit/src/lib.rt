@@ -1,0 +1,29 @@
+// 31, "before all else": a field that a host supplies is checked once, and is then ready for steps.
+use field::Field;
+use fieldcheck;
+use fieldcheck::Checked;
+ghost use mathlib.Core.Path.{_≡_};
+ghost use mathlib.Core.Bool.{true};
+ghost use Rattle.fieldcheck.specs.Checked.{checkOf};
+ghost use Rattle.serve.specs.Lent.{Ready};
+
+pub fn admit(f: Field, lent: &[u64]) -> Checked
+    ensures { λ r. ⌜ (r ≡ checkOf (record { field = f; words = now (lent .entry) }))
+        × (r .ok ≡ true → Ready (f .plan) (f .cells) (f .marks) (now (lent .entry)) (r .waiting) (f .sent)) ⌝ }
+{
+    let p = f.plan;
+    let cells = f.cells;
+    let marks = f.marks;
+    fieldcheck::check(
+        p.modules,
+        p.links,
+        &p.lower,
+        &p.higher,
+        &p.near,
+        &p.far,
+        &cells,
+        &marks,
+        f.sent,
+        lent,
+    )
+}
