@@ -24,7 +24,7 @@ use Rattle.fieldlaws.specs.Sends.{length-posted}
 use Rattle.fieldlaws.specs.Cases.{Served}
 use Rattle.fieldlaws.specs.Places.{node-same, node-other, node-back, marks-back}
 use Rattle.fieldlaws.specs.Keeps.{Sound, out-length}
-use Rattle.roundlaws.specs.Steady.{Steady, ends-awake, ends-asleep}
+use Rattle.roundlaws.specs.Steady.{Steady, Ends, Waits, ends-awake, ends-asleep, stays-up}
 
 -- 1 for a node that is awake
 abbrev pub up : State → ℕ → ℕ
@@ -74,15 +74,20 @@ module _ (p : Plan) (a : Accepted p) (s s′ : State) (v : ℕ) (i : Sound p s) 
   other-after u n = ap (λ t. nodeAt t u) (h .responds .is) ∙ node-other (s .cells) v (w .node) u n
 
   -- nothing done yet: not put back
-  begins : nodeAt s v .status ≢ ASLEEP → Steady (start (nodeAt s v) (markAt p s v))
+  abbrev fresh : Work
+  fresh = start (nodeAt s v) (markAt p s v)
+
+  begins : nodeAt s v .status ≢ ASLEEP → Steady fresh
   begins n = record { answer = λ e. omega arith; awake = n }
+
+  ends : nodeAt s v .status ≢ ASLEEP → Ends fresh (Waits (linkOf (linkIn x)) fresh (msgIn x)) w
+  ends n = ends-awake (ownOf p v) (limitOf p) (linkOf (linkIn x)) (msgIn x) fresh (begins n)
 
   -- v is awake afterwards
   awake-after : w .node .status ≢ ASLEEP
   awake-after = by-eq (nodeAt s v .status) ASLEEP
-      (λ e. ⊎-elim (λ r. absurd (h .responds .fine r)) (λ r. r) (ends-asleep (ownOf p v) (limitOf p) (linkOf (linkIn x)) (msgIn x) (start (nodeAt s v) (markAt p s v)) (λ q. omega arith) e))
-      (λ n. ⊎-elim (λ k. k .awake) (λ e. subst (λ (r : Work). r .node .status ≢ ASLEEP) (sym e) n)
-      (ends-awake (ownOf p v) (limitOf p) (linkOf (linkIn x)) (msgIn x) (start (nodeAt s v) (markAt p s v)) (begins n)))
+      (λ e. ⊎-elim (λ r. absurd (h .responds .fine r)) (λ r. r) (ends-asleep (ownOf p v) (limitOf p) (linkOf (linkIn x)) (msgIn x) fresh (λ q. omega arith) e))
+      (λ n. stays-up fresh w (begins n) (ends n))
 
   pub awake-now : nodeAt s′ v .status ≢ ASLEEP
   awake-now e = awake-after (sym (ap (λ (n : Node). n .status) node-after) ∙ e)
@@ -129,8 +134,8 @@ module _ (p : Plan) (a : Accepted p) (s s′ : State) (v : ℕ) (i : Sound p s) 
       let z : up s v ≡ 0 = ap (λ t. bit (not t)) (eq-eqb _ ASLEEP e) in
       omega (arith, sent-after, words-after, one-less, i .fits .waiting, sum-lt (p .modules) v (up s) (up s′) (h .within) up-all (omega (arith, z, up-v)), ap length (back-one b))
 
-  is-put-back : w .answer ≡ BACK → nodeAt s v .status ≢ ASLEEP → w ≡ putBack (start (nodeAt s v) (markAt p s v))
-  is-put-back b n = ⊎-elim (λ k. absurd (k .answer b)) (λ e. e) (ends-awake (ownOf p v) (limitOf p) (linkOf (linkIn x)) (msgIn x) (start (nodeAt s v) (markAt p s v)) (begins n))
+  is-put-back : w .answer ≡ BACK → nodeAt s v .status ≢ ASLEEP → w ≡ putBack fresh
+  is-put-back b n = ⊎-elim (λ k. absurd (k .answer b)) (λ t. t .1) (ends n)
 
   stays : w .answer ≡ BACK → nodeAt s v .status ≢ ASLEEP → Turned
   stays b n =

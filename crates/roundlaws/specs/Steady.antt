@@ -1,15 +1,16 @@
--- A response wakes its node or leaves it awake; it puts a message back only where it does nothing else.
-use Prim.Native.Nat.{ℕ, _+_, _-_}
+-- A response wakes its node or leaves it awake; it puts a message back only for the reason of its kind, and then does nothing else.
+use Prim.Native.Nat.{ℕ, _+_, _≤_, _<_}
 use native.Mathlib.Omega.{arith}
 use mathlib.Core.Path.{_≡_, refl, sym, subst}
 use mathlib.Core.Logic.{_≢_, _⊎_, inl, inr}
 use mathlib.Core.Bool.{Bool, true, false, cond, _&&_}
 use lib.Dec.{eqb, ltb, leb}
+use Rattle.base.specs.Cond.{eqb-cases, ltb-cases}
 use Rattle.base.specs.LoopLaws.{by-test}
 use Rattle.message.specs.Msg.{Msg, none, connect, initiate, test, accept, reject, report, change}
 use Rattle.node.specs.declared.Node.{Node}
-use Rattle.node.specs.Work.{Own, Work, ASLEEP, FIND, FOUND, BASIC, BRANCH, BACK, REFUSED, before, putBack, refused, withNode, setTest, setCount, number, earliest, every, branches, degree}
-use Rattle.node.specs.Rules.{wakeOn, wakeup, awake, doReport, testOn, changeRoot, countUp, absorb, coreEnd, onConnect, told, seek, onInitiate, onTest, childReport, coreReport, onReport, respondTo}
+use Rattle.node.specs.Work.{Own, Work, ASLEEP, FIND, FOUND, BASIC, BRANCH, BACK, REFUSED, before, putBack, refused, send, withNode, setTest, setCount, number, earliest, every, branches, degree}
+use Rattle.node.specs.Rules.{wakeOn, wakeup, awake, doReport, testOn, doTest, changeRoot, countUp, absorb, coreEnd, onConnect, told, seek, onInitiate, strike, onTest, childReport, coreReport, onReport, respondTo}
 use Rattle.node.specs.Laws.{awake-wakes, awake-is, asleep-refused, asleep-not}
 
 -- not put back, and awake
@@ -49,22 +50,30 @@ pub steady-wake : (o : Own) (w : Work) → w .answer ≢ BACK → Steady (wakeup
 unfolding wakeOn
 steady-wake o w h = either (eqb (earliest o every (o.edges)) none) _ _ (record { answer = h; awake = λ e. omega arith }) (record { answer = h; awake = λ e. omega arith })
 
--- what a response to an awake node is: steady, or put back and nothing else
-abbrev pub Ends : Work → Work → Type 0
-Ends w r = Steady r ⊎ (r ≡ putBack w)
+-- an awake node that is as in w puts m back if it comes over j
+abbrev pub Waits : ℕ → Work → Msg → Type 0
+Waits j w (connect l) = (w .node .level ≤ l) × (w .mark j ≡ BASIC)
+Waits j w (initiate l f find) = ⊥
+Waits j w (test l f) = w .node .level < l
+Waits j w accept = ⊥
+Waits j w reject = ⊥
+Waits j w (report x) = (w .node .branch ≡ j) × (w .node .status ≡ FIND)
+Waits j w change = ⊥
 
-ends-if : (b : Bool) (w x y : Work) → Ends w x → Ends w y → Ends w (cond b x y)
-ends-if true w x y h i = h
-ends-if false w x y h i = i
+-- what a response to an awake node is: steady, or put back, for reason g, and nothing else
+abbrev pub Ends : Work → Type 0 → Work → Type 0
+Ends w g r = Steady r ⊎ (g × (r ≡ putBack w))
 
 module _ (o : Own) (limit j : ℕ) (w : Work) (h : Steady w) where
-  ends-connect : (l : ℕ) → Ends w (onConnect o limit l j w)
+  ends-connect : (l : ℕ) → Ends w (Waits j w (connect l)) (onConnect o limit l j w)
   unfolding onConnect absorb countUp coreEnd
-  ends-connect l = ends-if (ltb l (w .node .level)) w _ _
-      (inl (either (eqb (w .node .status) FIND) _ _
+  ends-connect l = ltb-cases l (w .node .level)
+      (λ b. Ends w (Waits j w (connect l)) (cond b (absorb o j w) (cond (eqb (w .mark j) BASIC) (putBack w) (coreEnd limit j w))))
+      (λ a. inl (either (eqb (w .node .status) FIND) _ _
       (either (ltb (degree o) (w .node .count + 1)) _ _ (record { answer = λ e. omega arith; awake = h .awake }) (record { answer = h .answer; awake = h .awake }))
       (record { answer = h .answer; awake = h .awake })))
-      (ends-if (eqb (w .mark j) BASIC) w _ _ (inr refl) (inl (either (leb limit (w .node .level)) _ _ (stopped w h) (record { answer = h .answer; awake = h .awake }))))
+      (λ a. eqb-cases (w .mark j) BASIC (λ b. Ends w (Waits j w (connect l)) (cond b (putBack w) (coreEnd limit j w))) (λ q. inr ((a, q), refl))
+      (λ q. inl (either (leb limit (w .node .level)) _ _ (stopped w h) (record { answer = h .answer; awake = h .awake }))))
 
   steady-initiate : (l f find : ℕ) → Steady (onInitiate o l f find j w)
   unfolding onInitiate seek
@@ -74,22 +83,29 @@ module _ (o : Own) (limit j : ℕ) (w : Work) (h : Steady w) where
       let c = w .node .count + number o (branches j w) (o.edges) in
       either (eqb find 1) _ t (either (ltb (degree o) c) _ _ (stopped t k) (steady-test _ _ (now (setCount c (t .node)) t (k .awake) k))) k
 
-  ends-test : (l f : ℕ) → Ends w (onTest o l f j w)
+  -- a Test that is not above the node's level is answered
+  abbrev replies : ℕ → Work
+  replies f = cond (eqb f (w .node .identity)) (cond (eqb (w .node .test) j) (doTest o (strike j w)) (send j reject (strike j w))) (send j accept w)
+
+  ends-test : (l f : ℕ) → Ends w (Waits j w (test l f)) (onTest o l f j w)
   unfolding onTest
-  ends-test l f = ends-if (ltb (w .node .level) l) w _ _ (inr refl)
-      (inl (either (eqb f (w .node .identity)) _ _
+  ends-test l f = ltb-cases (w .node .level) l (λ b. Ends w (Waits j w (test l f)) (cond b (putBack w) (replies f)))
+      (λ a. inr (a, refl))
+      (λ a. inl (either (eqb f (w .node .identity)) _ _
       (either (eqb (w .node .test) j) _ _ (steady-test _ _ (record { answer = h .answer; awake = h .awake })) (record { answer = h .answer; awake = h .awake }))
       (record { answer = h .answer; awake = h .awake })))
 
-  ends-report : (x : ℕ) → Ends w (onReport o x j w)
+  ends-report : (x : ℕ) → Ends w (Waits j w (report x)) (onReport o x j w)
   unfolding onReport childReport coreReport
-  ends-report x = ends-if (eqb j (w .node .branch)) w _ _
-      (ends-if (eqb (w .node .status) FIND) w _ _ (inr refl)
-      (inl (either (before o (w .node .weight) x) _ _ (steady-root w h) (either (eqb x none && eqb (w .node .weight) none) _ w (record { answer = h .answer; awake = h .awake }) h))))
-      (inl (either (eqb (w .node .count) 0) _ _ (stopped w h) (steady-report _ (record { answer = h .answer; awake = h .awake }))))
+  ends-report x = eqb-cases j (w .node .branch)
+      (λ b. Ends w (Waits j w (report x)) (cond b (cond (eqb (w .node .status) FIND) (putBack w) (coreReport o x w)) (childReport o x j w)))
+      (λ a. eqb-cases (w .node .status) FIND (λ b. Ends w (Waits j w (report x)) (cond b (putBack w) (coreReport o x w))) (λ q. inr ((sym a, q), refl))
+      (λ q. inl (either (before o (w .node .weight) x) _ _ (steady-root w h)
+      (either (eqb x none && eqb (w .node .weight) none) _ w (record { answer = h .answer; awake = h .awake }) h))))
+      (λ a. inl (either (eqb (w .node .count) 0) _ _ (stopped w h) (steady-report _ (record { answer = h .answer; awake = h .awake }))))
 
 -- THE LAW for a node that is awake ..
-pub ends-awake : (o : Own) (limit j : ℕ) (m : Msg) (w : Work) → Steady w → Ends w (respondTo o limit m j w)
+pub ends-awake : (o : Own) (limit j : ℕ) (m : Msg) (w : Work) → Steady w → Ends w (Waits j w m) (respondTo o limit m j w)
 unfolding respondTo
 ends-awake o limit j (connect l) w h = rw (awake-is o w (h .awake)) (ends-connect o limit j w h l)
 ends-awake o limit j (initiate l f find) w h = inl (rw (asleep-not w _ (h .awake)) (steady-initiate o limit j w h l f find))
@@ -100,16 +116,16 @@ ends-awake o limit j (report x) w h = rw (asleep-not w _ (h .awake)) (ends-repor
 ends-awake o limit j change w h = inl (rw (asleep-not w _ (h .awake)) (steady-root w h))
 
 -- .. and for one that is asleep: it is refused, or awake afterwards
-up : (w r : Work) → Steady w → Ends w r → r .node .status ≢ ASLEEP
-up w r h (inl s) = s .awake
-up w r h (inr e) = subst (λ x. x .node .status ≢ ASLEEP) (sym e) (h .awake)
+pub stays-up : {g : Type 0} (w r : Work) → Steady w → Ends w g r → r .node .status ≢ ASLEEP
+stays-up w r h (inl s) = s .awake
+stays-up w r h (inr t) = subst (λ x. x .node .status ≢ ASLEEP) (sym (t .1)) (h .awake)
 
 pub ends-asleep : (o : Own) (limit j : ℕ) (m : Msg) (w : Work) → w .answer ≢ BACK → w .node .status ≡ ASLEEP
     → (respondTo o limit m j w .answer ≡ REFUSED) ⊎ (respondTo o limit m j w .node .status ≢ ASLEEP)
 unfolding respondTo
-ends-asleep o limit j (connect l) w a e = let k = steady-wake o w a in inr (rw (awake-wakes o w e) (up (wakeup o w) _ k (ends-connect o limit j (wakeup o w) k l)))
+ends-asleep o limit j (connect l) w a e = let k = steady-wake o w a in inr (rw (awake-wakes o w e) (stays-up (wakeup o w) _ k (ends-connect o limit j (wakeup o w) k l)))
 ends-asleep o limit j (initiate l f find) w a e = inl (rw (asleep-refused w _ e) refl)
-ends-asleep o limit j (test l f) w a e = let k = steady-wake o w a in inr (rw (awake-wakes o w e) (up (wakeup o w) _ k (ends-test o limit j (wakeup o w) k l f)))
+ends-asleep o limit j (test l f) w a e = let k = steady-wake o w a in inr (rw (awake-wakes o w e) (stays-up (wakeup o w) _ k (ends-test o limit j (wakeup o w) k l f)))
 ends-asleep o limit j accept w a e = inl (rw (asleep-refused w _ e) refl)
 ends-asleep o limit j reject w a e = inl (rw (asleep-refused w _ e) refl)
 ends-asleep o limit j (report x) w a e = inl (rw (asleep-refused w _ e) refl)
