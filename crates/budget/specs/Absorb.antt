@@ -1,11 +1,11 @@
 -- A fragment is absorbed: its node u gets an Initiate, and the others are below the level that they then have to reach.
-use Rattle.protocol.specs.Prelude.{ℕ, zero, suc, _+_, _-_, _*_, eqb, bit, cond, _≤_, _<_, arith, _≡_, refl, sym, ap, subst, _∙_, _≢_, _⊎_, inl, inr, ⊎-elim, by-eq}
-use Rattle.protocol.specs.Prelude.{List, [], _∷_, _++_, sum, sumL, upd, upd-elim, upd-same, upd-other, upd2, upd2-elim, sum-upd, Msg, none, connect, initiate, test, accept, reject, report, change}
-use Rattle.protocol.specs.Prelude.{Plan, Ends, end-lt, joins-lt, flip, ends-same, ends-two, ends-irr, edge-some, State, Idle, Flag}
-use Rattle.protocol.specs.Prelude.{isI, isT, isA, isY, top, top-none, top-app, In, all-in, snoc, snoc-sum, snoc-else, snoc-elim, pop-head, pop-in, pop-sum, else-same, at2, GL, GC, DK, Inf, Jn, Waits, Half, Inv}
-use Rattle.budget.specs.Paid.{LT, Heights, Dues, Tries, Links, Paid, links-same}
-use Rattle.budget.specs.Height.{keep, pop-top, heights-pop, tb-inf, tb-none, tb-le, tb-lev, tb-init}
-use Rattle.protocol.specs.Prelude.{bulk, bulk-in, bulk-out, send, pop, absorbed, half-at, in-sum}
+use Rattle.protocol.specs.Prelude.{ℕ, _+_, _≤_, _<_, arith, _≡_, sym, ap, subst, _∙_, _⊎_, by-eq}
+use Rattle.protocol.specs.Prelude.{List, _∷_, upd2, upd2-elim, Msg, connect, initiate}
+use Rattle.protocol.specs.Prelude.{Plan, Ends, flip, ends-same, State, Idle, Flag}
+use Rattle.protocol.specs.Prelude.{In, all-in, pop-head, at2, GL, Half, Inv}
+use Rattle.budget.specs.Paid.{Dues, Tries, Paid}
+use Rattle.budget.specs.Height.{keep, tb-none, tb-le}
+use Rattle.protocol.specs.Prelude.{bulk-in, bulk-out, send, pop, absorbed, half-at}
 use Rattle.budget.specs.Raise.{Raised, raise}
 
 module _ {p : Plan} {z n : ℕ} {s : State} (i : Inv p s) (h : Paid p z s n) {u v k l x : ℕ} {r : List Msg} (idle : Idle s) (ends : Ends p k u v) (q : s.ch u k ≡ connect l ∷ r)

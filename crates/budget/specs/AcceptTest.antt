@@ -1,12 +1,12 @@
 -- An accepted Test: its sender pays for Test and Accept.
-use Rattle.protocol.specs.Prelude.{ℕ, zero, suc, _+_, _-_, _*_, _^_, eqb, bit, _≤_, _<_, arith, _≡_, refl, sym, ap, subst, _∙_, _≢_, _⊎_, inl, inr, ⊎-elim, by-eq}
-use Rattle.protocol.specs.Prelude.{List, [], _∷_, _++_, sum, sumL, upd, upd-elim, upd-same, upd-other, upd2, sum-upd, Msg, none, test, accept, reject}
-use Rattle.protocol.specs.Prelude.{Plan, Ends, end-lt, joins-lt, flip, ends-same, ends-two, ends-irr, State, Idle, Strike, FirstBasic, set-te, set-ot, send, pop, marked}
-use Rattle.protocol.specs.Prelude.{isI, isT, isA, isY, In, pop-head, pop-sum, pop-here, pop-le, else-same, here-new, snoc, snoc-sum, snoc-here, snoc-else, GL, GC, DK, Inf, Waits, Inv}
+use Rattle.protocol.specs.Prelude.{ℕ, _+_, _-_, _≤_, arith, _≡_, refl, sym, ap, _∙_, _≢_, inl, inr, by-eq}
+use Rattle.protocol.specs.Prelude.{List, _∷_, sumL, upd, upd-other, upd2, sum-upd, Msg, test, accept}
+use Rattle.protocol.specs.Prelude.{Plan, Ends, end-lt, flip, other-end, State, Idle, send, pop}
+use Rattle.protocol.specs.Prelude.{isT, isA, isY, pop-head, pop-sum, pop-le, snoc, snoc-sum, snoc-here, snoc-else, GL, Inf, Waits, Inv}
 use Rattle.base.specs.Log.{log2}
 use Rattle.graph.specs.Size.{level-two}
-use Rattle.budget.specs.Paid.{LT, Heights, Dues, Tries, Links, Paid, lt-last, lt-else, lt-none, lt-le, lt-same, yes-le}
-use Rattle.budget.specs.Height.{heights-pop, heights-send, tb-inf}
+use Rattle.budget.specs.Paid.{LT, Tries, Links, Paid, lt-else, lt-same, yes-le}
+use Rattle.budget.specs.Height.{heights-pop, heights-send}
 use Rattle.steps_search.specs.AcceptTest as A
 use Rattle.steps_search.specs.Answer as W
 
@@ -78,7 +78,7 @@ module _ {p : Plan} {z n : ℕ} (last : log2 p.N ≤ z) {s : State} (i : Inv p s
     ts3 = λ j w x e a b. by-eq u w
         (λ o.
         let y : k ≡ j = sym (waits .0) ∙ ap s.te o ∙ a .0 in
-        let t = ends-same ends (subst (λ m. Ends p m u x) (sym y) (subst (λ m. Ends p j m x) (sym o) e)) in
+        let t = other-end ends e o y in
         omega (arith, snoc-here c₁ v k accept isY, ap (λ m. sumL isY (c′ m j)) t, ap (λ m. sumL isY (c′ v m)) y))
         (λ d. omega (arith, other w d, h.L .ts3 j w x e a b, W.tests p s ends q accept refl refl w j (inl d), yes x j));
     lk1 = λ j w x e a b. omega (arith, h.L .lk1 j w x e a b, lt w j, lt x j);

@@ -1,10 +1,10 @@
 -- A Reject, and a Test that crossed: nothing is sent. Where both ends had sent a Test, the edge pays back both.
-use Rattle.protocol.specs.Prelude.{ℕ, zero, suc, _+_, _-_, _*_, eqb, bit, _≤_, _<_, arith, _≡_, refl, sym, ap, subst, _∙_, _≢_, _⊎_, inl, inr, ⊎-elim, by-eq}
-use Rattle.protocol.specs.Prelude.{List, [], _∷_, _++_, sum, sumL, upd, upd-elim, upd-same, upd-other, upd2, upd2-elim, sum-upd, Msg, none, test, accept, reject}
-use Rattle.protocol.specs.Prelude.{Plan, Ends, end-lt, joins-lt, flip, ends-same, ends-two, ends-irr, State, Idle, Strike, FirstBasic, set-te, set-ot, send, pop, marked}
-use Rattle.protocol.specs.Prelude.{isI, isT, isA, isY, In, pop-head, pop-sum, pop-here, pop-le, else-same, here-new, snoc, snoc-sum, snoc-here, snoc-else, at2, GL, GC, DK, Inf, Waits, Inv, waits-find}
-use Rattle.budget.specs.Paid.{LT, Heights, Dues, Tries, Links, Paid, lt-last, lt-else, lt-none, lt-le, lt-same, yes-le}
-use Rattle.budget.specs.Height.{heights-pop, heights-send, tb-inf}
+use Rattle.protocol.specs.Prelude.{ℕ, suc, _+_, _≤_, arith, _≡_, refl, sym, ap, subst, _∙_, _≢_, _⊎_, inl, inr, ⊎-elim, by-eq}
+use Rattle.protocol.specs.Prelude.{List, _∷_, sumL, upd, upd-elim, upd-same, upd-other, upd2, upd2-elim, sum-upd, Msg, test, reject}
+use Rattle.protocol.specs.Prelude.{Plan, Ends, end-lt, joins-lt, flip, other-end, ends-two, ends-irr, State, Idle, Strike, set-ot, pop, marked}
+use Rattle.protocol.specs.Prelude.{isI, isT, isA, isY, In, pop-head, pop-sum, else-same, here-new, at2, Inf, Waits, Inv, waits-find}
+use Rattle.budget.specs.Paid.{LT, Paid, lt-else, lt-same, yes-le}
+use Rattle.budget.specs.Height.{heights-pop, tb-inf}
 use Rattle.steps_search.specs.CrossedTest as C
 use Rattle.steps_search.specs.Rejected as J
 use Rattle.steps_search.specs.Own as O
@@ -36,7 +36,7 @@ module _ {p : Plan} {z n : ℕ} {s : State} (i : Inv p s) (h : Paid p z s n) {u 
   -- beyond an edge of another than v: not u's channel over k
   apart : (j w x : ℕ) → Ends p j w x → v ≢ w → (u ≢ x) ⊎ (k ≢ j)
   apart j w x e d = by-eq k j
-      (λ y. inl (λ o. d (ends-same ends (subst (λ a. Ends p a u w) (sym y) (subst (λ a. Ends p j a w) (sym o) (flip e)))))) (λ y. inr y)
+      (λ y. inl (λ o. d (other-end ends (flip e) o y))) (λ y. inr y)
 
   -- ---- nothing is paid: v has its 2 already, and u's Tests are as they were, or u does not wait
 

@@ -1,11 +1,11 @@
 -- A Connect is paid from rt, at waking and by procedure change-root; fragments that merge reach a level that none of their nodes has or is about to have.
-use Rattle.protocol.specs.Prelude.{ℕ, zero, suc, _+_, _-_, _*_, eqb, bit, _≤_, _<_, arith, _≡_, refl, sym, ap, subst, _∙_, _≢_, _⊎_, inl, inr, ⊎-elim, by-eq}
-use Rattle.protocol.specs.Prelude.{List, [], _∷_, _++_, sum, sumL, upd, upd-elim, upd-same, upd-other, upd2, upd2-elim, sum-upd, Msg, none, connect, initiate, test, accept, reject, report, change}
-use Rattle.protocol.specs.Prelude.{Plan, Ends, end-lt, joins-lt, flip, ends-same, ends-two, ends-irr, edge-some, State, Idle}
-use Rattle.protocol.specs.Prelude.{isI, isT, isA, isY, top, top-none, top-app, In, all-in, snoc, snoc-sum, snoc-else, snoc-elim, pop-head, pop-in, pop-sum, else-same, at2, GL, GC, DK, Inf, Jn, Waits, Half, Inv}
+use Rattle.protocol.specs.Prelude.{ℕ, suc, _+_, _≤_, arith, _≡_, refl, sym, ap, subst, _∙_, _≢_, inl, inr, ⊎-elim, by-eq}
+use Rattle.protocol.specs.Prelude.{upd, upd-elim, upd-same, upd-other, upd2, upd2-elim, sum-upd, none, connect, initiate}
+use Rattle.protocol.specs.Prelude.{Plan, Ends, end-lt, flip, other-end, ends-two, edge-some, State}
+use Rattle.protocol.specs.Prelude.{top, top-none, In, all-in, at2, GL, DK, Inf, Inv}
 use Rattle.protocol.specs.Decisions.{HalfOk, RootOk}
-use Rattle.budget.specs.Paid.{LT, Heights, Dues, Tries, Links, Paid, lt-last, lt-else, lt-none, lt-le, lt-same, yes-le}
-use Rattle.budget.specs.Height.{keep, Neutral, pop-top, send-top, heights-pop, heights-send, links-pop, links-send, dues-decide, tb-inf, tb-none, tb-le, tb-lev, tb-init}
+use Rattle.budget.specs.Paid.{Dues, Paid}
+use Rattle.budget.specs.Height.{keep, Neutral, heights-send, links-send, dues-decide, tb-inf, tb-le}
 use Rattle.protocol.specs.Prelude.{bulk, bulk-in, bulk-out, set-st, set-oo, halved, merged, woken, woken-same, sleep-lev, sleep-ub, no-initiate}
 
 -- v, whose fragment is half, needs no more for its Connect
@@ -38,7 +38,7 @@ module _ {p : Plan} {z n : ℕ} {s : State} (i : Inv p s) (h : Paid p z s n) {v 
       tb0 = λ w. upd-elim (λ a. a ≡ none → h.tb w ≡ s.lev w) s.ub v k w (λ e b. absurd (edge-some p ends b)) (λ d b. h.H .tb0 w b);
       tb1 = λ j x w e. upd-elim (λ a. a ≡ j → h.tb w ≡ top (s.lev w) (s.ch x j)) s.ub v k w
           (λ o b.
-          let t = ends-same ends (subst (λ d. Ends p d v x) (sym b) (subst (λ d. Ends p j d x) (sym o) (flip e))) in
+          let t = other-end ends (flip e) o b in
           ap (h.tb) (sym o) ∙ here ∙ ap s.lev o ∙ sym (top-none (s.lev w) (s.ch x j) (λ a f g m. quiet a f g (subst (λ d. In (initiate a f g) d) (sym (at2 s.ch t b)) m))))
           (λ d b. h.H .tb1 j x w e b);
     });

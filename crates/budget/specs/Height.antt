@@ -1,7 +1,7 @@
 -- The level that a node will have; channels after a message was taken or sent that is no Initiate.
-use Rattle.protocol.specs.Prelude.{ℕ, zero, suc, _+_, _*_, _≤_, _<_, arith, _≡_, refl, sym, ap, subst, _∙_, _≢_, _⊎_, inl, inr, ⊎-elim, by-eq}
-use Rattle.protocol.specs.Prelude.{List, [], _∷_, _++_, sum, sumL, upd, upd-elim, upd-same, upd-other, upd2, upd2-elim, Msg, none, initiate, Plan, Ends, flip, State, isI, isT, isY, top, In, head-at, snoc, snoc-elim}
-use Rattle.protocol.specs.Prelude.{top-none, top-in, top-max, top-cons, top-snoc, pop-sum, snoc-sum, GL, Inf, Inv, no-initiate}
+use Rattle.protocol.specs.Prelude.{ℕ, _≤_, _<_, arith, _≡_, refl, sym, ap, subst, _∙_, _⊎_, ⊎-elim, by-eq}
+use Rattle.protocol.specs.Prelude.{List, _∷_, upd, upd-elim, upd-same, upd-other, upd2, Msg, none, initiate, Plan, Ends, flip, State, isI, isT, isY, top, In, snoc}
+use Rattle.protocol.specs.Prelude.{top-none, top-in, top-max, pop-top, snoc-top, pop-sum, snoc-sum, GL, Inf, Inv, no-initiate}
 use Rattle.budget.specs.Paid.{Heights, Dues, Tries, Links, Paid, heights-same, links-same}
 
 -- ---- the same tables, in another state
@@ -12,13 +12,6 @@ keep h s′ a b c d = record { tb = h.tb; rp = h.rp; ts = h.ts; rt = h.rt; lk = 
 
 -- ---- a message that is no Initiate, nor Test, nor Accept
 
-pub pop-top : (c : ℕ → ℕ → List Msg) (u k : ℕ) {m : Msg} {r : List Msg} → c u k ≡ m ∷ r → isI m ≡ 0 → (n w j : ℕ) → top n (upd2 c u k r w j) ≡ top n (c w j)
-pop-top c u k {m} {r} q z n w j = upd2-elim (λ l. top n l ≡ top n (c w j)) c u k r w j
-    (λ a b. sym (top-cons n m r z) ∙ ap (top n) (sym (head-at c u k q w j a b))) (λ d. refl)
-
-pub send-top : (c : ℕ → ℕ → List Msg) (v k : ℕ) (m : Msg) → isI m ≡ 0 → (n w j : ℕ) → top n (snoc c v k m w j) ≡ top n (c w j)
-send-top c v k m z n w j = snoc-elim c v k m (λ l. top n l ≡ top n (c w j)) w j (λ a b. top-snoc n m (c w j) z) (λ d. refl)
-
 -- the channel clauses stay when such a message is taken or sent
 pub record Neutral (m : Msg) : Type 0 where
   pub no-init : isI m ≡ 0
@@ -27,10 +20,10 @@ pub record Neutral (m : Msg) : Type 0 where
 
 pub heights-pop : {p : Plan} {lev ub tb : ℕ → ℕ} (ch : ℕ → ℕ → List Msg) (u k : ℕ) {m : Msg} {r : List Msg} → ch u k ≡ m ∷ r → isI m ≡ 0
     → Heights p lev ub ch tb → Heights p lev ub (upd2 ch u k r) tb
-heights-pop ch u k {r = r} q z h = heights-same (upd2 ch u k r) (pop-top ch u k q z) h
+heights-pop ch u k {m} {r} q z h = heights-same (upd2 ch u k r) (pop-top ch u k m z q) h
 
 pub heights-send : {p : Plan} {lev ub tb : ℕ → ℕ} (ch : ℕ → ℕ → List Msg) (v k : ℕ) (m : Msg) → isI m ≡ 0 → Heights p lev ub ch tb → Heights p lev ub (snoc ch v k m) tb
-heights-send ch v k m z h = heights-same (snoc ch v k m) (send-top ch v k m z) h
+heights-send ch v k m z h = heights-same (snoc ch v k m) (snoc-top ch v k m z) h
 
 pub links-pop : {p : Plan} {z ot : ℕ} {lev te ts lk : ℕ → ℕ} {mark : ℕ → ℕ → ℕ} (ch : ℕ → ℕ → List Msg) (u k : ℕ) {m : Msg} {r : List Msg} → ch u k ≡ m ∷ r → Neutral m
     → Links p z lev te mark ch ot ts lk → Links p z lev te mark (upd2 ch u k r) ot ts lk

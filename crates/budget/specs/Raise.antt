@@ -1,11 +1,11 @@
 -- An Initiate in answer to a Connect: its receiver u will have a higher level, which pays for the Initiate and for all that u may send at that level.
-use Rattle.protocol.specs.Prelude.{ℕ, zero, suc, _+_, _-_, _*_, eqb, bit, cond, _≤_, _<_, arith, _≡_, refl, sym, ap, subst, _∙_, _≢_, _⊎_, inl, inr, ⊎-elim, by-eq}
-use Rattle.protocol.specs.Prelude.{List, [], _∷_, _++_, sum, sumL, upd, upd-elim, upd-same, upd-other, upd2, upd2-elim, sum-upd, Msg, none, connect, initiate, test, accept, reject, report, change}
-use Rattle.protocol.specs.Prelude.{Plan, Ends, end-lt, joins-lt, flip, ends-same, ends-two, ends-irr, edge-some, State, Idle, Flag}
-use Rattle.protocol.specs.Prelude.{isI, isT, isA, isY, top, top-none, top-app, In, all-in, snoc, snoc-sum, snoc-else, snoc-elim, pop-head, pop-in, pop-sum, else-same, at2, GL, GC, DK, Inf, Jn, Waits, Half, Inv}
-use Rattle.budget.specs.Paid.{LT, Heights, Dues, Tries, Links, Paid, links-same}
-use Rattle.budget.specs.Height.{keep, pop-top, heights-pop, tb-inf, tb-none, tb-le, tb-lev, tb-init}
-use Rattle.protocol.specs.Prelude.{bulk, bulk-in, bulk-out, send, pop, absorbed, half-at, set-ch, in-sum, isC}
+use Rattle.protocol.specs.Prelude.{ℕ, _+_, _*_, _≤_, _<_, arith, _≡_, refl, sym, ap, subst, _∙_, _≢_, _⊎_, inl, inr, ⊎-elim, by-eq}
+use Rattle.protocol.specs.Prelude.{List, [], _∷_, _++_, sumL, upd, upd-elim, upd-same, upd-other, upd2, sum-upd, Msg, connect, initiate}
+use Rattle.protocol.specs.Prelude.{Plan, Ends, end-lt, flip, ends-same, other-end, edge-some, State}
+use Rattle.protocol.specs.Prelude.{isT, isY, top, top-app, pop-top, In, snoc, snoc-sum, snoc-else, snoc-elim, pop-head, pop-sum, at2, GL, GC, Jn, Inv}
+use Rattle.budget.specs.Paid.{Heights, Links, Paid, links-same}
+use Rattle.budget.specs.Height.{tb-none}
+use Rattle.protocol.specs.Prelude.{send, pop, in-sum, isC}
 
 -- what is known of the new tables
 pub record Raised (p : Plan) (z : ℕ) (s : State) (n u : ℕ) (tb : ℕ → ℕ) : Type 0 where
@@ -37,9 +37,9 @@ module _ {p : Plan} {z n : ℕ} {s : State} (i : Inv p s) (h : Paid p z s n) {u 
     tb1 = λ j y w e o. upd-elim (λ a. a ≡ top (s.lev w) (c′ y j)) (h.tb) u b w
         (λ d.
         let g : k ≡ j = sym inbound ∙ ap s.ub d ∙ o in
-        let t = ends-same ends (subst (λ a. Ends p a u y) (sym g) (subst (λ a. Ends p j a y) (sym d) (flip e))) in
+        let t = other-end ends (flip e) d g in
         sym (ap (top (s.lev w)) (sym (at2 c′ t g) ∙ new) ∙ top-app (s.lev w) b f x (c₁ v k)))
-        (λ d. h.H .tb1 j y w e o ∙ sym (ap (top (s.lev w)) (snoc-else c₁ v k m y j (apart j y w e d)) ∙ pop-top s.ch u k q refl (s.lev w) y j));
+        (λ d. h.H .tb1 j y w e o ∙ sym (ap (top (s.lev w)) (snoc-else c₁ v k m y j (apart j y w e d)) ∙ pop-top s.ch u k (connect l) refl q (s.lev w) y j));
   }
     where
       new : c′ v k ≡ c₁ v k ++ (m ∷ [])
@@ -48,7 +48,7 @@ module _ {p : Plan} {z n : ℕ} {s : State} (i : Inv p s) (h : Paid p z s n) {u 
       -- the channel to another than u
       apart : (j y w : ℕ) → Ends p j y w → u ≢ w → (v ≢ y) ⊎ (k ≢ j)
       apart j y w e d = by-eq k j
-          (λ g. inl (λ a. d (ends-same (flip ends) (subst (λ c. Ends p c v w) (sym g) (subst (λ c. Ends p j c w) (sym a) e))))) (λ g. inr g)
+          (λ g. inl (λ a. d (other-end (flip ends) e a g))) (λ g. inr g)
 
   pub raise : Raised p z (send (pop s u k r) v k m) (n + 1) u (h.tb)
   raise = record {

@@ -1,9 +1,9 @@
 -- Steps that send nothing and change no table of the budget.
-use Rattle.protocol.specs.Prelude.{ℕ, zero, suc, _+_, _-_, _*_, eqb, bit, _≤_, _<_, arith, _≡_, refl, sym, ap, subst, _∙_, _≢_, _⊎_, inl, inr, ⊎-elim, by-eq}
-use Rattle.protocol.specs.Prelude.{List, [], _∷_, _++_, sumL, upd, upd-elim, upd-same, upd-other, upd2, upd2-elim, Msg, none, connect, initiate, test, accept, reject, report, change}
-use Rattle.protocol.specs.Prelude.{Plan, Ends, key, flip, ends-same, State, Idle, Blocked, Better, set-st, set-te, set-fc, set-halt, set-dk, set-owe, set-ot, set-op, bested, rooted, pop, woken, woken-same}
-use Rattle.protocol.specs.Prelude.{isI, isT, isY, top, top-mid, head-at, pop-head, pop-sum, else-same, rot, rot-sum, GL, GC, DK, Inf, Waits, Inv}
-use Rattle.budget.specs.Paid.{Heights, Dues, Tries, Links, Paid, heights-same, links-same}
+use Rattle.protocol.specs.Prelude.{ℕ, suc, _-_, _*_, eqb, bit, _≤_, _<_, arith, _≡_, refl, sym, ap, subst, _∙_, _≢_, _⊎_, inl, inr, ⊎-elim, by-eq}
+use Rattle.protocol.specs.Prelude.{List, _∷_, _++_, sumL, upd, upd2, Msg, none, accept, report, change}
+use Rattle.protocol.specs.Prelude.{Plan, Ends, key, flip, other-end, State, Idle, Blocked, Better, set-st, set-te, set-fc, set-halt, set-dk, set-owe, set-ot, set-op, bested, rooted, pop, woken, woken-same}
+use Rattle.protocol.specs.Prelude.{isT, isY, rot-top, pop-head, pop-sum, else-same, rot-sum, GL, DK, Inv}
+use Rattle.budget.specs.Paid.{Paid, heights-same, links-same}
 use Rattle.budget.specs.Height.{keep, Neutral, heights-pop, links-pop, dues-decide, dues-finish}
 use Rattle.steps_search.specs.Back.{not-initiate}
 use Rattle.steps_search.specs.Accepted as A
@@ -14,15 +14,9 @@ module _ {p : Plan} {z n : ℕ} {s : State} (i : Inv p s) (h : Paid p z s n) whe
   paid-report-later = keep h (set-op s 0) (h.H) (h.D) (h.T) (h.L)
 
   pub paid-back : {u v k : ℕ} {m : Msg} (a b : List Msg) → Ends p k u v → s.ch u k ≡ m ∷ (a ++ b) → Blocked s v k m → Paid p z (pop s u k (a ++ (m ∷ b))) n
-  paid-back {u} {v} {k} {m} a b e q blocked = keep h (pop s u k (a ++ (m ∷ b))) (heights-same (upd2 s.ch u k (a ++ (m ∷ b))) far (h.H)) (h.D) (h.T)
+  paid-back {u} {v} {k} {m} a b e q blocked = keep h (pop s u k (a ++ (m ∷ b)))
+      (heights-same (upd2 s.ch u k (a ++ (m ∷ b))) (rot-top s.ch u k m (not-initiate s v k m blocked) a b q) (h.H)) (h.D) (h.T)
       (links-same (upd2 s.ch u k (a ++ (m ∷ b))) (rot-sum s.ch u k a b q isT) (rot-sum s.ch u k a b q isY) (h.L))
-    where
-      no : isI m ≡ 0
-      no = not-initiate s v k m blocked
-
-      far : (x w j : ℕ) → top x (upd2 s.ch u k (a ++ (m ∷ b)) w j) ≡ top x (s.ch w j)
-      far x w j = upd2-elim (λ l. top x l ≡ top x (s.ch w j)) s.ch u k (a ++ (m ∷ b)) w j
-          (λ e f. top-mid x m a b no ∙ sym (top-mid x m [] (a ++ b) no) ∙ ap (top x) (sym (head-at s.ch u k q w j e f))) (λ d. refl)
 
   -- ---- Reports
 
@@ -116,7 +110,7 @@ module _ {p : Plan} {z n : ℕ} {s : State} (i : Inv p s) (h : Paid p z s n) whe
       -- the Accepts to another
       yes : (j w x : ℕ) → Ends p j w x → v ≢ w → sumL isY (upd2 s.ch u k r x j) ≡ sumL isY (s.ch x j)
       yes j w x f n = ap (sumL isY) (else-same s.ch u k r x j (by-eq k j
-          (λ y. inl (λ o. n (ends-same ends (subst (λ a. Ends p a u w) (sym y) (subst (λ a. Ends p j a w) (sym o) (flip f)))))) (λ y. inr y)))
+          (λ y. inl (λ o. n (other-end ends (flip f) o y))) (λ y. inr y)))
 
   -- ---- waking without edges
 

@@ -1,8 +1,8 @@
 -- An Initiate at v: each child that gets a copy will have a higher level, which pays for the copy and for all that the child may send at that level.
-use Rattle.protocol.specs.Prelude.{ℕ, zero, suc, _+_, _-_, _*_, eqb, eqb-same, eqb-cases, bit, cond, Bool, true, false, _≤_, _<_, zero-le, arith, _≡_, refl, sym, ap, subst, _∙_, _≢_, _⊎_, inl, inr, ⊎-elim, by-eq, bool-cases}
-use Rattle.protocol.specs.Prelude.{List, [], _∷_, _++_, sum, sum-le, sum-eq, sum-add, le-sum, sumL, upd, upd-elim, upd-same, upd-other, upd2, Msg, none, connect, initiate, test, accept, reject, report, change}
-use Rattle.protocol.specs.Prelude.{Plan, Ends, end-lt, joins-lt, flip, ends-same, ends-two, ends-irr, edge-some, State, Idle, Mode, Place, pop, informed}
-use Rattle.protocol.specs.Prelude.{isI, isT, isA, isY, top, top-app, In, fan, fan-elim, fan-sum, fan-else, copy, copy-yes, copy-on, pop-head, pop-sum, else-same, here-new, at2, no-tests, GL, GC, DK, Inf, Jn, Waits, Half, Inv, no-root, low-find, told-of}
+use Rattle.protocol.specs.Prelude.{ℕ, _+_, _*_, eqb, bit, cond, Bool, true, false, _≤_, _<_, arith, _≡_, refl, sym, ap, subst, _∙_, _≢_, inl, inr, ⊎-elim, by-eq, bool-cases}
+use Rattle.protocol.specs.Prelude.{List, [], _∷_, _++_, sum, sum-le, sum-add, sumL, upd-same, upd-other, upd2, Msg, initiate}
+use Rattle.protocol.specs.Prelude.{Plan, Ends, end-lt, flip, ends-same, other-end, ends-two, ends-irr, edge-some, State, Idle, Mode, Place, pop, informed}
+use Rattle.protocol.specs.Prelude.{isT, isY, top, top-app, In, fan, fan-elim, fan-sum, fan-else, copy, copy-yes, pop-head, pop-sum, else-same, here-new, at2, no-tests, GL, DK, Waits, Inv, no-root, low-find, told-of}
 use Rattle.protocol.specs.Traffic.{InitOk}
 use Rattle.budget.specs.Paid.{LT, Heights, Dues, Tries, Links, Paid, lt-none, lt-same}
 use Rattle.budget.specs.Height.{tb-le, tb-init}
@@ -105,7 +105,7 @@ module _ {p : Plan} {z n : ℕ} {s : State} (i : Inv p s) (h : Paid p z s n) {u 
       at-v : (j y w : ℕ) → Ends p j y w → s.ub w ≡ j → v ≡ w → tb′ w ≡ top (S′.lev w) (c′ y j)
       at-v j y w g o t =
           let c : k ≡ j = sym (said .i1u) ∙ ap s.ub t ∙ o in
-          let d : u ≡ y = ends-same (flip ends) (subst (λ a. Ends p a v y) (sym c) (subst (λ a. Ends p j a y) (sym t) (flip g))) in
+          let d : u ≡ y = other-end (flip ends) (flip g) t c in
           tb-no w (ap kid (sym t) ∙ kid-v)
           ∙ ap (h.tb) (sym t) ∙ h.H .tb1 k u v ends (said .i1u) ∙ ap (top (s.lev v)) q
           ∙ sym (ap (top (S′.lev w)) (sym (at2 c′ d c) ∙ fan-else c₁ v (copy s₁ v k) m u k (inl (λ a. ends-irr p ends (sym a))) ∙ here-new s.ch u k r)
@@ -114,7 +114,7 @@ module _ {p : Plan} {z n : ℕ} {s : State} (i : Inv p s) (h : Paid p z s n) {u 
       -- the channel from another than u, or over another edge
       apart : (j y w : ℕ) → Ends p j y w → v ≢ w → c₁ y j ≡ s.ch y j
       apart j y w g t = else-same s.ch u k r y j (by-eq k j
-          (λ c. inl (λ a. t (ends-same ends (subst (λ b. Ends p b u w) (sym c) (subst (λ b. Ends p j b w) (sym a) g))))) (λ c. inr c))
+          (λ c. inl (λ a. t (other-end ends g a c))) (λ c. inr c))
 
       at-kid : (j y w : ℕ) → Ends p j y w → s.ub w ≡ j → v ≢ w → kid w ≡ true → tb′ w ≡ top (S′.lev w) (c′ y j)
       at-kid j y w g o t c =

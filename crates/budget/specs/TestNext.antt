@@ -1,10 +1,10 @@
 -- Procedure test sends a Test: v pays, or at the last level the edge.
-use Rattle.protocol.specs.Prelude.{ℕ, zero, suc, _+_, _-_, _*_, eqb, bit, _≤_, _<_, arith, _≡_, refl, sym, ap, subst, _∙_, _≢_, _⊎_, inl, inr, ⊎-elim, by-eq}
-use Rattle.protocol.specs.Prelude.{List, [], _∷_, _++_, sum, sumL, upd, upd-elim, upd-same, upd-other, upd2, upd2-elim, sum-upd, Msg, none, connect, initiate, test, accept, reject, report, change}
-use Rattle.protocol.specs.Prelude.{Plan, Ends, end-lt, joins-lt, flip, ends-same, ends-two, ends-irr, State, Idle, FirstBasic}
-use Rattle.protocol.specs.Prelude.{isI, isT, isA, isY, In, snoc, snoc-sum, snoc-here, snoc-else, GL, GC, DK, Inf, Jn, Waits, Inv}
-use Rattle.budget.specs.Paid.{LT, Heights, Dues, Tries, Links, Paid, lt-last, lt-else, lt-none, lt-le, lt-same, yes-le}
-use Rattle.budget.specs.Height.{Neutral, heights-pop, heights-send, links-send, dues-decide, tb-inf, tb-none}
+use Rattle.protocol.specs.Prelude.{ℕ, suc, _+_, _-_, _≤_, arith, _≡_, refl, sym, ap, subst, _∙_, _≢_, _⊎_, inl, inr, ⊎-elim, by-eq}
+use Rattle.protocol.specs.Prelude.{List, sumL, upd, upd-same, upd-other, sum-upd, Msg, test}
+use Rattle.protocol.specs.Prelude.{Plan, Ends, end-lt, joins-lt, flip, other-end, ends-two, ends-irr, State, FirstBasic}
+use Rattle.protocol.specs.Prelude.{isT, isY, snoc, snoc-sum, snoc-here, snoc-else, GL, Inf, Waits, Inv}
+use Rattle.budget.specs.Paid.{LT, Paid, lt-last, lt-else, lt-none, lt-le, lt-same}
+use Rattle.budget.specs.Height.{heights-send}
 use Rattle.protocol.specs.Prelude.{set-te, set-ot, send}
 use Rattle.steps_search.specs.TestNext as N
 
@@ -69,7 +69,7 @@ module _ {p : Plan} {z n : ℕ} {s : State} (i : Inv p s) (h : Paid p z s n) {v 
           (λ d o. omega (arith, upd-other (h.ts) v (h.ts v - 1) w d, h.L .ts3 j w x e o c, off w j (inl d), yes x j));
       lk1 = λ j w x e a c. omega (arith, h.L .lk1 j w x e a c, same w j, same x j);
       lk2 = λ j w x e a c. waits j w a
-          (λ o y. subst (λ d. 2 ≤ h.lk j + LT z s.lev c′ w j + LT z s.lev c′ d j) (beyond j w x e o y)
+          (λ o y. subst (λ d. 2 ≤ h.lk j + LT z s.lev c′ w j + LT z s.lev c′ d j) (other-end ends e o y)
           (subst (λ d. 2 ≤ h.lk j + LT z s.lev c′ d j + LT z s.lev c′ u j) o (subst (λ d. 2 ≤ h.lk d + LT z s.lev c′ v d + LT z s.lev c′ u d) y (omega (arith, have, same v k, same u k)))))
           (λ d o. omega (arith, h.L .lk2 j w x e o (omega (arith, off w j (inl d))), same w j, same x j));
     };
@@ -81,9 +81,6 @@ module _ {p : Plan} {z n : ℕ} {s : State} (i : Inv p s) (h : Paid p z s n) {v 
 
       same : (w j : ℕ) → LT z s.lev c′ w j ≡ LT z s.lev s.ch w j
       same w j = by-eq v w (λ e. let d : s.lev w ≢ z = λ o. b (ap s.lev e ∙ o) in lt-else z s.lev c′ w j d ∙ sym (lt-else z s.lev s.ch w j d)) (λ d. lt w j (inl d))
-
-      beyond : (j w x : ℕ) → Ends p j w x → v ≡ w → k ≡ j → u ≡ x
-      beyond j w x e o y = ends-same ends (subst (λ d. Ends p d v x) (sym y) (subst (λ d. Ends p j d x) (sym o) e))
 
   -- ---- at the last level the edge pays
 

@@ -2,7 +2,7 @@
 use Prim.Native.Nat.{ℕ, _+_, _<_}
 use native.Mathlib.Omega.{arith}
 use mathlib.Core.Path.{_≡_, refl, ap}
-use mathlib.Core.Logic.{_≢_}
+use mathlib.Core.Logic.{_≢_, _⊎_, inl, inr}
 use mathlib.Core.List.{List, [], _∷_}
 use Rattle.message.specs.Msg.{Msg, connect, initiate, test, accept, reject, report, change}
 
@@ -122,16 +122,30 @@ Fits reject m = isA m ≡ 0
 Fits (report w) m = isR m ≡ 0
 Fits change m = isK m ≡ 0
 
--- the level that the receiver will have once it has served the Initiates of the channel; a is its level now
+-- the receiver's level once it has served m; a is its level now
+abbrev pub raise : ℕ → Msg → ℕ
+raise a (connect l) = a
+raise a (initiate l f x) = l
+raise a (test l f) = a
+raise a accept = a
+raise a reject = a
+raise a (report w) = a
+raise a change = a
+
+-- the same for all messages of a channel
 abbrev pub top : ℕ → List Msg → ℕ
 top a [] = a
-top a ((connect l) ∷ r) = top a r
-top a ((initiate l f x) ∷ r) = top l r
-top a ((test l f) ∷ r) = top a r
-top a (accept ∷ r) = top a r
-top a (reject ∷ r) = top a r
-top a ((report w) ∷ r) = top a r
-top a (change ∷ r) = top a r
+top a (m ∷ r) = top (raise a m) r
+
+-- m leaves it as it is, or is an Initiate of the new level
+pub raise-in : (a : ℕ) (m : Msg) → (raise a m ≡ a) ⊎ ((f : ℕ) × (x : ℕ) × (initiate (raise a m) f x ≡ m))
+raise-in a (connect l) = inl refl
+raise-in a (initiate l f x) = inr (f, x, refl)
+raise-in a (test l f) = inl refl
+raise-in a accept = inl refl
+raise-in a reject = inl refl
+raise-in a (report w) = inl refl
+raise-in a change = inl refl
 
 -- a Connect or an Initiate is one of them
 pub call-parts : (m : Msg) → isCI m ≡ isC m + isI m

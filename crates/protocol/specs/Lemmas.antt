@@ -1,22 +1,22 @@
 -- Laws of the relabelling, of the copies of an Initiate, of levels at the far end, and from counts to messages.
-use Prim.Native.Nat.{ℕ, zero, suc, _+_, _*_, _≤_, _<_, zero-le}
+use Prim.Native.Nat.{ℕ, zero, suc, _+_, _*_, _≤_, _<_}
 use native.Mathlib.Omega.{arith}
-use native.Mathlib.Nat.{le-refl}
 use mathlib.Core.Path.{_≡_, refl, sym, ap, subst, _∙_}
 use mathlib.Core.Logic.{_≢_, _⊎_, inl, inr, ⊎-elim}
 use mathlib.Core.Bool.{Bool, true, false, not, cond, _&&_}
 use mathlib.Core.List.{List, [], _∷_, _++_}
 use lib.Dec.{eqb}
-use Rattle.base.specs.Cond.{eqb-cases, eqb-same, eqb-diff, by-eq, bit, upd, upd-same, upd-other, upd2}
-use Rattle.base.specs.Pool.{All, nil, con, sumL, sumL-app}
+use Rattle.base.specs.Cond.{eqb-cases, eqb-same, eqb-diff, by-eq, bit, upd, upd-same, upd-other, upd2, upd2-elim}
+use Rattle.base.specs.Pool.{sumL, sumL-app}
 use Rattle.base.specs.Sum.{sum, sum-change, sum-eq, le-sum}
-use Rattle.graph.specs.Graph.{Joins, up, down}
-use Rattle.message.specs.Msg.{Msg, none, connect, initiate, test, accept, reject, report, change}
+use Rattle.graph.specs.Graph.{Graph, Joins, up, down}
+use Rattle.graph.specs.Ways.{ends-same}
+use Rattle.message.specs.Msg.{Msg, connect, initiate, test, accept, reject, report, change}
 use Rattle.protocol.specs.Plan.{Plan, Ends}
 use Rattle.protocol.specs.State.{State}
 use Rattle.protocol.specs.Step.{bulk, fan, fill, copy}
-use Rattle.protocol.specs.Kind.{isC, isI, isCI, isT, isA, isR, isK, arg1, kinds, Fits, top}
-use Rattle.protocol.specs.Chan.{In, first, next, Bef, heads, tails, in-nil, in-cons, in-snoc, bef-snoc, in-left, in-right, in-sum, some-of}
+use Rattle.protocol.specs.Kind.{isC, isI, isCI, isT, isA, isR, isK, Fits, raise, raise-in, top}
+use Rattle.protocol.specs.Chan.{In, first, next, Bef, heads, tails, in-nil, in-cons, in-snoc, bef-snoc, in-left, in-right, in-sum, some-of, head-at, snoc, snoc-elim}
 use Rattle.protocol.specs.Notion.{Both, Joined}
 
 -- ---- labels: those of label a get x
@@ -123,88 +123,53 @@ module _ (c : ℕ → ℕ → List Msg) (v : ℕ) (f : ℕ → Bool) (m : Msg) w
 
 pub top-app : (a l f x : ℕ) (c : List Msg) → top a (c ++ (initiate l f x ∷ [])) ≡ l
 top-app a l f x [] = refl
-top-app a l f x ((connect n) ∷ r) = top-app a l f x r
-top-app a l f x ((initiate n g y) ∷ r) = top-app n l f x r
-top-app a l f x ((test n g) ∷ r) = top-app a l f x r
-top-app a l f x (accept ∷ r) = top-app a l f x r
-top-app a l f x (reject ∷ r) = top-app a l f x r
-top-app a l f x ((report w) ∷ r) = top-app a l f x r
-top-app a l f x (change ∷ r) = top-app a l f x r
+top-app a l f x (m ∷ r) = top-app (raise a m) l f x r
 
--- another kind at the end, or at the head, changes nothing
-pub top-snoc : (a : ℕ) (m : Msg) (c : List Msg) → isI m ≡ 0 → top a (c ++ (m ∷ [])) ≡ top a c
-top-snoc a (connect l) [] h = refl
-top-snoc a (initiate l f x) [] h = absurd (omega arith)
-top-snoc a (test l f) [] h = refl
-top-snoc a accept [] h = refl
-top-snoc a reject [] h = refl
-top-snoc a (report w) [] h = refl
-top-snoc a change [] h = refl
-top-snoc a m ((connect n) ∷ r) h = top-snoc a m r h
-top-snoc a m ((initiate n g y) ∷ r) h = top-snoc n m r h
-top-snoc a m ((test n g) ∷ r) h = top-snoc a m r h
-top-snoc a m (accept ∷ r) h = top-snoc a m r h
-top-snoc a m (reject ∷ r) h = top-snoc a m r h
-top-snoc a m ((report w) ∷ r) h = top-snoc a m r h
-top-snoc a m (change ∷ r) h = top-snoc a m r h
-
+-- another kind at the head, at the end, put from the head to the middle, changes nothing
 pub top-cons : (a : ℕ) (m : Msg) (c : List Msg) → isI m ≡ 0 → top a (m ∷ c) ≡ top a c
-top-cons a (connect l) c h = refl
-top-cons a (initiate l f x) c h = absurd (omega arith)
-top-cons a (test l f) c h = refl
-top-cons a accept c h = refl
-top-cons a reject c h = refl
-top-cons a (report w) c h = refl
-top-cons a change c h = refl
+top-cons a m c h = ap (λ n. top n c) (⊎-elim (λ e. e) (λ t. absurd (omega (arith, ap isI (t .2)))) (raise-in a m))
 
--- m put from the head to the middle
-pub top-mid : (a : ℕ) (m : Msg) (b c : List Msg) → isI m ≡ 0 → top a (b ++ (m ∷ c)) ≡ top a (b ++ c)
+pub top-snoc : (a : ℕ) (m : Msg) (c : List Msg) → isI m ≡ 0 → top a (c ++ (m ∷ [])) ≡ top a c
+top-snoc a m [] h = top-cons a m [] h
+top-snoc a m (n ∷ r) h = top-snoc (raise a n) m r h
+
+top-mid : (a : ℕ) (m : Msg) (b c : List Msg) → isI m ≡ 0 → top a (b ++ (m ∷ c)) ≡ top a (b ++ c)
 top-mid a m [] c h = top-cons a m c h
-top-mid a m ((connect n) ∷ r) c h = top-mid a m r c h
-top-mid a m ((initiate n g y) ∷ r) c h = top-mid n m r c h
-top-mid a m ((test n g) ∷ r) c h = top-mid a m r c h
-top-mid a m (accept ∷ r) c h = top-mid a m r c h
-top-mid a m (reject ∷ r) c h = top-mid a m r c h
-top-mid a m ((report w) ∷ r) c h = top-mid a m r c h
-top-mid a m (change ∷ r) c h = top-mid a m r c h
+top-mid a m (n ∷ r) c h = top-mid (raise a n) m r c h
 
--- no Initiate there
-pub top-none : (a : ℕ) (c : List Msg) → ((l f x : ℕ) → ¬ In (initiate l f x) c) → top a c ≡ a
-top-none a [] h = refl
-top-none a ((connect l) ∷ r) h = top-none a r (λ n g y i. h n g y (next i))
-top-none a ((initiate l f x) ∷ r) h = absurd (h l f x first)
-top-none a ((test l f) ∷ r) h = top-none a r (λ n g y i. h n g y (next i))
-top-none a (accept ∷ r) h = top-none a r (λ n g y i. h n g y (next i))
-top-none a (reject ∷ r) h = top-none a r (λ n g y i. h n g y (next i))
-top-none a ((report w) ∷ r) h = top-none a r (λ n g y i. h n g y (next i))
-top-none a (change ∷ r) h = top-none a r (λ n g y i. h n g y (next i))
+-- so it is the same where such a message is taken, sent, put back
+module _ (c : ℕ → ℕ → List Msg) (u k : ℕ) (m : Msg) (h : isI m ≡ 0) where
+  pub pop-top : {r : List Msg} → c u k ≡ m ∷ r → (n w j : ℕ) → top n (upd2 c u k r w j) ≡ top n (c w j)
+  pop-top {r} q n w j = upd2-elim (λ l. top n l ≡ top n (c w j)) c u k r w j
+      (λ e f. sym (top-cons n m r h) ∙ ap (top n) (sym (head-at c u k q w j e f))) (λ d. refl)
 
--- where levels rise, the last is not below the first, nor below any
+  pub snoc-top : (n w j : ℕ) → top n (snoc c u k m w j) ≡ top n (c w j)
+  snoc-top n w j = snoc-elim c u k m (λ l. top n l ≡ top n (c w j)) w j (λ e f. top-snoc n m (c w j) h) (λ d. refl)
+
+  pub rot-top : (a b : List Msg) → c u k ≡ m ∷ (a ++ b) → (n w j : ℕ) → top n (upd2 c u k (a ++ (m ∷ b)) w j) ≡ top n (c w j)
+  rot-top a b q n w j = upd2-elim (λ l. top n l ≡ top n (c w j)) c u k (a ++ (m ∷ b)) w j
+      (λ e f. top-mid n m a b h ∙ sym (top-cons n m (a ++ b) h) ∙ ap (top n) (sym (head-at c u k q w j e f))) (λ d. refl)
 
 -- it is a, or the level of an Initiate that is there
 pub top-in : (a : ℕ) (c : List Msg) → (top a c ≡ a) ⊎ ((f : ℕ) × (x : ℕ) × In (initiate (top a c) f x) c)
 top-in a [] = inl refl
-top-in a ((connect l) ∷ r) = ⊎-elim (λ e. inl e) (λ h. inr (h .0, h .1, next (h .2))) (top-in a r)
-top-in a (initiate l f x ∷ r) = ⊎-elim (λ e. inr (f, x, subst (λ n. In (initiate n f x) (initiate l f x ∷ r)) (sym e) first)) (λ h. inr (h .0, h .1, next (h .2))) (top-in l r)
-top-in a ((test l f) ∷ r) = ⊎-elim (λ e. inl e) (λ h. inr (h .0, h .1, next (h .2))) (top-in a r)
-top-in a (accept ∷ r) = ⊎-elim (λ e. inl e) (λ h. inr (h .0, h .1, next (h .2))) (top-in a r)
-top-in a (reject ∷ r) = ⊎-elim (λ e. inl e) (λ h. inr (h .0, h .1, next (h .2))) (top-in a r)
-top-in a ((report w) ∷ r) = ⊎-elim (λ e. inl e) (λ h. inr (h .0, h .1, next (h .2))) (top-in a r)
-top-in a (change ∷ r) = ⊎-elim (λ e. inl e) (λ h. inr (h .0, h .1, next (h .2))) (top-in a r)
+top-in a (m ∷ r) = ⊎-elim
+    (λ e. ⊎-elim (λ q. inl (e ∙ q))
+    (λ t. inr (t .0, t .1, subst (λ n. In (initiate n (t .0) (t .1)) (m ∷ r)) (sym e) (subst (λ n. In n (m ∷ r)) (sym (t .2)) first))) (raise-in a m))
+    (λ h. inr (h .0, h .1, next (h .2))) (top-in (raise a m) r)
+
+-- no Initiate there
+pub top-none : (a : ℕ) (c : List Msg) → ((l f x : ℕ) → ¬ In (initiate l f x) c) → top a c ≡ a
+top-none a c h = ⊎-elim (λ e. e) (λ t. absurd (h (top a c) (t .0) (t .1) (t .2))) (top-in a c)
 
 -- where levels rise along the channel it is the highest
 pub top-max : (a : ℕ) (c : List Msg) → ((m n : Msg) → Bef m n c → Fits m n) → (l f x : ℕ) → In (initiate l f x) c → l ≤ top a c
 top-max a [] q l f x h = absurd (in-nil h)
-top-max a ((connect n) ∷ r) q l f x h = top-max a r (λ m m′ b. q m m′ (tails b)) l f x (⊎-elim (λ e. absurd (kinds (λ z. omega arith) e)) (λ t. t) (in-cons h))
-top-max a (initiate n g y ∷ r) q l f x h = ⊎-elim
-    (λ e. ⊎-elim (λ z. omega (arith, ap arg1 e)) (λ z. omega (arith, ap arg1 e, q (initiate n g y) (initiate (top n r) (z .0) (z .1)) (heads (z .2)))) (top-in n r))
-    (λ t. top-max n r (λ m m′ b. q m m′ (tails b)) l f x t)
+top-max a (m ∷ r) q l f x h = ⊎-elim
+    (λ e. ⊎-elim (λ z. omega (arith, ap (raise a) e))
+    (λ z. let n = initiate (top (raise a m) r) (z .0) (z .1) in omega (arith, subst (λ y. Fits y n) (sym e) (q m n (heads (z .2))))) (top-in (raise a m) r))
+    (λ t. top-max (raise a m) r (λ n n′ b. q n n′ (tails b)) l f x t)
     (in-cons h)
-top-max a ((test n g) ∷ r) q l f x h = top-max a r (λ m m′ b. q m m′ (tails b)) l f x (⊎-elim (λ e. absurd (kinds (λ z. omega arith) e)) (λ t. t) (in-cons h))
-top-max a (accept ∷ r) q l f x h = top-max a r (λ m m′ b. q m m′ (tails b)) l f x (⊎-elim (λ e. absurd (kinds (λ z. omega arith) e)) (λ t. t) (in-cons h))
-top-max a (reject ∷ r) q l f x h = top-max a r (λ m m′ b. q m m′ (tails b)) l f x (⊎-elim (λ e. absurd (kinds (λ z. omega arith) e)) (λ t. t) (in-cons h))
-top-max a ((report w) ∷ r) q l f x h = top-max a r (λ m m′ b. q m m′ (tails b)) l f x (⊎-elim (λ e. absurd (kinds (λ z. omega arith) e)) (λ t. t) (in-cons h))
-top-max a (change ∷ r) q l f x h = top-max a r (λ m m′ b. q m m′ (tails b)) l f x (⊎-elim (λ e. absurd (kinds (λ z. omega arith) e)) (λ t. t) (in-cons h))
 
 -- ---- from counts to messages
 
@@ -300,7 +265,13 @@ no-calls c h g = by-eq (sumL isCI c) 0 (λ e. e)
 pub none-in : (f : Msg → ℕ) {m : Msg} {c : List Msg} → sumL f c ≡ 0 → In m c → f m ≡ 0
 none-in f z i = omega (arith, in-sum f i)
 
--- ---- joined, of an edge and of its ends
+-- ---- ends of an edge
+
+-- the other end of an edge, met twice
+pub other-end : {g : Graph} {k j u w v z : ℕ} → Joins g k u v → Joins g j w z → u ≡ w → k ≡ j → v ≡ z
+other-end {g} {j} {u} {z} a b e f = ends-same a (subst (λ d. Joins g d u z) (sym f) (subst (λ d. Joins g j d z) (sym e) b))
+
+-- joined, of an edge and of its ends
 
 pub joined-both : (p : Plan) (mark : ℕ → ℕ → ℕ) {k a b : ℕ} → Ends p k a b → Joined p mark k → Both mark k a b
 joined-both p mark {k} (up l e f) j = (sym (ap (λ x. mark x k) e) ∙ j .0, sym (ap (λ x. mark x k) f) ∙ j .1)

@@ -1,16 +1,16 @@
 -- A Test or an answer m is sent by v over k: what stays of the clauses that do not speak of those.
 use Prim.Native.Nat.{ℕ, _≤_}
 use native.Mathlib.Omega.{arith}
-use mathlib.Core.Path.{_≡_, refl, sym, ap, subst, _∙_}
+use mathlib.Core.Path.{_≡_, sym, ap, subst, _∙_}
 use mathlib.Core.Logic.{_≢_, inl, inr, ⊎-elim}
 use mathlib.Core.List.{List}
 use Rattle.base.specs.Pool.{sumL}
 use Rattle.message.specs.Msg.{Msg}
 use Rattle.protocol.specs.Plan.{Plan, Ends}
 use Rattle.protocol.specs.State.{State, set-ch}
-use Rattle.protocol.specs.Kind.{isC, isI, isCI, isR, isK, Only, Rouse, Fits, top, call-parts}
-use Rattle.protocol.specs.Chan.{In, at2, snoc, snoc-elim, snoc-old, in-snoc2, snoc-bef, snoc-sum, snoc-all, snoc-else}
-use Rattle.protocol.specs.Lemmas.{top-snoc}
+use Rattle.protocol.specs.Kind.{isC, isI, isCI, isR, isK, Only, Rouse, Fits, call-parts}
+use Rattle.protocol.specs.Chan.{In, at2, snoc, snoc-old, in-snoc2, snoc-bef, snoc-sum, snoc-all, snoc-else}
+use Rattle.protocol.specs.Lemmas.{snoc-top}
 use Rattle.protocol.specs.Notion.{GL, Half}
 use Rattle.protocol.specs.Same.{Alike, connects-same, initiates-same, owing-same, reports-same}
 use Rattle.protocol.specs.Take.{Plain}
@@ -36,9 +36,6 @@ module _ (p : Plan) (s : State) (v k : ℕ) {m : Msg} (h : Plain m) where
     behind = λ a j w n b. ⊎-elim (λ o. inl o) (λ t. inr (subst (λ x. isCI x ≡ 0) (sym (t .2)) (h.no-call))) (snoc-bef s.ch v k m a j b);
     ahead = λ a j w n b. ⊎-elim (λ o. inl o) (λ t. absurd (omega (arith, ap isR (t .2), h.no-rep))) (snoc-bef s.ch v k m a j b);
   }
-
-  post-top : (n w j : ℕ) → top n (posted w j) ≡ top n (s.ch w j)
-  post-top n w j = snoc-elim s.ch v k m (λ l. top n l ≡ top n (s.ch w j)) w j (λ e f. top-snoc n m (s.ch w j) no-init) (λ d. refl)
 
   -- v is awake; m may go to a sleeper, or the receiver is awake
   post-hush : s.st v ≢ 0 → ((u : ℕ) → Ends p k v u → s.st u ≡ 0 → Rouse m) → Hush p s → Hush p (set-ch s posted)
@@ -66,7 +63,7 @@ module _ (p : Plan) (s : State) (v k : ℕ) {m : Msg} (h : Plain m) where
 
   post-telling : Telling p s → Telling p (set-ch s posted)
   post-telling o = record {
-    u2 = λ j w c e b n. o.u2 j w c e b n ∙ sym (post-top (s.lev c) w j);
+    u2 = λ j w c e b n. o.u2 j w c e b n ∙ sym (snoc-top s.ch v k m no-init (s.lev c) w j);
     t2i = λ j w c e b t n l. in-snoc2 s.ch v k m w j (o.t2i j w c e b t n l);
     t4 = λ j x y e b g. ⊎-elim (λ t. inl (omega (arith, same x j))) (⊎-elim (λ t. inr (inl (in-snoc2 s.ch v k m y j t))) (λ t. inr (inr t))) (o.t4 j x y e b g);
     t4n = λ j x y e b g n. let t = o.t4n j x y e b g (omega (arith, same x j)) in (t .0, λ z. t .1 (before isI no-init (omega arith) y j z));

@@ -25,7 +25,7 @@ pub use Rattle.protocol.specs.State.{set-gl, set-gc, set-dk, set-dn, set
 pub use Rattle.protocol.specs.Step.{Step, Idle, Blocked, First, FirstBasic, Flag, Better, Strike, Mode, Place}
 pub use Rattle.protocol.specs.Step.{send, pop, marked, woken, decided, halved, merged, absorbed, informed, bested, rooted, reported}
 unfoldable pub use Rattle.protocol.specs.Step.{bulk, copy, fan, fill}
-pub use Rattle.protocol.specs.Kind.{isC, isI, isCI, isT, isA, isY, isR, isK, kind, arg1, arg2, arg3, Only, Rouse, After, Fits, top, kinds}
+pub use Rattle.protocol.specs.Kind.{isC, isI, isCI, isT, isA, isY, isR, isK, kind, arg1, arg2, arg3, Only, Rouse, After, Fits, raise, top, kinds}
 pub use Rattle.protocol.specs.Kind.{fits-connect, fits-test, fits-accept, fits-reject, fits-report, fits-change, fits-initiate}
 pub use Rattle.protocol.specs.Chan.{In, first, next, Bef, heads, tails, in-nil, in-cons, bef-nil, bef-cons, bef-before, bef-behind, in-left, in-right}
 pub use Rattle.protocol.specs.Chan.{in-app, in-snoc, bef-snoc, in-sum, some-of, sum-none, all-in, in-all, at2, else-same, here-new, head-at}
@@ -34,7 +34,7 @@ pub use Rattle.protocol.specs.Chan.{snoc, snoc-elim, snoc-in, snoc-old, 
 pub use Rattle.protocol.specs.Chan.{rot, rot-in, in-rot, rot-bef, rot-sum, rot-all}
 pub use Rattle.protocol.specs.Lemmas.{bulk-elim, bulk-in, bulk-out, relabel-keep, relabel-cases, copy-yes, copy-on}
 pub use Rattle.protocol.specs.Lemmas.{fan-elim, fan-in, in-fan, fan-new, fan-bef, fan-sum, fan-else, fill-elim, fill-else, sum-fill, sum-upd, sum-row, row-else}
-pub use Rattle.protocol.specs.Lemmas.{top-app, top-snoc, top-cons, top-mid, top-none, top-in, top-max, joined-both, both-joined}
+pub use Rattle.protocol.specs.Lemmas.{top-app, pop-top, snoc-top, rot-top, top-none, top-in, top-max, other-end, joined-both, both-joined}
 pub use Rattle.protocol.specs.Lemmas.{some-connect, some-test, some-report, some-change, some-answer, some-call}
 pub use Rattle.protocol.specs.Lemmas.{no-connects, no-tests, no-reports, no-answers, no-calls, none-in}
 pub use Rattle.protocol.specs.Notion.{Informed, Both, Joined, Bounding, Decision, Rooting, Awaits, members, GL, GC, DK, Inf, Jn, Bounds}

@@ -9,9 +9,9 @@ use Rattle.base.specs.Pool.{sumL}
 use Rattle.message.specs.Msg.{Msg, test, accept, reject}
 use Rattle.protocol.specs.Plan.{Plan}
 use Rattle.protocol.specs.State.{State, set-ch}
-use Rattle.protocol.specs.Kind.{isC, isI, isCI, isR, isK, top, call-parts}
-use Rattle.protocol.specs.Chan.{In, in-nil, at2, head-at, pop-head, pop-in, in-pop, pop-bef, pop-sum, pop-all}
-use Rattle.protocol.specs.Lemmas.{top-cons}
+use Rattle.protocol.specs.Kind.{isC, isI, isCI, isR, isK, call-parts}
+use Rattle.protocol.specs.Chan.{In, in-nil, at2, pop-head, pop-in, in-pop, pop-bef, pop-sum, pop-all}
+use Rattle.protocol.specs.Lemmas.{pop-top}
 use Rattle.protocol.specs.Same.{Alike, connects-same, initiates-same, owing-same, reports-same}
 use Rattle.protocol.specs.Traffic.{Hush, Tokens, Connects, Initiates, Telling, Ordered}
 use Rattle.protocol.specs.Flow.{Flow}
@@ -56,7 +56,7 @@ module _ (p : Plan) (s : State) (u k : ℕ) {m : Msg} {r : List Msg} (q : s.ch u
 
     pub take-telling : Telling p s → Telling p (set-ch s taken)
     take-telling o = record {
-      u2 = λ j w c e b n. o.u2 j w c e b n ∙ sym (far (s.lev c) w j);
+      u2 = λ j w c e b n. o.u2 j w c e b n ∙ sym (pop-top s.ch u k m no-init q (s.lev c) w j);
       t2i = λ j w c e b t n l. kept isI no-init (omega arith) w j (o.t2i j w c e b t n l);
       t4 = λ j x y e b g. ⊎-elim (λ t. inl (omega (arith, same x j)))
           (⊎-elim (λ t. inr (inl (kept isI no-init (omega arith) y j t))) (λ t. inr (inr t))) (o.t4 j x y e b g);
@@ -65,10 +65,6 @@ module _ (p : Plan) (s : State) (u k : ℕ) {m : Msg} {r : List Msg} (q : s.ch u
       where
         same : (w j : ℕ) → sumL isC (taken w j) ≡ sumL isC (s.ch w j)
         same = pop-sum s.ch u k q isC (omega (arith, call-parts m))
-
-        far : (n w j : ℕ) → top n (taken w j) ≡ top n (s.ch w j)
-        far n w j = upd2-elim (λ l. top n l ≡ top n (s.ch w j)) s.ch u k r w j
-            (λ e f. sym (top-cons n m r no-init) ∙ ap (top n) (sym (head-at s.ch u k q w j e f))) (λ d. refl)
 
 -- neither Connect, nor Initiate, nor Report, nor Change-root: a Test or an answer
 pub record Plain (m : Msg) : Type 0 where

@@ -2,7 +2,7 @@
 use Rattle.protocol.specs.Prelude.{ℕ, suc, _-_, _≤_, arith, _≡_, refl, sym, ap, subst, _∙_, _≢_, _⊎_, inl, inr, ⊎-elim, by-eq}
 use Rattle.protocol.specs.Prelude.{List, _∷_, upd, upd-elim, upd-other, upd2, upd2-elim, sumL, sum, sum-row, row-else}
 use Rattle.protocol.specs.Prelude.{Msg, none, report}
-use Rattle.protocol.specs.Prelude.{Plan, Ends, key, rank, joins-lt, flip, ends-two, ends-same}
+use Rattle.protocol.specs.Prelude.{Plan, Ends, key, rank, joins-lt, flip, ends-two, other-end}
 use Rattle.protocol.specs.Prelude.{State, Idle, Better, pop, bested, set-ch, set-fc, set-owe, set-op}
 use Rattle.protocol.specs.Prelude.{isR, kinds, In, else-same, pop-in, in-pop, pop-le, pop-all}
 use Rattle.protocol.specs.Prelude.{GL, GC, Inf, Jn, Outst, Live, Covered, Child, Inv, no-root, reports-same, reports-best, take-alike}
@@ -132,13 +132,10 @@ module _ {p : Plan} {s : State} (i : Inv p s) {u v k w b e : ℕ} {r : List Msg}
         (λ a d n. absurd (n refl))
         (λ d n. let t = i.F4c.f4y j x c f n in (t .0, t .1, t .2, outst-to j x c f d (t .3)));
     f4n = λ j x c f h m n o. upd2-elim (λ a. a ≡ 1) s.owe v k 0 x j
-        (λ a d. absurd (settled (subst (λ y. Outst S′ y k) (sym (far-end j x c f a d)) (subst (λ y. Outst S′ c y) (sym d) o))))
+        (λ a d. absurd (settled (subst (λ y. Outst S′ y k) (sym (other-end (flip ends) f a d)) (subst (λ y. Outst S′ c y) (sym d) o))))
         (λ d. i.F4c.f4n j x c f h m n (outst-from c j o));
   }
     where
-      far-end : (j x c : ℕ) → Ends p j x c → v ≡ x → k ≡ j → u ≡ c
-      far-end j x c f a d = ends-same (flip ends) (subst (λ n. Ends p n v c) (sym d) (subst (λ n. Ends p j n c) (sym a) f))
-
       -- u's is no longer to come
       settled : ¬ Outst S′ u k
       settled (inl t) = ⊎-elim (λ f. omega (arith, found-u)) (λ l. omega (arith, C.silent i ends q)) (t .1)
@@ -151,7 +148,7 @@ module _ {p : Plan} {s : State} (i : Inv p s) {u v k w b e : ℕ} {r : List Msg}
       outst-to : (j x c : ℕ) → Ends p j x c → (v ≢ x) ⊎ (k ≢ j) → Outst s c j → Outst S′ c j
       outst-to j x c f d o =
           let y : c′ c j ≡ s.ch c j = else-same s.ch u k r c j (by-eq k j
-          (λ z. inl (λ a. ⊎-elim (λ n. n (ends-same ends (subst (λ n. Ends p n u x) (sym z) (subst (λ n. Ends p j n x) (sym a) (flip f))))) (λ n. n z) d)) (λ n. inr n)) in
+          (λ z. inl (λ a. ⊎-elim (λ n. n (other-end ends (flip f) a z)) (λ n. n z) d)) (λ n. inr n)) in
           ⊎-elim (λ t. inl (t .0, ⊎-elim (λ f. inl f) (λ l. inr (subst (λ a. 1 ≤ sumL isR a) (sym y) l)) (t .1))) (λ t. inr t) o
 
   B2′ : Bests p S′

@@ -1,7 +1,7 @@
 -- Report w from u at v over v's in-branch k, v not Find, w not later than v's best: nothing but the Report goes.
 use Rattle.protocol.specs.Prelude.{ℕ, _≤_, _<_, arith, _≡_, refl, sym, ap, subst, _∙_, _≢_, _⊎_, inl, inr, ⊎-elim, by-eq}
 use Rattle.protocol.specs.Prelude.{List, _∷_, upd2, sumL, Msg, none, report}
-use Rattle.protocol.specs.Prelude.{Plan, Ends, key, flip, ends-two, ends-same, ends-irr, key-none, key-edge, rank-lt, rank-inj, State, Idle, pop}
+use Rattle.protocol.specs.Prelude.{Plan, Ends, key, flip, ends-two, other-end, ends-irr, key-none, key-edge, rank-lt, rank-inj, State, Idle, pop}
 use Rattle.protocol.specs.Prelude.{isR, arg1, kinds, In, else-same, pop-in, in-pop, pop-le, pop-all}
 use Rattle.protocol.specs.Prelude.{GC, DK, Inf, Jn, Outst, Live, CoreEnds, Inv, inf-cases, joined-level, up-other, reports-same, take-alike, inv-passing}
 use Rattle.protocol.specs.Traffic.{Tokens, Owing, Bests}
@@ -73,9 +73,6 @@ module _ {p : Plan} {s : State} (i : Inv p s) {u v k w : ℕ} {r : List Msg} (id
   split : {C : Type 0} (x j : ℕ) → (u ≡ x → k ≡ j → C) → (c′ x j ≡ s.ch x j → C) → C
   split x j y n = by-eq u x (λ a. by-eq k j (λ b. y a b) (λ d. n (off x j (inr d)))) (λ d. n (off x j (inl d)))
 
-  far-end : (j x y : ℕ) → Ends p j x y → u ≡ x → k ≡ j → v ≡ y
-  far-end j x y e a b = ends-same ends (subst (λ n. Ends p n u y) (sym b) (subst (λ n. Ends p j n y) (sym a) e))
-
   not-head : {x : Msg} → x ≢ report w → (a j : ℕ) → In x (s.ch a j) → In x (c′ a j)
   not-head n a j o = in-pop s.ch u k q a j n o
 
@@ -100,7 +97,7 @@ module _ {p : Plan} {s : State} (i : Inv p s) {u v k w : ℕ} {r : List Msg} (id
       from-u j x y e a b g d =
           let f = C.inside i ends q in
           let c = at-core (sym (ap s.gc f) ∙ ap (λ z. GC s z) a ∙ g ∙ sym b) (sym (ap s.dk f) ∙ ap (λ z. DK s z) a ∙ d) in
-          subst (λ y. Inf s y × (s.st y ≡ 2) × (key p (s.bw x) < key p (s.bw y)) × (1 ≤ sumL isR (c′ y j))) (far-end j x y e a b) (
+          subst (λ y. Inf s y × (s.st y ≡ 2) × (key p (s.bw x) < key p (s.bw y)) × (1 ≤ sumL isR (c′ y j))) (other-end ends e a b) (
             C.inf-v i ends q idle found c,
             C.found-v i ends q idle found c,
             omega (arith, later c, ap (key p) (sym (ap s.bw a) ∙ C.best-u i ends q idle found c)),
@@ -110,7 +107,7 @@ module _ {p : Plan} {s : State} (i : Inv p s) {u v k w : ℕ} {r : List Msg} (id
       -- y is u: its best is not the later one
       to-v : (j x y : ℕ) → Ends p j x y → u ≡ y → k ≡ j → GC s x ≡ j → DK s x ≡ 0 → key p (s.bw x) < key p (s.bw y) → ⊥
       to-v j x y e a b g d l =
-          let z = far-end j y x (flip e) a b in
+          let z = other-end ends (flip e) a b in
           let c = at-core (ap (λ n. GC s n) z ∙ g ∙ sym b) (ap (λ n. DK s n) z ∙ d) in
           omega (arith, le, ap (λ n. key p (s.bw n)) z, ap (key p) (sym (ap s.bw a) ∙ C.best-u i ends q idle found c))
 
@@ -123,7 +120,7 @@ module _ {p : Plan} {s : State} (i : Inv p s) {u v k w : ℕ} {r : List Msg} (id
       -- nobody is counted over the in-branch
       outst : (j a c : ℕ) → Ends p j a c → s.ib a ≢ j → Outst s c j → Outst S′ c j
       outst j a c e n o = split c j
-          (λ x y. absurd (n (sym (ap s.ib (far-end j c a (flip e) x y)) ∙ ib ∙ y)))
+          (λ x y. absurd (n (sym (ap s.ib (other-end ends (flip e) x y)) ∙ ib ∙ y)))
           (λ z. ⊎-elim (λ t. inl (t .0, ⊎-elim (λ f. inl f) (λ l. inr (subst (λ l. 1 ≤ sumL isR l) (sym z) l)) (t .1))) (λ t. inr t) o)
 
   B2′ : Bests p S′

@@ -1,7 +1,7 @@
 -- A Report or a Change-root, the head of the channel from u over k, makes v execute procedure change-root.
 use Rattle.protocol.specs.Prelude.{ℕ, suc, arith, _≡_, refl, sym, ap, subst, _∙_, _≢_, inl, ⊎-elim, by-eq}
 use Rattle.protocol.specs.Prelude.{List, _∷_, upd, upd-same, upd-other, upd2, sumL, Msg, none, report, change}
-use Rattle.protocol.specs.Prelude.{Plan, Ends, key, flip, ends-same, State, Idle, pop, rooted, isR, In, pop-in, pop-bef}
+use Rattle.protocol.specs.Prelude.{Plan, Ends, key, flip, other-end, State, Idle, pop, rooted, isR, In, pop-in, pop-bef}
 use Rattle.protocol.specs.Prelude.{DK, Inf, Bounds, Rooting, Spent, Inv, no-root}
 use Rattle.protocol.specs.Decisions.{RootOk, Rootings}
 use Rattle.steps_core.specs.Late.{Late}
@@ -45,17 +45,13 @@ module _ {p : Plan} {s : State} (i : Inv p s) {u v k : ℕ} {m : Msg} {r : List 
   root-is : (x : ℕ) → Rooting dk′ dn′ s.fr x → v ≡ x
   root-is x t = sym (dn-in x (root-in x (t .0))) ∙ t .1
 
-  -- the other end of v's in-branch is u
-  far-end : (j x y : ℕ) → Ends p j x y → v ≡ x → k ≡ j → u ≡ y
-  far-end j x y e a c = ends-same (flip (h.ends)) (subst (λ n. Ends p n v y) (sym c) (subst (λ n. Ends p j n y) (sym a) e))
-
   root-ok : RootOk p s.fr s.gl s.lev s.ib s.ub s.bw s.mark v
   root-ok = record {
     d3i = h.inf;
     d3w = h.some;
     d3b = h.bounds;
     d3u = h.ub-v ∙ sym (h.ib);
-    d3v = λ j y e z. let a = sym (h.ib) ∙ z in sym (ap s.ub (far-end j v y e refl a)) ∙ h.ub-u ∙ a;
+    d3v = λ j y e z. let a = sym (h.ib) ∙ z in sym (ap s.ub (other-end (flip (h.ends)) e refl a)) ∙ h.ub-u ∙ a;
   }
 
   rootings : Rootings p dk′ dn′ s.fr s.gl s.lev s.ib s.ub s.bw s.mark (suc v)
@@ -85,7 +81,7 @@ module _ {p : Plan} {s : State} (i : Inv p s) {u v k : ℕ} {m : Msg} {r : List 
     no-report = λ j x y e t z.
         let a = root-is x t in
         let c : k ≡ j = sym (h.ib) ∙ ap s.ib a ∙ z in
-        let d = far-end j x y e a c in
+        let d = other-end (flip (h.ends)) e a c in
         subst (λ n. sumL isR (upd2 s.ch u k r n j) ≡ 0) d (subst (λ n. sumL isR (upd2 s.ch u k r u n) ≡ 0) c (h.silent));
     no-token = h.no-token;
     spent = λ j a b n e f o. let t = h.spent j a b n e f o in (

@@ -1,7 +1,7 @@
 -- Merge keeps the clauses that speak of tables.
-use Rattle.protocol.specs.Prelude.{ℕ, suc, _^_, _≤_, _<_, arith, _≡_, sym, ap, subst, _∙_, _≢_, _⊎_, inl, inr, ⊎-elim}
+use Rattle.protocol.specs.Prelude.{ℕ, suc, _^_, _≤_, arith, _≡_, sym, ap, subst, _∙_, _≢_, inl, inr, ⊎-elim}
 use Rattle.protocol.specs.Prelude.{upd, upd-elim, upd2-elim, at2, relabel-cases}
-use Rattle.protocol.specs.Prelude.{Plan, Ends, Tree, key, rank, Way, up, down, go, join, both-joined, joins-lt, flip, ends-two, ends-same, State}
+use Rattle.protocol.specs.Prelude.{Plan, Ends, Tree, key, rank, Way, go, join, both-joined, joins-lt, flip, ends-two, other-end, end-lt, State}
 use Rattle.protocol.specs.Prelude.{Both, Decision, GL, GC, DK, Half, waits-find}
 use Rattle.graph.specs.Size.{size, size-mono, level-merge}
 use Rattle.protocol.specs.Fragments.{Ranges, Levels, Sizes, Cores, Sleepers, Marks, Inbounds}
@@ -10,11 +10,6 @@ use Rattle.protocol.specs.Search.{Parents, LowOk, Kids, Finds, Tests, Weights}
 use Rattle.steps_merge.specs.Move as M
 use Rattle.steps_merge.specs.Unite as U
 use Rattle.steps_merge.specs.Unite.{Ready}
-
--- an end of an edge is a node
-ends-node : (p : Plan) {k v u : ℕ} → Ends p k v u → v < p.N
-ends-node p {k} (up l a b) = omega (arith, p.ends-lt k l .0)
-ends-node p {k} (down l a b) = omega (arith, p.ends-lt k l .1)
 
 module _ {p : Plan} {s : State} {v k y l : ℕ} (r : Ready p s v k y l) where
   abbrev S′ : State
@@ -75,8 +70,8 @@ module _ {p : Plan} {s : State} {v k y l : ℕ} (r : Ready p s v k y l) where
     where
       whole : 2 ^ suc (GL s v) ≤ size p.N S′.fr (s.fr v)
       whole = level-merge p.N s.fr S′.fr (s.fr v) (s.fr y) (s.fr v) (GL s v) (λ q. r.leave.out (sym q)) (λ x b q. U.fr-in r x (inl q)) (λ x b q. U.fr-in r x (inr q))
-          (r.inv.G4.g4 v (ends-node p (r.leave.ends)))
-          (subst (λ n. 2 ^ n ≤ size p.N s.fr (s.fr y)) (U.even-y r) (r.inv.G4.g4 y (ends-node p (flip (r.leave.ends)))))
+          (r.inv.G4.g4 v (end-lt p (r.leave.ends)))
+          (subst (λ n. 2 ^ n ≤ size p.N s.fr (s.fr y)) (U.even-y r) (r.inv.G4.g4 y (end-lt p (flip (r.leave.ends)))))
 
   pub G5′ : Cores p S′.fr S′.gl S′.gc S′.mark
   G5′ = record {
@@ -156,7 +151,7 @@ module _ {p : Plan} {s : State} {v k y l : ℕ} (r : Ready p s v k y l) where
       (λ q. let f = U.half-y r in
       let a : y ≡ w = sym (f .1) ∙ ap s.dn (sym q) ∙ x .1 in
       let b : k ≡ j = sym (f .2) ∙ ap s.de (sym q) ∙ x .2 in
-      n (sym (at2 S′.mark (ends-same (flip (r.leave.ends)) (subst (λ n. Ends p n y u) (sym b) (subst (λ n. Ends p j n u) (sym a) e))) b) ∙ mark-v)) c))
+      n (sym (at2 S′.mark (other-end (flip (r.leave.ends)) e a b) b) ∙ mark-v)) c))
       (λ o. o)
 
   pub D1′ : Halves p S′.dk S′.dn S′.de S′.fr S′.gl s.lev S′.ub S′.mark

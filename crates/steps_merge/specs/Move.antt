@@ -3,8 +3,8 @@
 use Rattle.protocol.specs.Prelude.{ℕ, suc, _+_, _≤_, _<_, arith, _≡_, refl, sym, ap, subst, _∙_, _≢_, _⊎_, inl, inr, ⊎-elim, by-eq}
 use Rattle.protocol.specs.Prelude.{List, [], _∷_, upd, upd-elim, upd-same, upd-other, upd2, upd2-elim, All, sumL, sumL-app, at2}
 use Rattle.protocol.specs.Prelude.{Msg, none, connect, test, report}
-use Rattle.protocol.specs.Prelude.{Plan, Ends, flip, ends-same, ends-irr, edge-some, Way, wider, State}
-use Rattle.protocol.specs.Prelude.{isC, isI, isCI, isT, isA, isR, Rouse, Fits, top, top-snoc}
+use Rattle.protocol.specs.Prelude.{Plan, Ends, flip, other-end, ends-irr, edge-some, Way, wider, State}
+use Rattle.protocol.specs.Prelude.{isC, isI, isCI, isT, isA, isR, Rouse, Fits, top, snoc-top}
 use Rattle.protocol.specs.Prelude.{In, Bef, snoc, snoc-elim, snoc-in, snoc-old, in-snoc2, snoc-bef, snoc-sum, snoc-else, snoc-all}
 use Rattle.protocol.specs.Prelude.{Both, Joined, GL, Jn, Waits, Inv, no-waits}
 use Rattle.protocol.specs.Fragments.{Inbounds}
@@ -69,7 +69,7 @@ module _ {p : Plan} {s : State} (i : Inv p s) {v y k : ℕ} {m : Msg} (t : Turn 
 
   -- the other end of k, from v and to v
   pub far-end : (j w u : ℕ) → Ends p j w u → v ≡ w → k ≡ j → y ≡ u
-  far-end j w u e a b = ends-same (h.ends) (subst (λ n. Ends p n v u) (sym b) (subst (λ n. Ends p j n u) (sym a) e))
+  far-end j w u e a b = other-end (h.ends) e a b
 
   pub y≢v : v ≢ y
   y≢v = ends-irr p (h.ends)
@@ -89,7 +89,7 @@ module _ {p : Plan} {s : State} (i : Inv p s) {v y k : ℕ} {m : Msg} (t : Turn 
   grow f w j = snoc-elim s.ch v k m (λ l. sumL f (s.ch w j) ≤ sumL f l) w j (λ a b. omega (arith, sumL-app f (s.ch w j) (m ∷ []))) (λ n. omega arith)
 
   pub far : (n w j : ℕ) → top n (c′ w j) ≡ top n (s.ch w j)
-  far n w j = snoc-elim s.ch v k m (λ l. top n l ≡ top n (s.ch w j)) w j (λ a b. top-snoc n m (s.ch w j) (h.not-i)) (λ d. refl)
+  far = snoc-top s.ch v k m (h.not-i)
 
   -- what was joined is not the edge of a new Connect
   apart : (w j u : ℕ) → Jn s j w u → s.mark v k ≡ 0 → (v ≢ w) ⊎ (k ≢ j)

@@ -1,14 +1,14 @@
 -- Procedure report at v, which waits for nothing: v sends its best weight over its in-branch k and is Found.
-use Rattle.protocol.specs.Prelude.{ℕ, zero, suc, _+_, _≤_, _<_, arith, _≡_, refl, sym, ap, subst, _∙_, _≢_, _⊎_, inl, inr, ⊎-elim}
-use Rattle.protocol.specs.Prelude.{List, [], _∷_, _++_, upd, upd-elim, upd-same, upd-other, by-eq, sumL, sum, le-sum}
-use Rattle.protocol.specs.Prelude.{Msg, none, connect, initiate, test, accept, reject, report, change}
-use Rattle.protocol.specs.Prelude.{Plan, Ends, key, rank, joins-lt, flip, ends-same, ends-irr, State, reported, set-ch}
+use Rattle.protocol.specs.Prelude.{ℕ, suc, _≤_, _<_, arith, _≡_, refl, sym, ap, subst, _∙_, _≢_, _⊎_, inl, inr, ⊎-elim}
+use Rattle.protocol.specs.Prelude.{List, upd, upd-elim, upd-same, upd-other, by-eq, sumL, le-sum}
+use Rattle.protocol.specs.Prelude.{Msg, none, connect, initiate, report}
+use Rattle.protocol.specs.Prelude.{Plan, Ends, joins-lt, flip, other-end, ends-irr, State, reported}
 use Rattle.protocol.specs.Prelude.{isC, isI, isCI, isT, isA, isR, isK, arg1, fits-report, Fits, top, In, Bef, bef-before, in-sum}
-use Rattle.protocol.specs.Prelude.{snoc, snoc-elim, snoc-in, snoc-old, in-snoc2, in-new, snoc-bef, snoc-sum, snoc-here, snoc-else, snoc-all, top-snoc}
-use Rattle.protocol.specs.Prelude.{some-connect, no-reports, no-calls, none-in, answers-same, connects-same}
-use Rattle.protocol.specs.Prelude.{GL, GC, DK, Inf, Jn, Half, Root, Outst, Live, Covered, Child, CoreEnds, Spent, Inv}
+use Rattle.protocol.specs.Prelude.{snoc, snoc-elim, snoc-in, snoc-old, in-snoc2, snoc-bef, snoc-sum, snoc-here, snoc-else, snoc-all, snoc-top}
+use Rattle.protocol.specs.Prelude.{some-connect, no-reports, no-calls, none-in}
+use Rattle.protocol.specs.Prelude.{GL, GC, DK, Inf, Jn, Outst, Live, Child, CoreEnds, Spent, Inv}
 use Rattle.protocol.specs.Prelude.{inf-cases, fc-find, mark-awake, up-other, no-initiate, no-connect, no-root}
-use Rattle.protocol.specs.Fragments.{Ranges, AsleepOk, Sleepers}
+use Rattle.protocol.specs.Fragments.{Ranges, Sleepers}
 use Rattle.protocol.specs.Decisions.{Finishes}
 use Rattle.protocol.specs.Search.{Kids, Finds, Pending}
 use Rattle.protocol.specs.Traffic.{Hush, Tokens, Connects, Initiates, Telling, Testing, Answers, Reports, Owing, Bests, Ordered}
@@ -178,13 +178,13 @@ module _ {p : Plan} {s : State} (i : Inv p s) {v k u : ℕ} (ot : s.ot ≡ 0) (o
       (λ n. inl n)
 
   tops : (n w j : ℕ) → top n (c′ w j) ≡ top n (s.ch w j)
-  tops n w j = snoc-elim s.ch v k m (λ l. top n l ≡ top n (s.ch w j)) w j (λ e f. top-snoc n m (s.ch w j) refl) (λ d. refl)
+  tops = snoc-top s.ch v k m refl
 
   G6c′ : Hush p S′
   G6c′ = record {
     g6o = λ j w x e z. let a = asleep w z in off w j (inl (a .0)) ∙ i.G6c.g6o j w x e (a .1);
     g6i = λ j w x e z. let a = asleep x z in snoc-all s.ch v k m w j
-        (λ q r. absurd (mark-awake i u k (λ y. omega (arith, jn .1)) (ap s.st (ends-same ends (subst (λ y. Ends p y v x) (sym r) (subst (λ y. Ends p j y x) (sym q) e))) ∙ a .1)))
+        (λ q r. absurd (mark-awake i u k (λ y. omega (arith, jn .1)) (ap s.st (other-end ends e q r) ∙ a .1)))
         (i.G6c.g6i j w x e (a .1));
   }
 
@@ -207,7 +207,7 @@ module _ {p : Plan} {s : State} (i : Inv p s) {v k u : ℕ} (ot : s.ot ≡ 0) (o
   }
     where
       frs-at : (j x y : ℕ) → Ends p j x y → v ≡ y → k ≡ j → s.fr v ≡ s.fr x
-      frs-at j x y e q r = frs ∙ ap s.fr (ends-same ends (subst (λ a. Ends p a v x) (sym r) (subst (λ a. Ends p j a x) (sym q) (flip e))))
+      frs-at j x y e q r = frs ∙ ap s.fr (other-end ends (flip e) q r)
 
   C1′ : Connects p S′
   C1′ = record {
@@ -292,7 +292,7 @@ module _ {p : Plan} {s : State} (i : Inv p s) {v k u : ℕ} (ot : s.ot ≡ 0) (o
 
   at-new : (C : ℕ → ℕ → ℕ → ℕ → Type 0) (j a b w : ℕ) → Ends p j a b → v ≡ a → k ≡ j → report w ≡ m → C v u k (s.bw v) → C a b j w
   at-new C j a b w e q r h c =
-      let y = ends-same ends (subst (λ x. Ends p x v b) (sym r) (subst (λ x. Ends p j x b) (sym q) e)) in
+      let y = other-end ends e q r in
       subst (λ x. C x b j w) q (subst (λ x. C v x j w) y (subst (λ x. C v u x w) r (subst (λ x. C v u k x) (sym (ap arg1 h)) c)))
 
   -- an old one: its channel has not changed
@@ -323,7 +323,7 @@ module _ {p : Plan} {s : State} (i : Inv p s) {v k u : ℕ} (ot : s.ot ≡ 0) (o
   }
     where
       at-core : (j a b : ℕ) → Ends p j a b → v ≡ a → k ≡ j → GC s b ≡ j → GC s v ≡ k
-      at-core j a b e q r g = ap s.gc (frs ∙ ap s.fr (ends-same ends (subst (λ x. Ends p x v b) (sym r) (subst (λ x. Ends p j x b) (sym q) e)))) ∙ g ∙ sym r
+      at-core j a b e q r g = ap s.gc (frs ∙ ap s.fr (other-end ends e q r)) ∙ g ∙ sym r
 
       old-one : (j a b w : ℕ) → Ends p j a b → In (report w) (s.ch a j) → Child s a b j w ⊎ (CoreEnds s a b j w ⊎ Spent p s a b j w)
           → Child S′ a b j w ⊎ (CoreEnds S′ a b j w ⊎ Spent p S′ a b j w)

@@ -2,7 +2,7 @@
 use Rattle.protocol.specs.Prelude.{ℕ, suc, _+_, _≤_, arith, _≡_, refl, sym, ap, subst, _∙_, _≢_, _⊎_, inl, inr, ⊎-elim}
 use Rattle.protocol.specs.Prelude.{List, _∷_, upd2, by-eq, sumL}
 use Rattle.protocol.specs.Prelude.{Msg, test, accept}
-use Rattle.protocol.specs.Prelude.{Plan, Ends, flip, ends-same, State, Idle, set-ch, send, pop}
+use Rattle.protocol.specs.Prelude.{Plan, Ends, flip, ends-same, other-end, State, Idle, set-ch, send, pop}
 use Rattle.protocol.specs.Prelude.{isT, isA, isR, fits-accept, In, in-sum, pop-head, pop-in, pop-sum, pop-le, none-in}
 use Rattle.protocol.specs.Prelude.{snoc, snoc-in, snoc-old, kinds, snoc-sum, Inf, Waits, Inv, inf-awake}
 use Rattle.protocol.specs.Prelude.{plain-test, plain-accept, before, bests-same, flow, inv-passing, flow-take, flow-post}
@@ -78,7 +78,7 @@ module _ {p : Plan} {s : State} (i : Inv p s) {u v k l f : ℕ} {r : List Msg} (
   A1′ : Answers p S′
   A1′ = record {
     a1 = λ j w x e h. ⊎-elim (λ o. i.A1.a1 j w x e (pop-in s.ch u k q w j o))
-        (λ t. let n = ends-same (flip ends) (subst (λ a. Ends p a v x) (sym (t .1)) (subst (λ a. Ends p j a x) (sym (t .0)) e)) in
+        (λ t. let n = other-end (flip ends) e (t .0) (t .1) in
         subst (λ a. AcceptOk s.te s.fr s.lev s.mark s.ot j w a) n
         (subst (λ a. AcceptOk s.te s.fr s.lev s.mark s.ot j a u) (t .0)
         (subst (λ a. AcceptOk s.te s.fr s.lev s.mark s.ot a v u) (t .1) fresh)))

@@ -2,7 +2,7 @@
 use Rattle.protocol.specs.Prelude.{ℕ, suc, _+_, _≤_, arith, _≡_, refl, sym, ap, subst, _∙_, _≢_, _⊎_, inl, inr, ⊎-elim}
 use Rattle.protocol.specs.Prelude.{List, _∷_, upd, upd-elim, upd-other, upd2, by-eq, sumL}
 use Rattle.protocol.specs.Prelude.{Msg, none, test, accept}
-use Rattle.protocol.specs.Prelude.{Plan, Ends, key, rank, key-none, ends-rank, flip, ends-same, ends-key, edge-some, State, Idle, Better, set-te, set-op, set-ch, bested, pop}
+use Rattle.protocol.specs.Prelude.{Plan, Ends, key, rank, key-none, ends-rank, flip, ends-same, other-end, ends-key, edge-some, State, Idle, Better, set-te, set-op, set-ch, bested, pop}
 use Rattle.protocol.specs.Prelude.{isT, isA, isR, In, in-sum, pop-head, pop-in, pop-sum, else-same, none-in, here-new, rest-none}
 use Rattle.protocol.specs.Prelude.{Inf, Waits, Covered, Inv, waits-find}
 use Rattle.protocol.specs.Prelude.{plain-accept, live-to, flow, flow-open, flow-take, rated, flow-best}
@@ -68,7 +68,7 @@ module _ {p : Plan} {s : State} (i : Inv p s) {u v k b e : ℕ} {r : List Msg} (
   -- no answer to another is touched
   other-answer : (j w x : ℕ) → Ends p j w x → v ≢ w → sumL isA (c′ x j) ≡ sumL isA (s.ch x j)
   other-answer j w x f n = ap (sumL isA) (else-same s.ch u k r x j (by-eq k j
-      (λ z. inl (λ y. n (ends-same ends (subst (λ a. Ends p a u w) (sym z) (subst (λ a. Ends p j a w) (sym y) (flip f)))))) (λ z. inr z)))
+      (λ z. inl (λ y. n (other-end ends (flip f) y z))) (λ z. inr z)))
 
   -- no second answer to v
   no-more : {x : Msg} (j w : ℕ) → 1 ≤ isA x → Ends p j w v → Waits s v j → ¬ In x (c′ w j)
@@ -104,7 +104,7 @@ module _ {p : Plan} {s : State} (i : Inv p s) {u v k b e : ℕ} {r : List Msg} (
       out : (j w x : ℕ) → Ends p j w x → s.mark w j ≡ 2 → v ≡ x → Waits s x j → ⊥
       out j w x f m y t =
           let z = waited j (subst (λ a. Waits s a j) (sym y) t) in
-          let n = ends-same (flip ends) (subst (λ a. Ends p a v w) (sym z) (subst (λ a. Ends p j a w) (sym y) (flip f))) in
+          let n = other-end (flip ends) (flip f) y z in
           said .a1f (ap s.fr n ∙ i.M1.m1 j w x f m .0 ∙ ap s.fr (sym y))
 
   E1′ : Testing p S′
@@ -129,7 +129,7 @@ module _ {p : Plan} {s : State} (i : Inv p s) {u v k b e : ℕ} {r : List Msg} (
       crossed : (j w x : ℕ) → Ends p j w x → v ≡ x → Waits s x j → s.fr w ≡ s.fr x → ⊥
       crossed j w x g z h a =
           let y = waited j (subst (λ a. Waits s a j) (sym z) h) in
-          let n = ends-same (flip ends) (subst (λ a. Ends p a v w) (sym y) (subst (λ a. Ends p j a w) (sym z) (flip g))) in
+          let n = other-end (flip ends) (flip g) z y in
           said .a1f (ap s.fr n ∙ a ∙ ap s.fr (sym z))
 
       gone : (j w x : ℕ) → Ends p j w x → (s.te w ≢ j) ⊎ (s.ot ≡ suc w) → (S′.te w ≢ j) ⊎ (S′.ot ≡ suc w)

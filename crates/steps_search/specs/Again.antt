@@ -2,7 +2,7 @@
 use Rattle.protocol.specs.Prelude.{ℕ, suc, _+_, _≤_, arith, _≡_, refl, sym, ap, subst, _∙_, _≢_, _⊎_, inl, inr, ⊎-elim}
 use Rattle.protocol.specs.Prelude.{List, _∷_, upd2, by-eq, sumL}
 use Rattle.protocol.specs.Prelude.{Msg, test}
-use Rattle.protocol.specs.Prelude.{Plan, Ends, flip, ends-same, ends-irr, State, Idle, Strike, set-ch, set-mark, set-ot, marked, pop}
+use Rattle.protocol.specs.Prelude.{Plan, Ends, flip, other-end, ends-irr, State, Idle, Strike, set-ch, set-mark, set-ot, marked, pop}
 use Rattle.protocol.specs.Prelude.{isT, isA, isR, In, pop-in, pop-sum, pop-le, else-same, here-new, at2, upd2-elim, none-in, Waits, Inv, waits-find}
 use Rattle.protocol.specs.Prelude.{Plain, bests-same, flow, flow-open, flow-take}
 use Rattle.protocol.specs.Search.{Pending, Tests}
@@ -65,13 +65,9 @@ module _ {p : Plan} {s : State} (i : Inv p s) {u v k c : ℕ} {m : Msg} {r : Lis
   off : (f : Msg → ℕ) (w j : ℕ) → (u ≢ w) ⊎ (k ≢ j) → sumL f (c′ w j) ≡ sumL f (s.ch w j)
   off f w j n = ap (sumL f) (else-same s.ch u k r w j n)
 
-  -- the other end of k
-  beyond : (j w x : ℕ) → Ends p j w x → v ≡ w → k ≡ j → u ≡ x
-  beyond j w x e a b = ends-same back (subst (λ y. Ends p y v x) (sym b) (subst (λ y. Ends p j y x) (sym a) e))
-
   off-end : (f : Msg → ℕ) (j w x : ℕ) → Ends p j w x → v ≢ x → sumL f (c′ w j) ≡ sumL f (s.ch w j)
   off-end f j w x e n = off f w j (by-eq k j
-      (λ b. inl (λ a. n (ends-same (h.ends) (subst (λ y. Ends p y u x) (sym b) (subst (λ y. Ends p j y x) (sym a) e))))) (λ b. inr b))
+      (λ b. inl (λ a. n (other-end (h.ends) e a b))) (λ b. inr b))
 
   -- who waits now waited, and is not v
   pub waits : (j w : ℕ) → Waits S′ w j → (v ≢ w) × Waits s w j
@@ -104,7 +100,7 @@ module _ {p : Plan} {s : State} (i : Inv p s) {u v k c : ℕ} {m : Msg} {r : Lis
         let n = dn-other p s v k c (h.strike) x j b in
         ⊎-elim (λ o. let t = i.E2.m6 j w x e o z in still j x (λ q. ⊎-elim (λ f. f q) (λ f. f (on-k j x q t)) n) t)
         (λ o.
-        let y = beyond j w x e (o .0) (o .1) in
+        let y = other-end back e (o .0) (o .1) in
         subst (λ a. Waits S′ a j) y
         (subst (λ a. Waits S′ u a) (o .1) (still k u (λ q. ends-irr p back q) (h.asks (o .2) (ap (λ a. s.mark a k) y ∙ ap (s.mark x) (o .1) ∙ z)))))
         (dn2 p s v k c (h.strike) w j a);
@@ -137,7 +133,7 @@ module _ {p : Plan} {s : State} (i : Inv p s) {u v k c : ℕ} {m : Msg} {r : Lis
         ));
     m6t = λ j w x e a b. let z = dn0 p s v k c (h.strike) x j b in
         ⊎-elim (λ o. omega (arith, i.E1.m6t j w x e o z, pop-le s.ch u k (h.took) isT x j))
-        (λ o. left isT (h.no-test) x j (beyond j w x e (o .0) (o .1)) (o .1)) (dn2 p s v k c (h.strike) w j a);
+        (λ o. left isT (h.no-test) x j (other-end back e (o .0) (o .1)) (o .1)) (dn2 p s v k c (h.strike) w j a);
   }
     where
       -- another's mark is not struck
@@ -149,7 +145,7 @@ module _ {p : Plan} {s : State} (i : Inv p s) {u v k c : ℕ} {m : Msg} {r : Lis
           → (Waits S′ w j × (m′ w j ≢ 2) × (m′ w j ≡ 1 → m′ x j ≡ 1)) ⊎ (((s.te w ≢ j) ⊎ (S′.ot ≡ suc w)) × (m′ w j ≡ 2) × Waits S′ x j × (s.fr w ≡ s.fr x))
       own-test j w x l f e n a b = ⊎-elim
           (λ z. absurd (omega (arith, none-in isT z (subst (λ y. In (test l f) y) (sym (at2 s.ch a b)) (old w j n)))))
-          (λ t. let y = beyond j w x e a b in inr (
+          (λ t. let y = other-end back e a b in inr (
             inr (ap suc a),
             sym (at2 m′ a b) ∙ here2 ∙ t .1,
             subst (λ d. Waits S′ d j) y (subst (λ d. Waits S′ u d) b (still k u (λ q. ends-irr p back q) (t .0))),
@@ -162,12 +158,12 @@ module _ {p : Plan} {s : State} (i : Inv p s) {u v k c : ℕ} {m : Msg} {r : Lis
 
       -- no Test from u is left
       gone : (j w x l f : ℕ) → Ends p j w x → v ≡ x → k ≡ j → In (test l f) (c′ w j) → ⊥
-      gone j w x l f e a b n = omega (arith, none-in isT (left isT (h.no-test) w j (beyond j x w (flip e) a b) b) n)
+      gone j w x l f e a b n = omega (arith, none-in isT (left isT (h.no-test) w j (other-end back (flip e) a b) b) n)
 
       -- u waits across k: v's Test has crossed, or u has its answer
       crossing : (j w x : ℕ) → Ends p j w x → v ≡ x → k ≡ j → Waits s w j → sumL isT (c′ w j) + sumL isA (c′ x j) + sumL isT (c′ x j) ≡ 1
       crossing j w x e a b t =
-          let y = beyond j x w (flip e) a b in
+          let y = other-end back (flip e) a b in
           let d : u ≢ x = λ q. ends-irr p back (a ∙ sym q) in
           omega (
             arith,
@@ -191,7 +187,7 @@ module _ {p : Plan} {s : State} (i : Inv p s) {u v k c : ℕ} {m : Msg} {r : Lis
       mine : {y : Msg} (j w x : ℕ) → Ends p j w x → Waits s x j → In y (c′ w j) → 1 ≤ isA y → v ≢ x
       mine j w x e t n o q =
           let b = on-k j x q t in
-          omega (arith, none-in isA (left isA (h.no-answer) w j (beyond j x w (flip e) q b) b) n)
+          omega (arith, none-in isA (left isA (h.no-answer) w j (other-end back (flip e) q b) b) n)
 
   B2′ : Bests p S′
   B2′ = record {

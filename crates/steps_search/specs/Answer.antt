@@ -1,6 +1,6 @@
 -- v takes the Test of u over k and sends an answer m: one Test less from u, one answer more from v.
-use Rattle.protocol.specs.Prelude.{ℕ, zero, suc, _+_, _≤_, _<_, arith, _≡_, refl, sym, ap, subst, _∙_, _≢_, _⊎_, inl, inr, ⊎-elim}
-use Rattle.protocol.specs.Prelude.{List, [], _∷_, _++_, upd2, by-eq, sumL, Msg, test, Plan, Ends, flip, ends-same, State, isT, isA}
+use Rattle.protocol.specs.Prelude.{ℕ, _+_, arith, _≡_, refl, ap, _∙_, _≢_, _⊎_, inl, inr}
+use Rattle.protocol.specs.Prelude.{List, _∷_, upd2, by-eq, sumL, Msg, test, Plan, Ends, flip, other-end, State, isT, isA}
 use Rattle.protocol.specs.Prelude.{pop-sum, pop-here, else-same, snoc, snoc-sum, snoc-here, snoc-else}
 
 module _ (p : Plan) (s : State) {u v k l f : ℕ} {r : List Msg} (ends : Ends p k u v) (q : s.ch u k ≡ test l f ∷ r) (m : Msg) (no-test : isT m ≡ 0) (answer : isA m ≡ 1) where
@@ -26,7 +26,7 @@ module _ (p : Plan) (s : State) {u v k l f : ℕ} {r : List Msg} (ends : Ends p 
   pub even : (j w x : ℕ) → Ends p j w x → sumL isT (c′ w j) + sumL isA (c′ x j) ≡ sumL isT (s.ch w j) + sumL isA (s.ch x j)
   even j w x e = by-eq k j
       (λ z. by-eq u w
-      (λ y. let n = ends-same ends (subst (λ a. Ends p a u x) (sym z) (subst (λ a. Ends p j a x) (sym y) e)) in
+      (λ y. let n = other-end ends e y z in
       omega (
         arith,
         tests-here,
@@ -40,6 +40,6 @@ module _ (p : Plan) (s : State) {u v k l f : ℕ} {r : List Msg} (ends : Ends p 
         ap (λ a. sumL isA (s.ch a j)) n,
         ap (λ a. sumL isA (s.ch v a)) z,
       ))
-      (λ y. let n : v ≢ x = λ o. y (ends-same (flip ends) (subst (λ a. Ends p a v w) (sym z) (subst (λ a. Ends p j a w) (sym o) (flip e)))) in
+      (λ y. let n : v ≢ x = λ o. y (other-end (flip ends) (flip e) o z) in
       omega (arith, tests w j (inl y), answers x j (inl n))))
       (λ z. omega (arith, tests w j (inr z), answers x j (inr z)))

@@ -1,10 +1,10 @@
 -- A put-back keeps the invariant: the head m of the channel from u over k, which v would put back, goes to a later place.
-use Rattle.protocol.specs.Prelude.{ℕ, _≤_, arith, _≡_, refl, sym, ap, subst, _∙_, _≢_, inl, inr, ⊎-elim}
+use Rattle.protocol.specs.Prelude.{ℕ, _≤_, arith, _≡_, refl, sym, subst, _∙_, _≢_, inl, inr, ⊎-elim}
 use Rattle.protocol.specs.Prelude.{List, [], _∷_, _++_, upd2-elim, sumL}
 use Rattle.protocol.specs.Prelude.{Msg, connect, initiate, test, accept, reject, report, change}
 use Rattle.protocol.specs.Prelude.{Plan, Ends, State, Idle, Blocked, pop}
-use Rattle.protocol.specs.Prelude.{isC, isI, isCI, isT, isA, isR, Only, Fits, top, top-mid, fits-test, fits-report}
-use Rattle.protocol.specs.Prelude.{In, Bef, bef-behind, all-in, head-at, pop-head, rot, rot-in, in-rot, rot-bef, rot-sum, rot-all}
+use Rattle.protocol.specs.Prelude.{isC, isI, isCI, isT, isA, isR, Only, Fits, top, rot-top, fits-test, fits-report}
+use Rattle.protocol.specs.Prelude.{In, Bef, bef-behind, all-in, pop-head, rot, rot-in, in-rot, rot-bef, rot-sum, rot-all}
 use Rattle.protocol.specs.Prelude.{GL, Inv, half-at, up-other, kinds, none-in, at2, in-nil, Alike, owing-same, bests-same, connects-same, initiates-same, answers-same, testing-same, reports-same, inv-passing}
 use Rattle.protocol.specs.Traffic.{Tokens, Telling, Ordered}
 
@@ -37,11 +37,7 @@ module _ {p : Plan} {s : State} (i : Inv p s) {u v k : ℕ} {m : Msg} (a b : Lis
 
   -- the level at the far end
   far : (n w j : ℕ) → top n (c′ w j) ≡ top n (s.ch w j)
-  far n w j = upd2-elim (λ l. top n l ≡ top n (s.ch w j)) s.ch u k (a ++ (m ∷ b)) w j
-      (λ e f. top-mid n m a b no ∙ sym (top-mid n m [] (a ++ b) no) ∙ ap (top n) (sym (head-at s.ch u k q w j e f))) (λ d. refl)
-    where
-      no : isI m ≡ 0
-      no = not-initiate s v k m blocked
+  far = rot-top s.ch u k m (not-initiate s v k m blocked) a b q
 
   -- a blocked Connect is alone but for answers
   alone : (l : ℕ) (x : Msg) → s.lev v ≤ l → s.mark v k ≡ 0 → In (connect l) (s.ch u k) → In x (s.ch u k) → Only (GL s u) x

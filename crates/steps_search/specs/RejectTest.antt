@@ -2,7 +2,7 @@
 use Rattle.protocol.specs.Prelude.{ℕ, suc, _+_, _≤_, arith, _≡_, refl, sym, ap, subst, _∙_, _≢_, _⊎_, inl, inr, ⊎-elim}
 use Rattle.protocol.specs.Prelude.{List, _∷_, upd2, upd2-elim, by-eq, sumL}
 use Rattle.protocol.specs.Prelude.{Msg, test, reject}
-use Rattle.protocol.specs.Prelude.{Plan, Ends, flip, ends-same, State, Idle, Strike, set-ch, send, pop, marked}
+use Rattle.protocol.specs.Prelude.{Plan, Ends, flip, ends-same, other-end, State, Idle, Strike, set-ch, send, pop, marked}
 use Rattle.protocol.specs.Prelude.{isT, isA, isR, fits-reject, kinds, In, in-sum, pop-head, pop-in, pop-sum, pop-le, none-in, no-tests}
 use Rattle.protocol.specs.Prelude.{snoc, snoc-in, snoc-old, snoc-sum, Waits, Inv, inf-awake}
 use Rattle.protocol.specs.Prelude.{plain-test, plain-reject, before, bests-same, flow, flow-take, flow-post}
@@ -80,9 +80,6 @@ module _ {p : Plan} {s : State} (i : Inv p s) {u v k l f c : ℕ} {r : List Msg}
   rep : (w j : ℕ) → sumL isR (c′ w j) ≡ sumL isR (s.ch w j)
   rep w j = snoc-sum c₁ v k reject isR refl w j ∙ pop-sum s.ch u k q isR refl w j
 
-  beyond : (j w x : ℕ) → Ends p j w x → v ≡ w → k ≡ j → u ≡ x
-  beyond j w x e a b = ends-same (flip ends) (subst (λ y. Ends p y v x) (sym b) (subst (λ y. Ends p j y x) (sym a) e))
-
   E2′ : Tests p s.te s.ib m′ s.ot
   E2′ = record {
     e2o = i.E2.e2o;
@@ -90,7 +87,7 @@ module _ {p : Plan} {s : State} (i : Inv p s) {u v k l f c : ℕ} {r : List Msg}
     e2r = λ j w x e b z. ⊎-elim (λ o. i.E2.e2r j w x e b o) (λ o. not-waiting j w (o .0) (o .1) b) (dn2 p s v k c strike w j z);
     e2i = λ j w x e b d. i.E2.e2i j w x e b (dn-both p s v k c strike j w x d);
     m6 = λ j w x e a b. ⊎-elim (λ o. i.E2.m6 j w x e o (dn0 p s v k c strike x j b))
-        (λ o. subst (λ y. Waits s y j) (beyond j w x e (o .0) (o .1)) (subst (λ y. Waits s u y) (o .1) waits)) (dn2 p s v k c strike w j a);
+        (λ o. subst (λ y. Waits s y j) (other-end (flip ends) e (o .0) (o .1)) (subst (λ y. Waits s u y) (o .1) waits)) (dn2 p s v k c strike w j a);
   }
 
   E1′ : Testing p S′
@@ -112,7 +109,7 @@ module _ {p : Plan} {s : State} (i : Inv p s) {u v k l f c : ℕ} {r : List Msg}
           arith,
           tests-here p s ends q reject refl refl,
           alone,
-          ap (λ y. sumL isT (c′ y j)) (beyond j w x e (o .0) (o .1)),
+          ap (λ y. sumL isT (c′ y j)) (other-end (flip ends) e (o .0) (o .1)),
           ap (λ y. sumL isT (c′ u y)) (o .1),
         ))
         (dn2 p s v k c strike w j a);
@@ -132,7 +129,7 @@ module _ {p : Plan} {s : State} (i : Inv p s) {u v k l f c : ℕ} {r : List Msg}
     j1 = λ j w x e h. ⊎-elim
         (λ o. let t = i.A1.j1 j w x e (pop-in s.ch u k q w j o) in
         record { j1w = t.j1w; j1f = t.j1f; j1m = λ z. up2 p s v k c strike w j (t.j1m (dn0 p s v k c strike x j z)) })
-        (λ t. let n = beyond j w x e (t .0) (t .1) in
+        (λ t. let n = other-end (flip ends) e (t .0) (t .1) in
         subst (λ a. RejectOk s.te s.fr m′ s.ot j w a) n
         (subst (λ a. RejectOk s.te s.fr m′ s.ot j a u) (t .0) (subst (λ a. RejectOk s.te s.fr m′ s.ot a v u) (t .1) fresh)))
         (snoc-in c₁ v k reject w j h);

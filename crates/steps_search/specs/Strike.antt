@@ -1,6 +1,6 @@
 -- A mark of v for k that is Basic becomes Rejected: what stays of the clauses that read marks.
 use Rattle.protocol.specs.Prelude.{ℕ, _≤_, arith, _≡_, sym, ap, subst, _∙_, _≢_, _⊎_, inl, inr, ⊎-elim}
-use Rattle.protocol.specs.Prelude.{upd2, upd2-elim, by-eq, Plan, Ends, key, rank, flip, ends-same, wider, State, Strike, set-mark, set-ch, set-ot, List, Msg}
+use Rattle.protocol.specs.Prelude.{upd2, upd2-elim, by-eq, Plan, Ends, key, rank, flip, other-end, wider, State, Strike, set-mark, set-ch, set-ot, List, Msg}
 use Rattle.protocol.specs.Prelude.{Both, Bounding, Inv, Flow, at2}
 use Rattle.protocol.specs.Fragments.{Ranges, Cores, Sleepers, Marks, Inbounds}
 use Rattle.protocol.specs.Decisions.{Halves, Tellings, Rootings, Finishes}
@@ -137,7 +137,7 @@ module _ {p : Plan} {s : State} (i : Inv p s) {u v k c : ℕ} (ends : Ends p k v
     own = λ w j n. upd2-elim (λ x. x ≢ 0 → (y : ℕ) × Ends p j w y) s.mark v k c w j
         (λ a b m. (u, subst (λ x. Ends p j x u) a (subst (λ x. Ends p x v u) b ends))) (λ d m. i.M1.own w j m) n;
     m1 = λ j w x e h. ⊎-elim (λ o. let t = i.M1.m1 j w x e o in (t .0, λ z. t .1 (dn1 p s v k c strike x j z)))
-        (λ t. let y = ends-same ends (subst (λ a. Ends p a v x) (sym (t .1)) (subst (λ a. Ends p j a x) (sym (t .0)) e)) in
+        (λ t. let y = other-end ends e (t .0) (t .1) in
         (ap s.fr (sym (t .0)) ∙ inside ∙ ap s.fr y, λ z. free (t .2) (ap (λ a. s.mark a k) y ∙ ap (s.mark x) (t .1) ∙ dn1 p s v k c strike x j z)))
         (dn2 p s v k c strike w j h);
     m3 = λ j w x e h. i.M1.m3 j w x e (dn-both p s v k c strike j w x h);
@@ -173,7 +173,7 @@ module _ {p : Plan} {s : State} (i : Inv p s) {u v k c : ℕ} (ends : Ends p k v
     where
       -- k lies inside
       out : (j z y : ℕ) → Ends p j z y → v ≡ y → k ≡ j → s.fr y ≡ s.fr z
-      out j z y e q b = ap s.fr (sym q) ∙ inside ∙ ap s.fr (ends-same ends (subst (λ a. Ends p a v z) (sym b) (subst (λ a. Ends p j a z) (sym q) (flip e))))
+      out j z y e q b = ap s.fr (sym q) ∙ inside ∙ ap s.fr (other-end ends (flip e) q b)
 
   tellings-strike : Tellings p s.dk s.dn s.de s.fr s.gl s.gc s.lev s.ib s.ub s.bw m′
   tellings-strike = record {

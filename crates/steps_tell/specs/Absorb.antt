@@ -2,12 +2,12 @@
 use Rattle.protocol.specs.Prelude.{ℕ, _≤_, _<_, arith, _≡_, refl, sym, ap, subst, _∙_, _≢_, _⊎_, inl, inr, ⊎-elim}
 use Rattle.protocol.specs.Prelude.{List, _∷_, upd2-elim, by-eq, le-sum, All, sumL}
 use Rattle.protocol.specs.Prelude.{Msg, connect, initiate, report}
-use Rattle.protocol.specs.Prelude.{Plan, Ends, rank, joins-lt, flip, State, Idle, Flag, absorbed, pop}
+use Rattle.protocol.specs.Prelude.{Plan, Ends, rank, joins-lt, flip, other-end, State, Idle, Flag, absorbed, pop}
 use Rattle.protocol.specs.Prelude.{isC, isI, isCI, isT, isA, isR, isK, Only, top, In, Bef, at2, in-sum}
 use Rattle.protocol.specs.Prelude.{GL, GC, DK, Inf, Jn, Outst, Live, Covered, CoreEnds, Spent, Inv}
 use Rattle.protocol.specs.Prelude.{mark-awake, te-find, fc-find, waits-find, decided-initiate, decided-report, decided-test}
 use Rattle.protocol.specs.Traffic.{Hush, Tokens, Connects, InitOk, Initiates, Telling, Testing, Answers, Reports, Owing, Bests, Ordered}
-use Rattle.steps_tell.specs.Laws.{beyond, three, six, init-eq}
+use Rattle.steps_tell.specs.Laws.{three, six, init-eq}
 use Rattle.steps_tell.specs.Reply as Y
 use Rattle.steps_tell.specs.Sunk.{Absorbs}
 use Rattle.steps_tell.specs.Sunk as F
@@ -68,7 +68,7 @@ module _ {p : Plan} {s : State} (i : Inv p s) {u v k l x : ℕ} {r : List Msg} (
     c1 = λ j w y n e h m.
         let d = Y.elsewhere i act.ends act.q (s.lev v) (s.id v) x w j (in-sum isC h) in
         let o = old isC refl (omega arith) w j h in
-        let z : (v ≢ y) ⊎ (k ≢ j) = ⊎-elim (λ a. by-eq k j (λ b. inl (λ c. a (beyond (flip act.ends) (flip e) c b))) (λ b. inr b)) (λ b. inr b) d in
+        let z : (v ≢ y) ⊎ (k ≢ j) = ⊎-elim (λ a. by-eq k j (λ b. inl (λ c. a (other-end (flip act.ends) (flip e) c b))) (λ b. inr b)) (λ b. inr b) d in
         let b : s.mark y j ≡ 1 = sym (F.mark-off i act y j z) ∙ m in
         let f = F.fr-out i act w (F.call-out i act j w y n e o (i.C1.c1m j w y n e o, b)) in
         let t = i.C1.c1 j w y n e o b in
@@ -98,7 +98,7 @@ module _ {p : Plan} {s : State} (i : Inv p s) {u v k l x : ℕ} {r : List Msg} (
   I1′ : Initiates p S′
   I1′ = record {
     i1 = λ j w y a f b e h. ⊎-elim (λ o. by-eq (s.fr y) (s.fr u) (λ d. sunk j w y a f b e o d) (λ n. other j w y a f b e o n))
-        (λ t. six (λ n m z. InitOk p s.lev S′.fr s.gl s.gc s.ub S′.due S′.mark n m z) (t .1) (t .0) (beyond (flip act.ends) e (t .0) (t .1)) (t .2) fresh)
+        (λ t. six (λ n m z. InitOk p s.lev S′.fr s.gl s.gc s.ub S′.due S′.mark n m z) (t .1) (t .0) (other-end (flip act.ends) e (t .0) (t .1)) (t .2) fresh)
         (Y.was i act.ends act.q (s.lev v) (s.id v) x w j h);
   }
     where
@@ -189,7 +189,7 @@ module _ {p : Plan} {s : State} (i : Inv p s) {u v k l x : ℕ} {r : List Msg} (
     where
       jn-up : (j w y : ℕ) → Ends p j w y → (s.mark w j ≡ 1 → s.mark y j ≡ 1) → S′.mark w j ≡ 1 → S′.mark y j ≡ 1
       jn-up j w y e f = upd2-elim (λ z. z ≡ 1 → S′.mark y j ≡ 1) s.mark v k 1 w j
-          (λ a b z. sym (at2 S′.mark (beyond (flip act.ends) e a b) b) ∙ F.joined i act .1) (λ n z. F.up1 i act y j (f z))
+          (λ a b z. sym (at2 S′.mark (other-end (flip act.ends) e a b) b) ∙ F.joined i act .1) (λ n z. F.up1 i act y j (f z))
 
   A1′ : Answers p S′
   A1′ = record {
@@ -206,7 +206,7 @@ module _ {p : Plan} {s : State} (i : Inv p s) {u v k l x : ℕ} {r : List Msg} (
             F.level i act,
             F.ok i act .d1l,
             ap s.lev a,
-            ap s.lev (beyond (flip act.ends) (flip e) a b),
+            ap s.lev (other-end (flip act.ends) (flip e) a b),
           ))) (λ b. inr b)) ∙ t.a1m;
           a1f = λ a. F.fr-cases i act w y a t.a1f (λ b b′. omega (arith, t.a1l, i.G2.g2 w, ap s.gl b, ap s.gl b′, F.rise i act, g .1)) (λ b b′. F.find-out i act y f b′);
           a1l = t.a1l;
@@ -281,7 +281,7 @@ module _ {p : Plan} {s : State} (i : Inv p s) {u v k l x : ℕ} {r : List Msg} (
     f4y = λ j w c e. upd2-elim (λ z. z ≢ 0 → Inf S′ w × Jn S′ j w c × (s.ib w ≢ j) × Outst S′ c j) s.owe v k x w j
         (λ a b n. let f = F.bit-find i act n in
         let h = i.F1.f1 v f in
-        three (λ j w c. Inf S′ w × Jn S′ j w c × (s.ib w ≢ j) × Outst S′ c j) b a (beyond (flip act.ends) e a b)
+        three (λ j w c. Inf S′ w × Jn S′ j w c × (s.ib w ≢ j) × Outst S′ c j) b a (other-end (flip act.ends) e a b)
         (F.inf-new i act v (F.apart i act) (h.f1i), F.joined i act, F.no-ib i act, inr (F.low i act u refl, F.due-in i act u refl ∙ h.f1u)))
         (λ m n. let t = i.F4c.f4y j w c e n in
         let f = fc-find i w (λ z. omega (arith, i.F4.f4 w, le-sum p.g.L j (s.owe w) (joins-lt e))) in

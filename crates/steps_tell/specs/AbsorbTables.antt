@@ -2,7 +2,7 @@
 use Rattle.protocol.specs.Prelude.{ℕ, _+_, _^_, _≤_, _<_, arith, _≡_, refl, sym, ap, subst, _∙_, _≢_, inl, inr, ⊎-elim}
 use Rattle.protocol.specs.Prelude.{List, upd-elim, upd2-elim, by-eq, sum, size-mono}
 use Rattle.protocol.specs.Prelude.{Msg, none}
-use Rattle.protocol.specs.Prelude.{Plan, Ends, Tree, key, rank, joins-lt, flip, ends-two, Way, join, hop, wider, State, absorbed, pop}
+use Rattle.protocol.specs.Prelude.{Plan, Ends, Tree, key, rank, joins-lt, flip, other-end, end-lt, ends-two, Way, join, hop, wider, State, absorbed, pop}
 use Rattle.protocol.specs.Prelude.{bulk-elim, sum-row, row-else, both-joined}
 use Rattle.protocol.specs.Prelude.{at2}
 use Rattle.protocol.specs.Prelude.{Both, Joined, members, GL, Inv}
@@ -10,7 +10,6 @@ use Rattle.protocol.specs.Prelude.{waits-find, no-waits}
 use Rattle.protocol.specs.Fragments.{Ranges, Levels, Sizes, Cores, Sleepers, Marks, Inbounds}
 use Rattle.protocol.specs.Decisions.{Halves, Tellings, Rootings, Finishes}
 use Rattle.protocol.specs.Search.{Parents, Kids, Finds, Pending, Counts, Tests, Weights}
-use Rattle.steps_tell.specs.Laws.{beyond, ends-node}
 use Rattle.steps_tell.specs.Sunk.{Absorbs}
 use Rattle.steps_tell.specs.Sunk as F
 
@@ -53,7 +52,7 @@ module _ {p : Plan} {s : State} (i : Inv p s) {u v k l x : ℕ} {r : List Msg} (
 
       lab′ : (w : ℕ) → w < p.N → 2 ^ s.gl (S′.fr w) ≤ members p S′.fr (S′.fr w)
       lab′ w n = bulk-elim (λ a. 2 ^ s.gl a ≤ members p S′.fr a) s.fr (s.fr u) (s.fr v) s.fr w
-          (λ e. omega (arith, i.G4.g4 v (ends-node p (flip act.ends)), more v (F.apart i act))) (λ m. omega (arith, i.G4.g4 w n, more w m))
+          (λ e. omega (arith, i.G4.g4 v (end-lt p (flip act.ends)), more v (F.apart i act))) (λ m. omega (arith, i.G4.g4 w n, more w m))
 
   pub G5′ : Cores p S′.fr s.gl s.gc S′.mark
   G5′ = record {
@@ -97,7 +96,7 @@ module _ {p : Plan} {s : State} (i : Inv p s) {u v k l x : ℕ} {r : List Msg} (
   }
     where
       at : (j w y : ℕ) → Ends p j w y → v ≡ y → k ≡ j → s.mark w j ≡ s.mark u k
-      at j w y e a b = sym (at2 s.mark (beyond (flip act.ends) (flip e) a b) b)
+      at j w y e a b = sym (at2 s.mark (other-end (flip act.ends) (flip e) a b) b)
 
       wide : {a b : ℕ} → Way p.g (Joined p s.mark) a b → Way p.g (Joined p S′.mark) a b
       wide = wider (λ e l h. F.up-both i act e (p.g.lo e) (p.g.hi e) h)
@@ -126,7 +125,7 @@ module _ {p : Plan} {s : State} (i : Inv p s) {u v k l x : ℕ} {r : List Msg} (
         let t = i.D1.d1 j z y e (F.half-old i act z j h) in
         record {
           d1m = F.up1 i act z j (t.d1m);
-          d1y = F.mark-off i act y j (by-eq v y (λ a. inr (λ b. n (ap s.fr (sym (beyond (flip act.ends) (flip e) a b))))) (λ a. inl a)) ∙ t.d1y;
+          d1y = F.mark-off i act y j (by-eq v y (λ a. inr (λ b. n (ap s.fr (sym (other-end (flip act.ends) (flip e) a b))))) (λ a. inl a)) ∙ t.d1y;
           d1o = λ a. F.fr-cases i act y z a t.d1o (λ b b′. omega (arith, t.d1g, ap s.gl b′, F.rise i act, i.G2.g2 y, ap s.gl b)) (λ b b′. n b′);
           d1g = omega (arith, t.d1g, ap s.gl (F.fr-out i act z n));
           d1l = t.d1l ∙ ap s.gl (sym (F.fr-out i act z n));

@@ -2,14 +2,14 @@
 use Rattle.protocol.specs.Prelude.{ℕ, _+_, _≤_, _<_, arith, _≡_, refl, sym, ap, subst, _∙_, _≢_, _⊎_, inl, inr, ⊎-elim}
 use Rattle.protocol.specs.Prelude.{List, _∷_, by-eq, sumL}
 use Rattle.protocol.specs.Prelude.{Msg, connect, initiate, report}
-use Rattle.protocol.specs.Prelude.{Plan, Ends, joins-lt, flip, ends-same, ends-two, State, Idle, send, pop}
+use Rattle.protocol.specs.Prelude.{Plan, Ends, joins-lt, flip, other-end, ends-two, State, Idle, send, pop}
 use Rattle.protocol.specs.Prelude.{isC, isI, isT, isA, isR, isK, In}
 use Rattle.protocol.specs.Prelude.{GL, GC, Inf, Jn, Half, Inv, mark-awake, in-sum}
 use Rattle.protocol.specs.Prelude.{connects-same, answers-same, testing-same, owing-same, bests-same, inv-passing}
 use Rattle.protocol.specs.Decisions.{HalfOk}
 use Rattle.protocol.specs.Search.{LowOk}
 use Rattle.protocol.specs.Traffic.{InitOk, Tokens, Initiates, Telling, Reports}
-use Rattle.steps_tell.specs.Laws.{beyond, six, init-eq, reports-far}
+use Rattle.steps_tell.specs.Laws.{six, init-eq, reports-far}
 use Rattle.steps_tell.specs.Reply as Y
 
 module _ {p : Plan} {s : State} (i : Inv p s) {u v k l : ℕ} {r : List Msg} (idle : Idle s) (ends : Ends p k u v) (awake : s.st v ≢ 0) (q : s.ch u k ≡ connect l ∷ r)
@@ -126,7 +126,7 @@ module _ {p : Plan} {s : State} (i : Inv p s) {u v k l : ℕ} {r : List Msg} (id
   I1′ : Initiates p S′
   I1′ = record {
     i1 = λ j w x a f b e h. ⊎-elim (λ o. i.I1.i1 j w x a f b e o)
-        (λ t. six (λ n m y. InitOk p s.lev s.fr s.gl s.gc s.ub s.due s.mark n m y) (t .1) (t .0) (beyond (flip ends) e (t .0) (t .1)) (t .2) fresh)
+        (λ t. six (λ n m y. InitOk p s.lev s.fr s.gl s.gc s.ub s.due s.mark n m y) (t .1) (t .0) (other-end (flip ends) e (t .0) (t .1)) (t .2) fresh)
         (Y.was i ends q (s.lev v + 1) k 1 w j h);
   }
 
@@ -136,14 +136,14 @@ module _ {p : Plan} {s : State} (i : Inv p s) {u v k l : ℕ} {r : List Msg} (id
     t2i = λ j w c e b h n d. kept isI refl (omega arith) w j (i.T4.t2i j w c e b h n d);
     t4 = λ j x y e b g. by-eq u x
         (λ a. by-eq k j
-        (λ z. let o = ends-same ends (subst (λ d. Ends p d u y) (sym z) (subst (λ d. Ends p j d y) (sym a) e)) in
+        (λ z. let o = other-end ends e a z in
         inr (inl (six (λ n m h c f d. In (initiate c f d) (S′.ch m n)) z o a (told x j (sym a) (sym z)) (Y.said i ends q (s.lev v + 1) k 1))))
         (λ z. stays j x y e b g (inr z)))
         (λ a. stays j x y e b g (inl a));
     t4n = λ j x y e b g n.
         let d = Y.elsewhere i ends q (s.lev v + 1) k 1 x j n in
         let t = i.T4.t4n j x y e b g (omega (arith, Y.connects i ends q (s.lev v + 1) k 1 x j d)) in
-        (t .0, λ o. ⊎-elim (t .1) (λ h. ⊎-elim (λ a. a (beyond (flip ends) (flip e) (h .0) (h .1))) (λ a. a (h .1)) d) (Y.was i ends q (s.lev v + 1) k 1 y j o));
+        (t .0, λ o. ⊎-elim (t .1) (λ h. ⊎-elim (λ a. a (other-end (flip ends) (flip e) (h .0) (h .1))) (λ a. a (h .1)) d) (Y.was i ends q (s.lev v + 1) k 1 y j o));
   }
     where
       told : (x j : ℕ) → x ≡ u → j ≡ k → initiate (GL s x) j 1 ≡ initiate (s.lev v + 1) k 1

@@ -1,12 +1,11 @@
 -- v serves Initiate (l, f, x) from u over k, takes its values and sends the copies: what holds before and after.
 use Rattle.protocol.specs.Prelude.{ℕ, suc, _≤_, _<_, arith, _≡_, refl, sym, ap, subst, _∙_, _≢_, _⊎_, inl, inr, ⊎-elim, List, _∷_, Bool, true, upd2, upd-same}
-use Rattle.protocol.specs.Prelude.{upd-other, upd-elim, by-eq, sumL, Msg, none, initiate, report, Plan, Ends, flip, ends-irr, edge-some, State, Idle, Mode}
+use Rattle.protocol.specs.Prelude.{upd-other, upd-elim, by-eq, sumL, Msg, none, initiate, report, Plan, Ends, flip, other-end, ends-irr, edge-some, State, Idle, Mode}
 use Rattle.protocol.specs.Prelude.{Place, informed, pop, copy, top, top-in, top-max, kinds, Fits, In, Bef, heads, in-cons, else-same, here-new, head-at}
 use Rattle.protocol.specs.Prelude.{pop-head, pop-in, in-pop, pop-sum, copy-yes, copy-on, fan-in, in-fan, fan-sum, fan-else, GL, GC, DK, Inf, Jn, Waits}
 use Rattle.protocol.specs.Prelude.{CoreEnds, Spent, Inv, inf-cases, low-find, mark-awake}
 use Rattle.protocol.specs.Search.{LowOk}
 use Rattle.protocol.specs.Traffic.{InitOk}
-use Rattle.steps_tell.specs.Laws.{beyond}
 
 -- the guards of the step
 pub record Tells (p : Plan) (s : State) (u v k l f x a b d e : ℕ) (r : List Msg) : Type 0 where
@@ -78,7 +77,7 @@ module _ {p : Plan} {s : State} (i : Inv p s) {u v k l f x a b d e : ℕ} {r : L
   core-low j y g c = i.T2.t4u j v y g (subst (λ n. Jn s n v y) c (i.G5.g5 v v y (omega (arith, low)) (subst (λ n. Ends p n v y) (sym c) g) .0)) c low
 
   pub core-k : (j y : ℕ) → Ends p j v y → GC s v ≡ j → (k ≡ j) × (u ≡ y)
-  core-k j y g c = let z : k ≡ j = sym (ok.i1u) ∙ core-low j y g c .t4b in (z, beyond (flip act.ends) g refl z)
+  core-k j y g c = let z : k ≡ j = sym (ok.i1u) ∙ core-low j y g c .t4b in (z, other-end (flip act.ends) g refl z)
 
   pub core-full : (j y : ℕ) → Ends p j v y → GC s v ≡ j → l ≡ GL s v
   core-full j y g c = omega (arith, ok.i1l, ok.i1g, core-low j y g c .t4l)
@@ -86,7 +85,7 @@ module _ {p : Plan} {s : State} (i : Inv p s) {u v k l f x a b d e : ℕ} {r : L
   pub core-find : (j y : ℕ) → Ends p j v y → GC s v ≡ j → x ≡ 1
   core-find j y g c = ok.i1d (core-full j y g c) ∙ core-low j y g c .t4d
 
-  -- ---- the copies: c beyond another branch j of v is below v, and told by v
+  -- ---- the copies: c other-end another branch j of v is below v, and told by v
 
   module _ (j c : ℕ) (g : Ends p j v c) (n : k ≢ j) (m : s.mark v j ≡ 1) where
     pub kid-joined : Jn s j v c
@@ -131,7 +130,7 @@ module _ {p : Plan} {s : State} (i : Inv p s) {u v k l f x a b d e : ℕ} {r : L
       let y = core-k j w (flip g) c in
       (y .0, y .1, c, t))
       (λ t. let z : k ≡ j = sym (ok.i1u) ∙ t .2 in
-      let y : u ≡ w = beyond (flip act.ends) (flip g) refl z in
+      let y : u ≡ w = other-end (flip act.ends) (flip g) refl z in
       absurd (omega (
         arith,
         t .4 (initiate l f x) (subst (λ m. Bef (initiate l f x) (report n) m) (sym (head-at s.ch u k act.q w j y z)) (heads
@@ -250,7 +249,7 @@ module _ {p : Plan} {s : State} (i : Inv p s) {u v k l f x a b d e : ℕ} {r : L
 
   -- not the channel from u over k
   pub elsewhere : (j w z : ℕ) → Ends p j w z → v ≢ z → (u ≢ w) ⊎ (k ≢ j)
-  elsewhere j w z g n = by-eq u w (λ y. inr (λ o. n (beyond act.ends g y o))) (λ y. inl y)
+  elsewhere j w z g n = by-eq u w (λ y. inr (λ o. n (other-end act.ends g y o))) (λ y. inl y)
 
   -- those to others than v stay
   pub hold : {y : Msg} (j w z : ℕ) → Ends p j w z → v ≢ z → In y (s.ch w j) → In y (S′.ch w j)

@@ -1,17 +1,8 @@
 -- Laws for the steps that send Initiates.
-use Rattle.protocol.specs.Prelude.{ℕ, _<_, arith, up, down, _≡_, refl, sym, ap, subst, _∙_, inl, inr, ⊎-elim, List, Msg, report, initiate, sumL, Plan, Ends}
-use Rattle.protocol.specs.Prelude.{Graph, Joins, ends-same, State, set-ch, isCI, arg1, arg2, arg3, In, Bef, GL, Child, CoreEnds, Spent, Bool, true, false, _≢_}
+use Rattle.protocol.specs.Prelude.{ℕ, arith, _≡_, refl, sym, ap, subst, _∙_, inl, inr, ⊎-elim, List, Msg, report, initiate, sumL, Plan, Ends}
+use Rattle.protocol.specs.Prelude.{Graph, Joins, State, set-ch, isCI, arg1, arg2, arg3, In, Bef, GL, Child, CoreEnds, Spent, Bool, true, false, _≢_}
 use Rattle.protocol.specs.Prelude.{_⊎_, [], _∷_, _++_, fan, fan-elim, fill, fill-elim}
 use Rattle.protocol.specs.Traffic.{Reports}
-
--- an end of an edge is a node
-pub ends-node : (p : Plan) {k u v : ℕ} → Ends p k u v → u < p.N
-ends-node p {k} (up l e f) = omega (arith, p.ends-lt k l .0)
-ends-node p {k} (down l e f) = omega (arith, p.ends-lt k l .1)
-
--- the other ends of an edge, met twice
-pub beyond : {g : Graph} {k j u w v z : ℕ} → Joins g k u v → Joins g j w z → u ≡ w → k ≡ j → v ≡ z
-beyond {g} {j} {u} {z} a b e f = ends-same a (subst (λ d. Joins g d u z) (sym f) (subst (λ d. Joins g j d z) (sym e) b))
 
 pub ends-at : {g : Graph} {j v w y : ℕ} → v ≡ w → Joins g j w y → Joins g j v y
 ends-at {g} {j} {y} e h = subst (λ n. Joins g j n y) (sym e) h

@@ -1,14 +1,13 @@
 -- The Connect at the head of the channel from u over k is taken, and v answers it by Initiate (a, f, x) over k: the channels.
 use Rattle.protocol.specs.Prelude.{ℕ, _≤_, arith, _≡_, refl, sym, ap, subst, _∙_, _≢_, _⊎_, inl, inr, ⊎-elim}
-use Rattle.protocol.specs.Prelude.{List, [], _∷_, upd2, upd2-elim, by-eq, All, sumL}
+use Rattle.protocol.specs.Prelude.{List, [], _∷_, upd2, by-eq, All, sumL}
 use Rattle.protocol.specs.Prelude.{Msg, none, connect, initiate}
-use Rattle.protocol.specs.Prelude.{Plan, Ends, flip, ends-irr, State, set-ch}
-use Rattle.protocol.specs.Prelude.{isC, Fits, top, top-app}
-use Rattle.protocol.specs.Prelude.{In, Bef, in-nil, at2, else-same, here-new, head-at, pop-head, pop-in, in-pop, pop-bef, pop-sum, pop-all}
+use Rattle.protocol.specs.Prelude.{Plan, Ends, flip, other-end, ends-irr, State, set-ch}
+use Rattle.protocol.specs.Prelude.{isC, Fits, top, top-app, pop-top}
+use Rattle.protocol.specs.Prelude.{In, Bef, in-nil, at2, else-same, here-new, pop-head, pop-in, in-pop, pop-bef, pop-sum, pop-all}
 use Rattle.protocol.specs.Prelude.{snoc, snoc-elim, snoc-in, in-snoc2, in-new, snoc-bef, snoc-sum, snoc-else, snoc-all}
 use Rattle.protocol.specs.Prelude.{Inv, rest-none, fits-initiate}
 use Rattle.protocol.specs.Traffic.{Hush, Ordered}
-use Rattle.steps_tell.specs.Laws.{beyond}
 
 module _ {p : Plan} {s : State} (i : Inv p s) {u v k l : ℕ} {r : List Msg} (ends : Ends p k u v) (q : s.ch u k ≡ connect l ∷ r) (a f x : ℕ) where
   abbrev reply : Msg
@@ -62,8 +61,7 @@ module _ {p : Plan} {s : State} (i : Inv p s) {u v k l : ℕ} {r : List Msg} (en
 
   -- the level at the far end
   pub far : (n w j : ℕ) → (v ≢ w) ⊎ (k ≢ j) → top n (answered w j) ≡ top n (s.ch w j)
-  far n w j d = ap (top n) (snoc-else c₁ v k reply w j d) ∙ upd2-elim (λ m. top n m ≡ top n (s.ch w j)) s.ch u k r w j
-      (λ y z. ap (top n) (sym (head-at s.ch u k q w j y z))) (λ m. refl)
+  far n w j d = ap (top n) (snoc-else c₁ v k reply w j d) ∙ pop-top s.ch u k (connect l) refl q n w j
 
   pub far-here : (n : ℕ) → top n (answered v k) ≡ a
   far-here n = snoc-elim c₁ v k reply (λ m. top n m ≡ a) v k (λ y z. top-app n a f x (c₁ v k)) (λ d. absurd (⊎-elim (λ h. h refl) (λ h. h refl) d))
@@ -80,7 +78,7 @@ module _ {p : Plan} {s : State} (i : Inv p s) {u v k l : ℕ} {r : List Msg} (en
   hush-reply m n = record {
     g6o = λ j w y e z. off w j (silent w j (i.G6c.g6o j w y e z)) (inl (λ d. m (ap s.st d ∙ z))) ∙ i.G6c.g6o j w y e z;
     g6i = λ j w y e z. every w j
-        (λ b c. absurd (n (ap s.st (beyond (flip ends) e b c) ∙ z))) (i.G6c.g6i j w y e z);
+        (λ b c. absurd (n (ap s.st (other-end (flip ends) e b c) ∙ z))) (i.G6c.g6i j w y e z);
   }
     where
       silent : (w j : ℕ) → s.ch w j ≡ [] → (u ≢ w) ⊎ (k ≢ j)

@@ -1,10 +1,10 @@
 -- Initiate (l, f, x) from u at v over k: v takes level, identity and status from it, and sends copies over its other branches.
 use Rattle.protocol.specs.Prelude.{ℕ, suc, _≤_, _<_, arith, _≡_, refl, sym, ap, subst, _∙_, _≢_, _⊎_, inl, inr, ⊎-elim, List, [], _∷_, Bool, true, upd2}
-use Rattle.protocol.specs.Prelude.{upd-other, by-eq, sumL, All, All-app, con, nil, Msg, connect, initiate, Plan, Ends, key, flip, ends-irr, State, Idle, Mode}
+use Rattle.protocol.specs.Prelude.{upd-other, by-eq, sumL, All, All-app, con, nil, Msg, connect, initiate, Plan, Ends, key, flip, other-end, ends-irr, State, Idle, Mode}
 use Rattle.protocol.specs.Prelude.{Place, informed, pop, copy, isC, isT, isA, isR, isK, arg1, top, top-app, Fits, fits-initiate, In, in-nil, at2, else-same}
 use Rattle.protocol.specs.Prelude.{pop-in, in-pop, pop-bef, pop-all, fan-elim, in-fan, fan-new, fan-bef, fan-else, GL, GC, Inf, Jn, Inv, mark-awake, no-root}
 use Rattle.protocol.specs.Traffic.{Hush, Tokens, Connects, InitOk, Initiates, Telling, Testing, Answers, Ordered}
-use Rattle.steps_tell.specs.Laws.{beyond, ends-at, three, six, init-eq, fan-here}
+use Rattle.steps_tell.specs.Laws.{ends-at, three, six, init-eq, fan-here}
 use Rattle.steps_tell.specs.Heard.{Tells}
 use Rattle.steps_tell.specs.Heard as F
 use Rattle.steps_tell.specs.TellTables as T
@@ -142,7 +142,7 @@ module _ {p : Plan} {s : State} (i : Inv p s) {u v k l f x a b d e : ℕ} {r : L
       left : (j w y n c h : ℕ) → Ends p j w y → v ≡ y → In (initiate n c h) (s.ch w j) → In (initiate n c h) (S′.ch w j) → S′.lev y < n
       left j w y n c h g z q o =
           let jk : k ≡ j = sym (ok.i1u) ∙ ap s.ub z ∙ i.I1.i1 j w y n c h g q .i1u in
-          let uw : u ≡ w = beyond (flip act.ends) (flip g) z jk in
+          let uw : u ≡ w = other-end (flip act.ends) (flip g) z jk in
           omega (arith, F.lev-v i act, ap S′.lev z, F.behind i act (initiate n c h) (subst (λ t. In (initiate n c h) t) (sym (at2 S′.ch uw jk)) o))
 
   T4′ : Telling p S′
@@ -183,7 +183,7 @@ module _ {p : Plan} {s : State} (i : Inv p s) {u v k l f x a b d e : ℕ} {r : L
       far : (j w c : ℕ) → Ends p j w c → Jn s j w c → s.ub w ≢ j → v ≢ w → top (S′.lev c) (S′.ch w j) ≡ top (s.lev c) (s.ch w j)
       far j w c g h n o = by-eq v c
           (λ z. let jk : k ≡ j = sym (ok.i1u) ∙ ap s.ub z ∙ ⊎-elim (λ t. absurd (n t)) (λ t. t) (i.U1.m3u j w c g h) in
-          three (λ j w c. top (S′.lev c) (S′.ch w j) ≡ top (s.lev c) (s.ch w j)) jk (beyond (flip act.ends) (flip g) z jk) z served)
+          three (λ j w c. top (S′.lev c) (S′.ch w j) ≡ top (s.lev c) (s.ch w j)) jk (other-end (flip act.ends) (flip g) z jk) z served)
           (λ z. ap (top (S′.lev c)) (F.off i act j w c g o z) ∙ ap (λ t. top t (s.ch w j)) (F.lev-else i act c z))
         where
           served : top (S′.lev v) (S′.ch u k) ≡ top (s.lev v) (s.ch u k)

@@ -1,12 +1,12 @@
 -- v serves Initiate (l, f, x) from u over k: the clauses on tables.
 use Rattle.protocol.specs.Prelude.{ℕ, suc, _+_, _*_, _≤_, _<_, arith, _≡_, refl, sym, ap, subst, _∙_, _≢_, _⊎_, inl, inr, ⊎-elim, List, Bool, upd-same}
-use Rattle.protocol.specs.Prelude.{upd-other, upd-elim, by-eq, bit, sum, sum-eq, Msg, none, Plan, Ends, key, flip, ends-irr, edge-some, State, informed, pop}
+use Rattle.protocol.specs.Prelude.{upd-other, upd-elim, by-eq, bit, sum, sum-eq, Msg, none, Plan, Ends, key, flip, other-end, ends-irr, edge-some, State, informed, pop}
 use Rattle.protocol.specs.Prelude.{copy, fill-elim, fill-else, sum-fill, Bounding, GL, GC, Inf, Jn, Inv, no-root}
 use Rattle.protocol.specs.Fragments.{Ranges, Values, Levels, Sleepers, Inbounds}
 use Rattle.protocol.specs.Decisions.{Halves, Tellings, Rootings, Finishes}
 use Rattle.protocol.specs.Search.{Parents, Kids, FindOk, Finds, Pending, Counts, Tests, Weights}
 use Rattle.protocol.specs.Traffic.{InitOk}
-use Rattle.steps_tell.specs.Laws.{beyond, three}
+use Rattle.steps_tell.specs.Laws.{three}
 use Rattle.steps_tell.specs.Heard.{Tells}
 use Rattle.steps_tell.specs.Heard as F
 
@@ -76,7 +76,7 @@ module _ {p : Plan} {s : State} (i : Inv p s) {u v k l f x a b d e : ℕ} {r : L
     u1 = i.U1.u1;
     u1r = λ w. upd-elim (λ y. y ≢ none → (z : ℕ) × Ends p y w z) s.ib v k w (λ z h. (u, subst (λ n. Ends p k n u) z (flip act.ends))) (λ n. i.U1.u1r w);
     u1i = λ j w y g. upd-elim (λ z. z ≡ j → Jn s j w y) s.ib v k w
-        (λ z h. three (λ j w y. Jn s j w y) h z (beyond (flip act.ends) g z h) (ok.i1j .1, ok.i1j .0)) (λ n. i.U1.u1i j w y g);
+        (λ z h. three (λ j w y. Jn s j w y) h z (other-end (flip act.ends) g z h) (ok.i1j .1, ok.i1j .0)) (λ n. i.U1.u1i j w y g);
     m3u = i.U1.m3u;
   }
 
@@ -141,7 +141,7 @@ module _ {p : Plan} {s : State} (i : Inv p s) {u v k l f x a b d e : ℕ} {r : L
         (λ n o. let t = i.T1.t1d w o (sym (F.ib-else i act w n) ∙ c) in (upd-other s.dep v d w n ∙ t .0, upd-other s.side v e w n ∙ t .1));
     t1p = λ j w y g h c o. F.inf i act w h
         (λ z n. let y = sym (F.ib-v i act) ∙ ap S′.ib z ∙ c in
-        three (λ j w y. Inf S′ y × (S′.dep w ≡ suc (S′.dep y)) × (S′.side w ≡ S′.side y)) y z (beyond (flip act.ends) g z y) (below n (λ t. o (ap (λ n. GC s n) (sym z) ∙ t ∙ y))))
+        three (λ j w y. Inf S′ y × (S′.dep w ≡ suc (S′.dep y)) × (S′.side w ≡ S′.side y)) y z (other-end (flip act.ends) g z y) (below n (λ t. o (ap (λ n. GC s n) (sym z) ∙ t ∙ y))))
         (λ n z. let t = i.T1.t1p j w y g z (sym (F.ib-else i act w n) ∙ c) o in
         let m = F.inf-else i act y (t .0) in (
           F.inf-stay i act y (t .0),
@@ -189,7 +189,7 @@ module _ {p : Plan} {s : State} (i : Inv p s) {u v k l f x a b d e : ℕ} {r : L
         record { t4d = t.t4d; t4l = ap (λ m. m + 1) (F.lev-else i act w o) ∙ t.t4l; t4b = t.t4b; t4i = λ z. t.t4i (sym (F.ib-else i act w o) ∙ z) };
   }
     where
-      -- beyond a branch of an informed node that is not its in-branch v has that branch inbound
+      -- other-end a branch of an informed node that is not its in-branch v has that branch inbound
       told : (j w : ℕ) → Ends p j w v → Jn s j w v → Inf s w → s.ib w ≢ j → s.ub v ≡ j
       told j w g h m n = i.I1.i1 j w v (GL s w) (GC s w) (s.due v) g (i.T4.t2i j w v g h m n (F.low i act)) .i1u
 
