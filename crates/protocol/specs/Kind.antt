@@ -1,5 +1,5 @@
 -- Kinds of messages: counters for sums over a channel, what may stand before what, the level at the far end of a channel.
-use Prim.Native.Nat.{ℕ, _+_, _<_}
+use Prim.Native.Nat.{ℕ, _+_, _*_, _<_}
 use native.Mathlib.Omega.{arith}
 use mathlib.Core.Path.{_≡_, refl, ap}
 use mathlib.Core.Logic.{_≢_, _⊎_, inl, inr}
@@ -160,68 +160,37 @@ call-parts change = refl
 pub kinds : {x y : Msg} → kind x ≢ kind y → x ≢ y
 kinds n e = n (ap kind e)
 
--- ---- what may stand before a message that is sent
+-- ---- what may stand before a message x that is sent
+
+-- m is not of x's kind; an Initiate lets x stand behind it
+fits-by : (x m : Msg) → isC m * isC x + isT m * isT x + isA m * isA x + isR m * isR x + isK m * isK x ≡ 0
+    → ((l f y : ℕ) → m ≡ initiate l f y → After l x) → Fits m x
+fits-by x (connect l) z h = omega arith
+fits-by x (initiate l f y) z h = h l f y refl
+fits-by x (test l f) z h = omega arith
+fits-by x accept z h = omega arith
+fits-by x reject z h = omega arith
+fits-by x (report w) z h = omega arith
+fits-by x change z h = omega arith
 
 pub fits-connect : (n : ℕ) (m : Msg) → isCI m ≡ 0 → Fits m (connect n)
-fits-connect n (connect l) h = absurd (omega arith)
-fits-connect n (initiate l f x) h = absurd (omega arith)
-fits-connect n (test l f) h = refl
-fits-connect n accept h = refl
-fits-connect n reject h = refl
-fits-connect n (report w) h = refl
-fits-connect n change h = refl
+fits-connect n m z = fits-by (connect n) m (omega (arith, call-parts m)) (λ l f y e. omega (arith, ap isCI e))
 
 pub fits-test : (n g : ℕ) (m : Msg) → isT m ≡ 0 → Fits m (test n g)
-fits-test n g (connect l) h = refl
-fits-test n g (initiate l f x) h = tt
-fits-test n g (test l f) h = absurd (omega arith)
-fits-test n g accept h = refl
-fits-test n g reject h = refl
-fits-test n g (report w) h = refl
-fits-test n g change h = refl
+fits-test n g m z = fits-by (test n g) m (omega arith) (λ l f y e. tt)
 
 pub fits-accept : (m : Msg) → isA m ≡ 0 → Fits m accept
-fits-accept (connect l) h = refl
-fits-accept (initiate l f x) h = tt
-fits-accept (test l f) h = refl
-fits-accept accept h = absurd (omega arith)
-fits-accept reject h = absurd (omega arith)
-fits-accept (report w) h = refl
-fits-accept change h = refl
+fits-accept m z = fits-by accept m (omega arith) (λ l f y e. tt)
 
 pub fits-reject : (m : Msg) → isA m ≡ 0 → Fits m reject
-fits-reject (connect l) h = refl
-fits-reject (initiate l f x) h = tt
-fits-reject (test l f) h = refl
-fits-reject accept h = absurd (omega arith)
-fits-reject reject h = absurd (omega arith)
-fits-reject (report w) h = refl
-fits-reject change h = refl
+fits-reject m z = fits-by reject m (omega arith) (λ l f y e. tt)
 
 pub fits-report : (n : ℕ) (m : Msg) → isR m ≡ 0 → Fits m (report n)
-fits-report n (connect l) h = refl
-fits-report n (initiate l f x) h = tt
-fits-report n (test l f) h = refl
-fits-report n accept h = refl
-fits-report n reject h = refl
-fits-report n (report w) h = absurd (omega arith)
-fits-report n change h = refl
+fits-report n m z = fits-by (report n) m (omega arith) (λ l f y e. tt)
 
 pub fits-change : (m : Msg) → isK m ≡ 0 → Fits m change
-fits-change (connect l) h = refl
-fits-change (initiate l f x) h = tt
-fits-change (test l f) h = refl
-fits-change accept h = refl
-fits-change reject h = refl
-fits-change (report w) h = refl
-fits-change change h = absurd (omega arith)
+fits-change m z = fits-by change m (omega arith) (λ l f y e. tt)
 
 -- an Initiate goes behind those of lower levels
 pub fits-initiate : (n g y : ℕ) (m : Msg) → ((l f x : ℕ) → m ≡ initiate l f x → l < n) → Fits m (initiate n g y)
-fits-initiate n g y (connect l) h = refl
-fits-initiate n g y (initiate l f x) h = h l f x refl
-fits-initiate n g y (test l f) h = refl
-fits-initiate n g y accept h = refl
-fits-initiate n g y reject h = refl
-fits-initiate n g y (report w) h = refl
-fits-initiate n g y change h = refl
+fits-initiate n g y m h = fits-by (initiate n g y) m (omega arith) h

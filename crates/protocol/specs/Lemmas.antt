@@ -173,77 +173,42 @@ top-max a (m ∷ r) q l f x h = ⊎-elim
 
 -- ---- from counts to messages
 
-pub some-connect : (c : List Msg) → 1 ≤ sumL isC c → (l : ℕ) × In (connect l) c
-some-connect c h = let t = some-of isC c h in which (t .0) (t .1) (t .2)
+-- one that counts for f, by its kind
+some {κ} : {C : Type κ} (f : Msg → ℕ) (c : List Msg) → 1 ≤ sumL f c
+    → ((l : ℕ) → In (connect l) c → 1 ≤ f (connect l) → C) → ((l g x : ℕ) → In (initiate l g x) c → 1 ≤ f (initiate l g x) → C)
+    → ((l g : ℕ) → In (test l g) c → 1 ≤ f (test l g) → C) → (In accept c → 1 ≤ f accept → C) → (In reject c → 1 ≤ f reject → C)
+    → ((w : ℕ) → In (report w) c → 1 ≤ f (report w) → C) → (In change c → 1 ≤ f change → C) → C
+some {C} f c h a b d e g i j = let t = some-of f c h in which (t .0) (t .1) (t .2)
   where
-    which : (m : Msg) → In m c → 1 ≤ isC m → (l : ℕ) × In (connect l) c
-    which (connect l) i o = (l, i)
-    which (initiate l f x) i o = absurd (omega arith)
-    which (test l f) i o = absurd (omega arith)
-    which accept i o = absurd (omega arith)
-    which reject i o = absurd (omega arith)
-    which (report w) i o = absurd (omega arith)
-    which change i o = absurd (omega arith)
+    which : (m : Msg) → In m c → 1 ≤ f m → C
+    which (connect l) = a l
+    which (initiate l y x) = b l y x
+    which (test l y) = d l y
+    which accept = e
+    which reject = g
+    which (report w) = i w
+    which change = j
+
+no {κ} : {C : Type κ} → 1 ≤ 0 → C
+no h = absurd (omega arith)
+
+pub some-connect : (c : List Msg) → 1 ≤ sumL isC c → (l : ℕ) × In (connect l) c
+some-connect c h = some isC c h (λ l i o. (l, i)) (λ l f x i. no) (λ l f i. no) (λ i. no) (λ i. no) (λ w i. no) (λ i. no)
 
 pub some-test : (c : List Msg) → 1 ≤ sumL isT c → (l : ℕ) × (f : ℕ) × In (test l f) c
-some-test c h = let t = some-of isT c h in which (t .0) (t .1) (t .2)
-  where
-    which : (m : Msg) → In m c → 1 ≤ isT m → (l : ℕ) × (f : ℕ) × In (test l f) c
-    which (connect l) i o = absurd (omega arith)
-    which (initiate l f x) i o = absurd (omega arith)
-    which (test l f) i o = (l, f, i)
-    which accept i o = absurd (omega arith)
-    which reject i o = absurd (omega arith)
-    which (report w) i o = absurd (omega arith)
-    which change i o = absurd (omega arith)
+some-test c h = some isT c h (λ l i. no) (λ l f x i. no) (λ l f i o. (l, f, i)) (λ i. no) (λ i. no) (λ w i. no) (λ i. no)
 
 pub some-report : (c : List Msg) → 1 ≤ sumL isR c → (w : ℕ) × In (report w) c
-some-report c h = let t = some-of isR c h in which (t .0) (t .1) (t .2)
-  where
-    which : (m : Msg) → In m c → 1 ≤ isR m → (w : ℕ) × In (report w) c
-    which (connect l) i o = absurd (omega arith)
-    which (initiate l f x) i o = absurd (omega arith)
-    which (test l f) i o = absurd (omega arith)
-    which accept i o = absurd (omega arith)
-    which reject i o = absurd (omega arith)
-    which (report w) i o = (w, i)
-    which change i o = absurd (omega arith)
+some-report c h = some isR c h (λ l i. no) (λ l f x i. no) (λ l f i. no) (λ i. no) (λ i. no) (λ w i o. (w, i)) (λ i. no)
 
 pub some-change : (c : List Msg) → 1 ≤ sumL isK c → In change c
-some-change c h = let t = some-of isK c h in which (t .0) (t .1) (t .2)
-  where
-    which : (m : Msg) → In m c → 1 ≤ isK m → In change c
-    which (connect l) i o = absurd (omega arith)
-    which (initiate l f x) i o = absurd (omega arith)
-    which (test l f) i o = absurd (omega arith)
-    which accept i o = absurd (omega arith)
-    which reject i o = absurd (omega arith)
-    which (report w) i o = absurd (omega arith)
-    which change i o = i
+some-change c h = some isK c h (λ l i. no) (λ l f x i. no) (λ l f i. no) (λ i. no) (λ i. no) (λ w i. no) (λ i o. i)
 
 pub some-answer : (c : List Msg) → 1 ≤ sumL isA c → In accept c ⊎ In reject c
-some-answer c h = let t = some-of isA c h in which (t .0) (t .1) (t .2)
-  where
-    which : (m : Msg) → In m c → 1 ≤ isA m → In accept c ⊎ In reject c
-    which (connect l) i o = absurd (omega arith)
-    which (initiate l f x) i o = absurd (omega arith)
-    which (test l f) i o = absurd (omega arith)
-    which accept i o = inl i
-    which reject i o = inr i
-    which (report w) i o = absurd (omega arith)
-    which change i o = absurd (omega arith)
+some-answer c h = some isA c h (λ l i. no) (λ l f x i. no) (λ l f i. no) (λ i o. inl i) (λ i o. inr i) (λ w i. no) (λ i. no)
 
 pub some-call : (c : List Msg) → 1 ≤ sumL isCI c → ((l : ℕ) × In (connect l) c) ⊎ ((l : ℕ) × (f : ℕ) × (x : ℕ) × In (initiate l f x) c)
-some-call c h = let t = some-of isCI c h in which (t .0) (t .1) (t .2)
-  where
-    which : (m : Msg) → In m c → 1 ≤ isCI m → ((l : ℕ) × In (connect l) c) ⊎ ((l : ℕ) × (f : ℕ) × (x : ℕ) × In (initiate l f x) c)
-    which (connect l) i o = inl (l, i)
-    which (initiate l f x) i o = inr (l, f, x, i)
-    which (test l f) i o = absurd (omega arith)
-    which accept i o = absurd (omega arith)
-    which reject i o = absurd (omega arith)
-    which (report w) i o = absurd (omega arith)
-    which change i o = absurd (omega arith)
+some-call c h = some isCI c h (λ l i o. inl (l, i)) (λ l f x i o. inr (l, f, x, i)) (λ l f i. no) (λ i. no) (λ i. no) (λ w i. no) (λ i. no)
 
 pub no-connects : (c : List Msg) → ((l : ℕ) → ¬ In (connect l) c) → sumL isC c ≡ 0
 no-connects c h = by-eq (sumL isC c) 0 (λ e. e) (λ n. let t = some-connect c (omega arith) in absurd (h (t .0) (t .1)))

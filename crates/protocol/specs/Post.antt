@@ -28,13 +28,13 @@ module _ (p : Plan) (s : State) (v k : ℕ) {m : Msg} (h : Plain m) where
   no-init : isI m ≡ 0
   no-init = omega (arith, h.no-call, call-parts m)
 
-  post-alike : Alike s posted
-  post-alike = record {
-    in-rep = λ a j w n. before isR (h.no-rep) (omega arith) a j n;
-    call-sum = snoc-sum s.ch v k m isCI (h.no-call);
-    in-init = λ a j l f x n. in-snoc2 s.ch v k m a j n;
-    behind = λ a j w n b. ⊎-elim (λ o. inl o) (λ t. inr (subst (λ x. isCI x ≡ 0) (sym (t .2)) (h.no-call))) (snoc-bef s.ch v k m a j b);
-    ahead = λ a j w n b. ⊎-elim (λ o. inl o) (λ t. absurd (omega (arith, ap isR (t .2), h.no-rep))) (snoc-bef s.ch v k m a j b);
+  post-alike : Alike p s posted
+  post-alike j a b w e n = record {
+    was = before isR (h.no-rep) (omega arith) a j n;
+    call-sum = snoc-sum s.ch v k m isCI (h.no-call) a j;
+    in-init = λ l f x o. in-snoc2 s.ch v k m a j o;
+    behind = λ x o. ⊎-elim (λ o. inl o) (λ t. inr (subst (λ x. isCI x ≡ 0) (sym (t .2)) (h.no-call))) (snoc-bef s.ch v k m a j o);
+    ahead = λ x o. ⊎-elim (λ o. inl o) (λ t. absurd (omega (arith, ap isR (t .2), h.no-rep))) (snoc-bef s.ch v k m a j o);
   }
 
   -- v is awake; m may go to a sleeper, or the receiver is awake

@@ -45,7 +45,7 @@ pub use Rattle.protocol.specs.Facts.{inf-cases, inf-awake, inf-found, te
 pub use Rattle.protocol.specs.Facts.{joined-level, out-joined, half-of, told-of, root-of, no-root, half-at, up-other, down-core, core-informed}
 pub use Rattle.protocol.specs.Facts.{no-initiate, no-connect, no-connect-decided, decided-initiate, decided-report, decided-test, rest-none}
 pub use Rattle.protocol.specs.Same.{outst-to, outst-from, live-to, covered-to, owing-same, bests-same, connects-same, initiates-same, answers-same, testing-same}
-pub use Rattle.protocol.specs.Same.{Alike, child-same, core-same, spent-same, reports-same}
+pub use Rattle.protocol.specs.Same.{Around, around-same, Alike, reports-same}
 pub use Rattle.protocol.specs.Flow.{Flow, flow, inv-asking, inv-passing}
 pub use Rattle.protocol.specs.Reopen.{reopened, flow-open}
 pub use Rattle.protocol.specs.Take.{take-alike, take-hush, take-connects, take-initiates, take-telling, take-ordered, Plain, plain-test, plain-accept, plain-reject, flow-take}

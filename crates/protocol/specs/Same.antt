@@ -2,16 +2,16 @@
 -- The results are about `set-ch s c′`; a step that also changes tables which a clause does not read has it by the same fields.
 use Prim.Native.Nat.{ℕ}
 use native.Mathlib.Omega.{arith}
-use mathlib.Core.Path.{_≡_, _∙_}
+use mathlib.Core.Path.{_≡_, refl, sym, subst, _∙_}
 use mathlib.Core.Logic.{_⊎_, inl, inr, ⊎-elim}
 use mathlib.Core.List.{List}
 use Rattle.base.specs.Pool.{sumL}
 use Rattle.message.specs.Msg.{Msg, connect, initiate, test, accept, reject, report}
-use Rattle.protocol.specs.Plan.{Plan, rank}
+use Rattle.protocol.specs.Plan.{Plan, Ends, rank}
 use Rattle.protocol.specs.State.{State, set-ch}
 use Rattle.protocol.specs.Kind.{isCI, isT, isA, isR}
 use Rattle.protocol.specs.Chan.{In, Bef}
-use Rattle.protocol.specs.Notion.{GL, Outst, Live, Covered, Child, CoreEnds, Spent}
+use Rattle.protocol.specs.Notion.{GL, Outst, Live, Covered, CoreEnds}
 use Rattle.protocol.specs.Traffic.{Connects, Initiates, Testing, Answers, Reports, Owing, Bests}
 
 -- ---- as many Reports on each channel
@@ -72,38 +72,41 @@ testing-same p s c′ old t a o = record {
 
 -- ---- the same Reports, with the same Connects and Initiates before and behind them
 
-pub record Alike (s : State) (c′ : ℕ → ℕ → List Msg) : Type 0 where
-  pub in-rep : (a j w : ℕ) → In (report w) (c′ a j) → In (report w) (s.ch a j)
-  pub call-sum : (a j : ℕ) → sumL isCI (c′ a j) ≡ sumL isCI (s.ch a j)
-  pub in-init : (a j l f x : ℕ) → In (initiate l f x) (s.ch a j) → In (initiate l f x) (c′ a j)
-  -- what stands behind a Report now: it did, or is neither
-  pub behind : (a j w : ℕ) (n : Msg) → Bef (report w) n (c′ a j) → Bef (report w) n (s.ch a j) ⊎ (isCI n ≡ 0)
+-- of a channel that was c and is l, with Report w on it
+pub record Around (c l : List Msg) (w : ℕ) : Type 0 where
+  pub was : In (report w) c
+  pub call-sum : sumL isCI l ≡ sumL isCI c
+  pub in-init : (n f x : ℕ) → In (initiate n f x) c → In (initiate n f x) l
+  -- what stands behind it now: it did, or is neither
+  pub behind : (n : Msg) → Bef (report w) n l → Bef (report w) n c ⊎ (isCI n ≡ 0)
   -- and before it
-  pub ahead : (a j w : ℕ) (n : Msg) → Bef n (report w) (c′ a j) → Bef n (report w) (s.ch a j) ⊎ (isCI n ≡ 0)
+  pub ahead : (n : Msg) → Bef n (report w) l → Bef n (report w) c ⊎ (isCI n ≡ 0)
 
-module _ (p : Plan) (s : State) (c′ : ℕ → ℕ → List Msg) (h : Alike s c′) where
-  pub child-same : (u v k w : ℕ) → Child s u v k w → Child (set-ch s c′) u v k w
-  child-same u v k w t = (t .0, t .1, t .2, t .3, t .4, t .5, t .6, h.call-sum u k ∙ t .7)
+pub around-same : {c l : List Msg} {w : ℕ} → l ≡ c → In (report w) l → Around c l w
+around-same {c} {w} q h = subst (λ x. Around c x w) (sym q)
+    (record { was = subst (λ x. In (report w) x) q h; call-sum = refl; in-init = λ n f x i. i; behind = λ n b. inl b; ahead = λ n b. inl b })
 
-  pub core-same : (u v k w : ℕ) → CoreEnds s u v k w → CoreEnds (set-ch s c′) u v k w
-  core-same u v k w t = (
+abbrev pub Alike : Plan → State → (ℕ → ℕ → List Msg) → Type 0
+Alike p s c′ = (k u v w : ℕ) → Ends p k u v → In (report w) (c′ u k) → Around (s.ch u k) (c′ u k) w
+
+module _ (p : Plan) (s : State) (c′ : ℕ → ℕ → List Msg) where
+  core-same : (u v k w : ℕ) → Around (s.ch u k) (c′ u k) w → CoreEnds s u v k w → CoreEnds (set-ch s c′) u v k w
+  core-same u v k w h t = (
     t .0,
     t .1,
     t .2,
     t .3,
     t .4,
-    λ n b. ⊎-elim (λ o. t .5 n o) (λ z. z) (h.behind u k w n b),
-    ⊎-elim (λ y. inl (y .0, h.call-sum u k ∙ y .1)) (λ y. inr (y .0, h.in-init u k (GL s v) k 1 (y .1))) (t .6),
+    λ n b. ⊎-elim (λ o. t .5 n o) (λ z. z) (h.behind n b),
+    ⊎-elim (λ y. inl (y .0, h.call-sum ∙ y .1)) (λ y. inr (y .0, h.in-init (GL s v) k 1 (y .1))) (t .6),
   )
 
-  pub spent-same : (u v k w : ℕ) → Spent p s u v k w → Spent p (set-ch s c′) u v k w
-  spent-same u v k w t = (t .0, t .1, t .2, t .3, λ n b. ⊎-elim (λ o. t .4 n o) (λ z. z) (h.ahead u k w n b), t .5)
-
-  pub reports-same : Reports p s → Reports p (set-ch s c′)
-  reports-same o = record {
-    r1r = λ k u v w e n. o.r1r k u v w e (h.in-rep u k w n);
-    r1j = λ k u v w e n. o.r1j k u v w e (h.in-rep u k w n);
-    r1 = λ k u v w e n. ⊎-elim (λ t. inl (child-same u v k w t))
-        (λ y. inr (⊎-elim (λ t. inl (core-same u v k w t)) (λ t. inr (spent-same u v k w t)) y)) (o.r1 k u v w e (h.in-rep u k w n));
-    r1c = λ k u v w e n a b g. core-same u v k w (o.r1c k u v w e (h.in-rep u k w n) a b g);
+  pub reports-same : Alike p s c′ → Reports p s → Reports p (set-ch s c′)
+  reports-same a o = record {
+    r1r = λ k u v w e n. o.r1r k u v w e (a k u v w e n .was);
+    r1j = λ k u v w e n. o.r1j k u v w e (a k u v w e n .was);
+    r1 = λ k u v w e n. let h = a k u v w e n in ⊎-elim (λ t. inl (t .0, t .1, t .2, t .3, t .4, t .5, t .6, h.call-sum ∙ t .7))
+        (⊎-elim (λ t. inr (inl (core-same u v k w h t)))
+        (λ t. inr (inr (t .0, t .1, t .2, t .3, λ m b. ⊎-elim (λ y. t .4 m y) (λ z. z) (h.ahead m b), t .5)))) (o.r1 k u v w e (h.was));
+    r1c = λ k u v w e n f d g. let h = a k u v w e n in core-same u v k w h (o.r1c k u v w e (h.was) f d g);
   }

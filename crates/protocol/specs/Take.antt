@@ -45,13 +45,13 @@ module _ (p : Plan) (s : State) (u k : ℕ) {m : Msg} {r : List Msg} (q : s.ch u
     no-init : isI m ≡ 0
     no-init = omega (arith, call-parts m)
 
-    pub take-alike : Alike s taken
-    take-alike = record {
-      in-rep = λ a j w n. pop-in s.ch u k q a j n;
-      call-sum = pop-sum s.ch u k q isCI h;
-      in-init = λ a j l f x n. kept isI no-init (omega arith) a j n;
-      behind = λ a j w n b. inl (pop-bef s.ch u k q a j b);
-      ahead = λ a j w n b. inl (pop-bef s.ch u k q a j b);
+    pub take-alike : Alike p s taken
+    take-alike j a b w e n = record {
+      was = pop-in s.ch u k q a j n;
+      call-sum = pop-sum s.ch u k q isCI h a j;
+      in-init = λ l f x o. kept isI no-init (omega arith) a j o;
+      behind = λ m o. inl (pop-bef s.ch u k q a j o);
+      ahead = λ m o. inl (pop-bef s.ch u k q a j o);
     }
 
     pub take-telling : Telling p s → Telling p (set-ch s taken)

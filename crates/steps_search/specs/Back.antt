@@ -87,15 +87,15 @@ module _ {p : Plan} {s : State} (i : Inv p s) {u v k : ℕ} {m : Msg} (a b : Lis
   head : In m (s.ch u k)
   head = pop-head s.ch u k q
 
-  alike : Alike s c′
-  alike = record {
-    in-rep = λ w j n h. old w j h;
-    call-sum = λ w j. same isCI w j;
-    in-init = λ w j l f x h. new w j h;
-    behind = λ w j n y h. ⊎-elim (λ o. inl o)
+  alike : Alike p s c′
+  alike j w v n e o = record {
+    was = old w j o;
+    call-sum = same isCI w j;
+    in-init = λ l f x h. new w j h;
+    behind = λ y h. ⊎-elim (λ o. inl o)
         (λ t. inr (subst (λ z. isCI z ≡ 0) (sym (t .2)) (behind m n blocked head (at w j (t .0) (t .1) (bef-behind (t .3))))))
         (rot-bef s.ch u k a b q w j h);
-    ahead = λ w j n y h. ⊎-elim (λ o. inl o)
+    ahead = λ y h. ⊎-elim (λ o. inl o)
         (λ t. inr (none-in isCI (free m n blocked head (t .2)) (at w j (t .0) (t .1) (bef-behind (t .3)))))
         (rot-bef s.ch u k a b q w j h);
   }

@@ -5,11 +5,11 @@ use Rattle.protocol.specs.Prelude.{Msg, connect, initiate, report}
 use Rattle.protocol.specs.Prelude.{Plan, Ends, joins-lt, flip, other-end, ends-two, State, Idle, send, pop}
 use Rattle.protocol.specs.Prelude.{isC, isI, isT, isA, isR, isK, In}
 use Rattle.protocol.specs.Prelude.{GL, GC, Inf, Jn, Half, Inv, mark-awake, in-sum}
-use Rattle.protocol.specs.Prelude.{connects-same, answers-same, testing-same, owing-same, bests-same, inv-passing}
+use Rattle.protocol.specs.Prelude.{connects-same, answers-same, testing-same, around-same, reports-same, owing-same, bests-same, inv-passing}
 use Rattle.protocol.specs.Decisions.{HalfOk}
 use Rattle.protocol.specs.Search.{LowOk}
 use Rattle.protocol.specs.Traffic.{InitOk, Tokens, Initiates, Telling, Reports}
-use Rattle.steps_tell.specs.Laws.{six, init-eq, reports-far}
+use Rattle.steps_tell.specs.Laws.{six, init-eq}
 use Rattle.steps_tell.specs.Reply as Y
 
 module _ {p : Plan} {s : State} (i : Inv p s) {u v k l : ℕ} {r : List Msg} (idle : Idle s) (ends : Ends p k u v) (awake : s.st v ≢ 0) (q : s.ch u k ≡ connect l ∷ r)
@@ -154,7 +154,8 @@ module _ {p : Plan} {s : State} (i : Inv p s) {u v k l : ℕ} {r : List Msg} (id
           (⊎-elim (λ t. inr (inl (kept isI refl (omega arith) y j t))) (λ t. inr (inr t))) (i.T4.t4 j x y e b g)
 
   R1′ : Reports p S′
-  R1′ = reports-far p s c′ (λ j w x n e h. let o = old isR refl (omega arith) w j h in let d = no-report j w x n e o in Y.off i ends q (s.lev v + 1) k 1 w j (inr d) (inr d)) i.R1
+  R1′ = reports-same p s c′
+      (λ j w x n e h. let d = no-report j w x n e (old isR refl (omega arith) w j h) in around-same (Y.off i ends q (s.lev v + 1) k 1 w j (inr d) (inr d)) h) i.R1
 
   pub inv-core-reply : Inv p S′
   inv-core-reply = inv-passing i c′ (record {
