@@ -1,28 +1,37 @@
-//! The compiled Rattle plan check and tree builder beside plain Rust, as ratios in one run: the same inputs, both
-//! built for release, in turn. A benchmark, not a test.
+//! The compiled Rattle plan check, tree builder and rounds beside plain Rust, as ratios in one run: the same inputs,
+//! both built for release, in turn. A benchmark, not a test. `bench rattle` and `bench rust` make one side's runs of
+//! rounds alone, for a profiler.
 
+#[path = "../fields/library.rs"]
+#[allow(dead_code)]
+mod fields;
 #[path = "../ground/library.rs"]
 #[allow(dead_code)]
 mod library;
 mod plain;
+mod rounds;
 
-use oracle::plans::{connected, plan, Readings};
+use fields::Record;
+use oracle::field::{self, WAKE};
+use oracle::fields::{drawn, spoil};
+use oracle::plans::{connected, good, plan, Readings};
 use oracle::rng::Rng;
+use std::collections::BTreeSet;
 use std::hint::black_box;
 use std::time::Instant;
 
 const PLANS: usize = 100;
 const REPETITIONS: usize = 201;
+const RUNS: usize = 21;
 
-type Work<'a> = &'a mut dyn FnMut(&[u8]) -> u32;
+/// One side of a comparison: microseconds of one call on input i. A call is short beside a time slice, so another
+/// process disturbs few of them.
+type Side<'a> = &'a mut dyn FnMut(usize) -> f64;
 
-/// Microseconds of one call. It is short beside a time slice, so another process disturbs few of them.
-fn time(bytes: &[u8], work: Work) -> f64 {
+fn micros<T>(call: impl FnOnce() -> T) -> (f64, T) {
     let start = Instant::now();
-    let answer = black_box(work(black_box(bytes)));
-    let taken = start.elapsed();
-    assert_eq!(answer, 0);
-    taken.as_secs_f64() * 1e6
+    let result = black_box(call());
+    (start.elapsed().as_secs_f64() * 1e6, result)
 }
 
 /// The value that a share of all lies below.
@@ -35,47 +44,185 @@ fn quantile(times: &mut [f64], share: f64) -> f64 {
 /// are quicker, and not alike on both sides. The sides take turns in going first. A plan's time is the median of its
 /// repetitions, a side's the mean of its plans' times. The same by the first quartile shows whether the machine was
 /// quiet: the two ratios should be alike.
-fn row(name: &str, inputs: &[Vec<u8>], rattle: Work, rust: Work) {
-    let mut times = vec![[Vec::new(), Vec::new()]; inputs.len()];
-    for repetition in 0..REPETITIONS {
-        for (bytes, [ours, theirs]) in inputs.iter().zip(&mut times) {
+fn row(name: &str, repetitions: usize, rattle: Side, rust: Side) {
+    let mut times = vec![[Vec::new(), Vec::new()]; PLANS];
+    for repetition in 0..repetitions {
+        for (i, [ours, theirs]) in times.iter_mut().enumerate() {
             if repetition % 2 == 0 {
-                ours.push(time(bytes, rattle));
-                theirs.push(time(bytes, rust));
+                ours.push(rattle(i));
+                theirs.push(rust(i));
             } else {
-                theirs.push(time(bytes, rust));
-                ours.push(time(bytes, rattle));
+                theirs.push(rust(i));
+                ours.push(rattle(i));
             }
         }
     }
     let mut mean = |side: usize, share: f64| {
         let total: f64 = times.iter_mut().map(|sides| quantile(&mut sides[side], share)).sum();
-        total / inputs.len() as f64
+        total / PLANS as f64
     };
     let (a, b, c, d) = (mean(0, 0.5), mean(1, 0.5), mean(0, 0.25), mean(1, 0.25));
     println!("| {name} | {a:.1} | {b:.1} | {:.2} | {:.2} |", a / b, c / d);
 }
 
-fn main() {
-    let mut rng = Rng::new(13);
-    let mut draw = |readings| {
-        let pairs = connected(&mut rng, 192, 600);
-        plan(&mut rng, 192, pairs, readings).encode()
-    };
-    let wide: Vec<Vec<u8>> = (0..PLANS).map(|_| draw(Readings::Wide)).collect();
-    let few: Vec<Vec<u8>> = (0..PLANS).map(|_| draw(Readings::Few)).collect();
-    for bytes in wide.iter().chain(&few) {
+/// A side that works on a plan's bytes and answers 0.
+fn on_bytes<'a>(inputs: &'a [Vec<u8>], mut work: impl FnMut(&[u8]) -> u32 + 'a) -> impl FnMut(usize) -> f64 + 'a {
+    move |i| {
+        let (time, answer) = micros(|| work(black_box(&inputs[i])));
+        assert_eq!(answer, 0);
+        time
+    }
+}
+
+/// A field and its words.
+type Start = (Record, Vec<u64>);
+
+type Rounds = fn(&mut Record, &mut [u64], u16) -> (usize, u32);
+
+/// The field of a plan's bytes, module 0 awake.
+fn woken(rng: &mut Rng, bytes: &[u8]) -> Start {
+    let mut words = vec![0; 7920];
+    let mut field = field::setup(bytes, &mut words).unwrap();
+    field.step(&mut words, WAKE, 0).unwrap();
+    (Record::of(&field, rng), words)
+}
+
+/// What a run answers and leaves.
+fn outcome(start: &Start, limit: u16, run: Rounds) -> ((usize, u32), Start) {
+    let (mut record, mut words) = start.clone();
+    (run(&mut record, &mut words, limit), (record, words))
+}
+
+/// A side that runs rounds from a woken module to rest, the copy of the start not counted.
+fn on_fields<'a>(starts: &'a [Start], limit: u16, run: Rounds) -> impl FnMut(usize) -> f64 + 'a {
+    move |i| {
+        let (mut record, mut words) = starts[i].clone();
+        let (time, answer) = micros(|| run(black_box(&mut record), &mut words, limit));
+        assert_eq!(answer.1, 0);
+        time
+    }
+}
+
+/// Both sides build the same trees and come to the same rounds, cells, marks, sent count and words: on the inputs that
+/// are timed, and on made-up fields, whose runs end by refusals too.
+fn agree(inputs: &Inputs) {
+    for bytes in inputs.wide.iter().chain(&inputs.few) {
         let (mut a, mut b) = ([0; 600], [0; 600]);
         assert_eq!((library::tree(bytes, &mut a), plain::tree(bytes, &mut b)), (0, 0));
         assert_eq!(a, b, "both sides build the same tree");
     }
-    println!("{PLANS} plans of 192 modules and 600 links, medians of {REPETITIONS} calls, microseconds a call\n");
+    let same = |start: &Start, limit: u16| {
+        let (rattle, rust) = (outcome(start, limit, Record::rounds), outcome(start, limit, rounds::run));
+        assert!(rattle == rust, "both sides come to the same end");
+        rattle.0
+    };
+    for start in inputs.wide_starts.iter().chain(&inputs.few_starts) {
+        assert!(matches!(same(start, 65535), (1.., 0)), "a run from a woken module is not refused");
+    }
+    let rng = &mut Rng::new(31);
+    let mut ends = BTreeSet::new();
+    for _ in 0..600 {
+        let kind = rng.pick(&["small", "medium", "full"]);
+        let plan = good(rng, kind);
+        let (mut field, mut words) = drawn(rng, &plan);
+        if rng.once_in(6) {
+            spoil(rng, &mut field, &mut words);
+        }
+        ends.insert(same(&(Record::of(&field, rng), words), 3).1);
+    }
+    assert_eq!(Vec::from_iter(ends), [0, 31, 32, 33]);
+}
+
+/// The plans' bytes, and the fields with module 0 awake: readings from 0 to 2000, and readings 0 to 2.
+struct Inputs {
+    wide: Vec<Vec<u8>>,
+    few: Vec<Vec<u8>>,
+    wide_starts: Vec<Start>,
+    few_starts: Vec<Start>,
+}
+
+impl Inputs {
+    /// The same in each run.
+    fn draw() -> Inputs {
+        let mut rng = Rng::new(13);
+        let mut draw = |readings| {
+            let pairs = connected(&mut rng, 192, 600);
+            plan(&mut rng, 192, pairs, readings).encode()
+        };
+        let wide: Vec<Vec<u8>> = (0..PLANS).map(|_| draw(Readings::Wide)).collect();
+        let few: Vec<Vec<u8>> = (0..PLANS).map(|_| draw(Readings::Few)).collect();
+        let wide_starts: Vec<Start> = wide.iter().map(|bytes| woken(&mut rng, bytes)).collect();
+        let few_starts: Vec<Start> = few.iter().map(|bytes| woken(&mut rng, bytes)).collect();
+        Inputs { wide, few, wide_starts, few_starts }
+    }
+}
+
+fn tables(inputs: &Inputs) {
+    println!("{PLANS} plans of 192 modules and 600 links, microseconds a call, medians of {REPETITIONS} calls");
+    println!("(of {RUNS} for rounds to rest)\n");
     println!("| work | Rattle | plain Rust | ratio | ratio by first quartiles |");
     println!("|---|---|---|---|---|");
-    row("check", &wide, &mut library::plan_check, &mut plain::check);
+    let check = &mut on_bytes(&inputs.wide, plain::check);
+    row("check", REPETITIONS, &mut on_bytes(&inputs.wide, library::plan_check), check);
     let (mut a, mut b) = ([0; 600], [0; 600]);
-    let mut rattle = |bytes: &[u8]| library::tree(bytes, &mut a);
-    let mut rust = |bytes: &[u8]| plain::tree(bytes, &mut b);
-    row("check and tree, readings 0 to 2000", &wide, &mut rattle, &mut rust);
-    row("check and tree, many equal costs", &few, &mut rattle, &mut rust);
+    let mut tree = |name: &str, inputs: &[Vec<u8>]| {
+        let rattle = &mut on_bytes(inputs, |bytes| library::tree(bytes, &mut a));
+        row(name, REPETITIONS, rattle, &mut on_bytes(inputs, |bytes| plain::tree(bytes, &mut b)));
+    };
+    tree("check and tree, readings 0 to 2000", &inputs.wide);
+    tree("check and tree, many equal costs", &inputs.few);
+    let rounds = |name: &str, starts: &[Start], limit: u16, repetitions: usize| {
+        let rattle = &mut on_fields(starts, limit, Record::rounds);
+        row(name, repetitions, rattle, &mut on_fields(starts, limit, rounds::run));
+    };
+    rounds("a run of no round: 31 alone", &inputs.wide_starts, 0, REPETITIONS);
+    rounds("rounds to rest, readings 0 to 2000", &inputs.wide_starts, 65535, RUNS);
+    rounds("rounds to rest, many equal costs", &inputs.few_starts, 65535, RUNS);
+}
+
+/// What a run to rest does, on average over the plans: it is taken round by round.
+fn work(starts: &[Start]) {
+    let (mut rounds, mut waiting, mut sent) = (0, 0, 0);
+    for start in starts {
+        let (mut record, mut words) = start.clone();
+        loop {
+            waiting += field::waiting(&words);
+            let (done, refusal) = record.rounds(&mut words, 1);
+            assert_eq!(refusal, 0);
+            if done == 0 {
+                break;
+            }
+            rounds += done;
+        }
+        sent += record.sent as usize;
+    }
+    let each = |n: usize| n as f64 / starts.len() as f64;
+    println!("\nA run to rest, readings 0 to 2000, mean of {} plans:\n", starts.len());
+    println!(
+        "| rounds | messages sent | words waiting, mean over rounds | words passed over for 1,200 directed links |"
+    );
+    println!("|---|---|---|---|");
+    let mean = waiting as f64 / rounds as f64;
+    println!("| {:.0} | {:.0} | {mean:.0} | {:.2} million |", each(rounds), each(sent), each(1200 * waiting) / 1e6);
+}
+
+/// One side's runs to rest, five on each plan, for a sampling profiler.
+fn profile(starts: &[Start], run: Rounds) {
+    let mut side = on_fields(starts, 65535, run);
+    for i in 0..5 * PLANS {
+        side(i % PLANS);
+    }
+}
+
+fn main() {
+    let inputs = Inputs::draw();
+    match std::env::args().nth(1).as_deref() {
+        Some("rattle") => profile(&inputs.wide_starts, Record::rounds),
+        Some("rust") => profile(&inputs.wide_starts, rounds::run),
+        _ => {
+            agree(&inputs);
+            tables(&inputs);
+            work(&inputs.wide_starts);
+        }
+    }
 }

@@ -1,5 +1,7 @@
 //! The other side of the benchmark: the same work as one would write it in plain safe Rust.
 
+use crate::fields::Record;
+
 /// The parts that links have joined so far, by their roots, with path halving.
 struct Parts([u8; 192]);
 
@@ -46,22 +48,27 @@ pub fn check(bytes: &[u8]) -> u32 {
     if l > 600 || length != 4 + 8 * l {
         return 15;
     }
+    links_check(n, bytes[7..].chunks_exact(8).map(|b| [be16(b, 0), be16(b, 2), be16(b, 4), be16(b, 6)]))
+}
+
+/// 16 to 19 of links given by their ends and readings, or 0.
+fn links_check(n: u16, links: impl Iterator<Item = [u16; 4]>) -> u32 {
     let mut parts = Parts::new();
     let mut left = n;
     let mut before = None;
-    for link in bytes[7..].chunks_exact(8) {
-        let ends = (be16(link, 0), be16(link, 2));
-        if ends.0 >= ends.1 || ends.1 >= n {
+    for [lower, higher, near, far] in links {
+        let ends = (lower, higher);
+        if lower >= higher || higher >= n {
             return 16;
         }
         if before >= Some(ends) {
             return 17;
         }
-        if be16(link, 4) > 2000 || be16(link, 6) > 2000 {
+        if near > 2000 || far > 2000 {
             return 18;
         }
         before = Some(ends);
-        if parts.join(ends.0 as usize, ends.1 as usize) {
+        if parts.join(lower as usize, higher as usize) {
             left -= 1;
         }
     }
@@ -69,6 +76,17 @@ pub fn check(bytes: &[u8]) -> u32 {
         return 19;
     }
     0
+}
+
+/// The plan of a record: 14 to 19, or 0.
+pub fn check_columns(r: &Record) -> u32 {
+    if r.modules == 0 || r.modules > 192 {
+        return 14;
+    }
+    if r.links > 600 {
+        return 15;
+    }
+    links_check(r.modules, (0..r.links as usize).map(|k| [r.lower[k], r.higher[k], r.near[k], r.far[k]]))
 }
 
 /// The check, then Kruskal with the standard sort and union-find; 20 for a buffer that is not L bytes.
