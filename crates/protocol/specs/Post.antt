@@ -17,6 +17,22 @@ use Rattle.protocol.specs.Take.{Plain}
 use Rattle.protocol.specs.Traffic.{Hush, Tokens, Telling, Ordered}
 use Rattle.protocol.specs.Flow.{Flow}
 
+-- m is neither Connect nor Initiate
+pub post-telling : (p : Plan) (s : State) (v k : ℕ) (m : Msg) → isCI m ≡ 0 → Telling p s → Telling p (set-ch s (snoc s.ch v k m))
+post-telling p s v k m h o = record {
+  u2 = λ j w c e b n. o.u2 j w c e b n ∙ sym (snoc-top s.ch v k m no-init (s.lev c) w j);
+  t2i = λ j w c e b t n l. in-snoc2 s.ch v k m w j (o.t2i j w c e b t n l);
+  t4 = λ j x y e b g. ⊎-elim (λ t. inl (omega (arith, same x j))) (⊎-elim (λ t. inr (inl (in-snoc2 s.ch v k m y j t))) (λ t. inr (inr t))) (o.t4 j x y e b g);
+  t4n = λ j x y e b g n. let t = o.t4n j x y e b g (omega (arith, same x j)) in
+      (t .0, λ z. t .1 (snoc-old s.ch v k m y j (λ q. omega (arith, ap isI q, no-init)) z));
+}
+  where
+    no-init : isI m ≡ 0
+    no-init = omega (arith, call-parts m)
+
+    same : (w j : ℕ) → sumL isC (snoc s.ch v k m w j) ≡ sumL isC (s.ch w j)
+    same = snoc-sum s.ch v k m isC (omega (arith, call-parts m))
+
 module _ (p : Plan) (s : State) (v k : ℕ) {m : Msg} (h : Plain m) where
   abbrev posted : ℕ → ℕ → List Msg
   posted = snoc s.ch v k m
@@ -24,9 +40,6 @@ module _ (p : Plan) (s : State) (v k : ℕ) {m : Msg} (h : Plain m) where
   -- those of the other kinds were there
   pub before : {x : Msg} (f : Msg → ℕ) → f m ≡ 0 → 1 ≤ f x → (w j : ℕ) → In x (posted w j) → In x (s.ch w j)
   before f z o w j n = snoc-old s.ch v k m w j (λ e. omega (arith, ap f e)) n
-
-  no-init : isI m ≡ 0
-  no-init = omega (arith, h.no-call, call-parts m)
 
   post-alike : Alike p s posted
   post-alike j a b w e n = record {
@@ -61,17 +74,6 @@ module _ (p : Plan) (s : State) (v k : ℕ) {m : Msg} (h : Plain m) where
       same : (w j : ℕ) → sumL isR (posted w j) ≡ sumL isR (s.ch w j)
       same = snoc-sum s.ch v k m isR (h.no-rep)
 
-  post-telling : Telling p s → Telling p (set-ch s posted)
-  post-telling o = record {
-    u2 = λ j w c e b n. o.u2 j w c e b n ∙ sym (snoc-top s.ch v k m no-init (s.lev c) w j);
-    t2i = λ j w c e b t n l. in-snoc2 s.ch v k m w j (o.t2i j w c e b t n l);
-    t4 = λ j x y e b g. ⊎-elim (λ t. inl (omega (arith, same x j))) (⊎-elim (λ t. inr (inl (in-snoc2 s.ch v k m y j t))) (λ t. inr (inr t))) (o.t4 j x y e b g);
-    t4n = λ j x y e b g n. let t = o.t4n j x y e b g (omega (arith, same x j)) in (t .0, λ z. t .1 (before isI no-init (omega arith) y j z));
-  }
-    where
-      same : (w j : ℕ) → sumL isC (posted w j) ≡ sumL isC (s.ch w j)
-      same = snoc-sum s.ch v k m isC (omega (arith, h.no-call, call-parts m))
-
   -- whatever is on the channel may stand before m
   post-ordered : ((x : Msg) → In x (s.ch v k) → Fits x m) → Ordered p s → Ordered p (set-ch s posted)
   post-ordered g o = record {
@@ -85,8 +87,8 @@ module _ (p : Plan) (s : State) (v k : ℕ) {m : Msg} (h : Plain m) where
     G6c = post-hush a b o.G6c;
     Dc = post-tokens c o.Dc;
     C1 = connects-same p s posted (λ w j l n. before isC (omega (arith, h.no-call, call-parts m)) (omega arith) w j n) o.C1;
-    I1 = initiates-same p s posted (λ w j l f x n. before isI no-init (omega arith) w j n) o.I1;
-    T4 = post-telling o.T4;
+    I1 = initiates-same p s posted (λ w j l f x n. before isI (omega (arith, h.no-call, call-parts m)) (omega arith) w j n) o.I1;
+    T4 = post-telling p s v k m (h.no-call) o.T4;
     R1 = reports-same p s posted post-alike o.R1;
     F4c = owing-same p s posted (snoc-sum s.ch v k m isR (h.no-rep)) o.F4c;
     Q1 = post-ordered d o.Q1;

@@ -1,6 +1,6 @@
 -- Channels c′ in which the Reports are as they were: what the clauses on Reports, counts and best weights say stays.
 -- The results are about `set-ch s c′`; a step that also changes tables which a clause does not read has it by the same fields.
-use Prim.Native.Nat.{ℕ}
+use Prim.Native.Nat.{ℕ, _≤_}
 use native.Mathlib.Omega.{arith}
 use mathlib.Core.Path.{_≡_, refl, sym, subst, _∙_}
 use mathlib.Core.Logic.{_⊎_, inl, inr, ⊎-elim}
@@ -14,35 +14,43 @@ use Rattle.protocol.specs.Chan.{In, Bef}
 use Rattle.protocol.specs.Notion.{GL, Outst, Live, Covered, CoreEnds}
 use Rattle.protocol.specs.Traffic.{Connects, Initiates, Testing, Answers, Reports, Owing, Bests}
 
+-- ---- Reports to come, live best weights, what covers an edge
+
+pub outst-ch : (s : State) (c′ : ℕ → ℕ → List Msg) (c k : ℕ) → (1 ≤ sumL isR (s.ch c k) → 1 ≤ sumL isR (c′ c k)) → Outst s c k → Outst (set-ch s c′) c k
+outst-ch s c′ c k h (inl t) = inl (t .0, ⊎-elim (λ f. inl f) (λ r. inr (h r)) (t .1))
+outst-ch s c′ c k h (inr t) = inr t
+
+pub live-ch : (s : State) (c′ : ℕ → ℕ → List Msg) (x : ℕ) → (1 ≤ sumL isR (s.ch x (s.ib x)) → Live (set-ch s c′) x) → Live s x → Live (set-ch s c′) x
+live-ch s c′ x h (inl f) = inl f
+live-ch s c′ x h (inr (inl g)) = inr (inl g)
+live-ch s c′ x h (inr (inr r)) = h r
+
+-- the last of the four cases of b2
+pub last : {A B C D E : Type 0} → (D → E) → A ⊎ (B ⊎ (C ⊎ D)) → A ⊎ (B ⊎ (C ⊎ E))
+last f (inl a) = inl a
+last f (inr (inl b)) = inr (inl b)
+last f (inr (inr (inl c))) = inr (inr (inl c))
+last f (inr (inr (inr d))) = inr (inr (inr (f d)))
+
 -- ---- as many Reports on each channel
 
 module _ (p : Plan) (s : State) (c′ : ℕ → ℕ → List Msg) (rep : (w j : ℕ) → sumL isR (c′ w j) ≡ sumL isR (s.ch w j)) where
-  pub outst-to : (c k : ℕ) → Outst s c k → Outst (set-ch s c′) c k
-  outst-to c k (inl t) = inl (t .0, ⊎-elim (λ f. inl f) (λ r. inr (omega (arith, rep c k))) (t .1))
-  outst-to c k (inr t) = inr t
-
-  pub outst-from : (c k : ℕ) → Outst (set-ch s c′) c k → Outst s c k
-  outst-from c k (inl t) = inl (t .0, ⊎-elim (λ f. inl f) (λ r. inr (omega (arith, rep c k))) (t .1))
-  outst-from c k (inr t) = inr t
-
   pub live-to : (x : ℕ) → Live s x → Live (set-ch s c′) x
-  live-to x (inl f) = inl f
-  live-to x (inr (inl g)) = inr (inl g)
-  live-to x (inr (inr r)) = inr (inr (omega (arith, rep x (s.ib x))))
+  live-to x = live-ch s c′ x (λ r. inr (inr (omega (arith, rep x (s.ib x)))))
 
   pub covered-to : (u n : ℕ) → Covered p s u n → Covered p (set-ch s c′) u n
   covered-to u n t = (t .0, t .1, t .2, t .3, live-to (t .0) (t .4), t .5)
 
   pub owing-same : Owing p s → Owing p (set-ch s c′)
   owing-same o = record {
-    f4y = λ k v c e n. let t = o.f4y k v c e n in (t .0, t .1, t .2, outst-to c k (t .3));
-    f4n = λ k v c e h j b t. o.f4n k v c e h j b (outst-from c k t);
+    f4y = λ k v c e n. let t = o.f4y k v c e n in (t .0, t .1, t .2, outst-ch s c′ c k (λ r. omega (arith, rep c k)) (t .3));
+    f4n = λ k v c e h j b t. o.f4n k v c e h j b (outst-ch (set-ch s c′) s.ch c k (λ r. omega (arith, rep c k)) t);
   }
 
   pub bests-same : Bests p s → Bests p (set-ch s c′)
   bests-same o = record {
     b1e = λ v h n d. let t = o.b1e v h n d in (t .0, t .1, t .2, t .3, t .4, t .5, t .6, t .7, rep (t .0) (s.be v) ∙ t .8);
-    b2 = λ k u w e m d g. ⊎-elim (λ t. inl t) (λ t. inr (⊎-elim (λ o. inl o) (λ r. inr (⊎-elim (λ x. inl x) (λ c. inr (covered-to u (rank p k) c)) r)) t)) (o.b2 k u w e m d g);
+    b2 = λ k u w e m d g. last (covered-to u (rank p k)) (o.b2 k u w e m d g);
   }
 
 -- ---- no new Connect, Initiate, answer
@@ -90,7 +98,7 @@ abbrev pub Alike : Plan → State → (ℕ → ℕ → List Msg) → Type 0
 Alike p s c′ = (k u v w : ℕ) → Ends p k u v → In (report w) (c′ u k) → Around (s.ch u k) (c′ u k) w
 
 module _ (p : Plan) (s : State) (c′ : ℕ → ℕ → List Msg) where
-  core-same : (u v k w : ℕ) → Around (s.ch u k) (c′ u k) w → CoreEnds s u v k w → CoreEnds (set-ch s c′) u v k w
+  pub core-same : (u v k w : ℕ) → Around (s.ch u k) (c′ u k) w → CoreEnds s u v k w → CoreEnds (set-ch s c′) u v k w
   core-same u v k w h t = (
     t .0,
     t .1,

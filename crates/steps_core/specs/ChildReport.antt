@@ -5,7 +5,7 @@ use Rattle.protocol.specs.Prelude.{Msg, none, report}
 use Rattle.protocol.specs.Prelude.{Plan, Ends, key, rank, joins-lt, flip, ends-two, other-end}
 use Rattle.protocol.specs.Prelude.{State, Idle, Better, pop, bested, set-ch, set-fc, set-owe, set-op}
 use Rattle.protocol.specs.Prelude.{isR, kinds, In, else-same, pop-in, in-pop, pop-le, pop-all}
-use Rattle.protocol.specs.Prelude.{GL, GC, Inf, Jn, Outst, Live, Covered, Child, Inv, no-root, reports-same, reports-best, take-alike}
+use Rattle.protocol.specs.Prelude.{GL, GC, Inf, Jn, Outst, Live, Covered, Child, Inv, no-root, reports-same, reports-best, take-alike, outst-ch, live-ch, last}
 use Rattle.protocol.specs.Search.{Pending, Counts}
 use Rattle.protocol.specs.Traffic.{Tokens, Reports, Owing, Bests}
 use Rattle.protocol.specs.Weigh as W
@@ -142,28 +142,23 @@ module _ {p : Plan} {s : State} (i : Inv p s) {u v k w b e : ℕ} {r : List Msg}
       settled (inr t) = omega (arith, t .0, inf-u .1)
 
       outst-from : (c j : ℕ) → Outst S′ c j → Outst s c j
-      outst-from c j (inl t) = inl (t .0, ⊎-elim (λ f. inl f) (λ l. inr (omega (arith, pop-le s.ch u k q isR c j))) (t .1))
-      outst-from c j (inr t) = inr t
+      outst-from c j = outst-ch S′ s.ch c j (λ l. omega (arith, pop-le s.ch u k q isR c j))
 
       outst-to : (j x c : ℕ) → Ends p j x c → (v ≢ x) ⊎ (k ≢ j) → Outst s c j → Outst S′ c j
       outst-to j x c f d o =
           let y : c′ c j ≡ s.ch c j = else-same s.ch u k r c j (by-eq k j
           (λ z. inl (λ a. ⊎-elim (λ n. n (other-end ends (flip f) a z)) (λ n. n z) d)) (λ n. inr n)) in
-          ⊎-elim (λ t. inl (t .0, ⊎-elim (λ f. inl f) (λ l. inr (subst (λ a. 1 ≤ sumL isR a) (sym y) l)) (t .1))) (λ t. inr t) o
+          outst-ch s c′ c j (λ l. subst (λ a. 1 ≤ sumL isR a) (sym y) l) o
 
   B2′ : Bests p S′
   B2′ = record {
     b1e = W.best-edge i (idle .2) find (flip ends) better leaves c′ (pop-le s.ch u k q isR)
         (λ n d. (u, flip ends, joined, away, inf-u, child .1, W.bw-found i (idle .2) find (flip ends) better leaves u found-u ∙ best-u, found-u, C.silent i ends q));
-    b2 = λ j x y f m d g. ⊎-elim (λ t. inl t)
-        (⊎-elim (λ t. inr (inl t)) (⊎-elim (λ t. inr (inr (inl t))) (λ t. inr (inr (inr (cover x (rank p j) t))))))
-        (i.B2.b2 j x y f m d g);
+    b2 = λ j x y f m d g. last (cover x (rank p j)) (i.B2.b2 j x y f m d g);
   }
     where
       live : (x : ℕ) → u ≢ x → Live s x → Live S′ x
-      live x n (inl f) = inl f
-      live x n (inr (inl g)) = inr (inl g)
-      live x n (inr (inr l)) = inr (inr (subst (λ a. 1 ≤ sumL isR a) (sym (else-same s.ch u k r x (s.ib x) (inl n))) l))
+      live x n = live-ch s c′ x (λ l. inr (inr (subst (λ a. 1 ≤ sumL isR a) (sym (else-same s.ch u k r x (s.ib x) (inl n))) l)))
 
       -- the best of u, whose Report is gone, is weighed
       cover : (x n : ℕ) → Covered p s x n → Covered p S′ x n

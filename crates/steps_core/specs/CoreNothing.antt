@@ -3,7 +3,7 @@ use Rattle.protocol.specs.Prelude.{ℕ, _≤_, _<_, arith, _≡_, refl, sym, ap
 use Rattle.protocol.specs.Prelude.{List, _∷_, upd2, sumL, Msg, none, report}
 use Rattle.protocol.specs.Prelude.{Plan, Ends, key, flip, ends-two, other-end, ends-irr, key-none, key-edge, rank-lt, rank-inj, State, Idle, pop}
 use Rattle.protocol.specs.Prelude.{isR, arg1, kinds, In, else-same, pop-in, in-pop, pop-le, pop-all}
-use Rattle.protocol.specs.Prelude.{GC, DK, Inf, Jn, Outst, Live, CoreEnds, Inv, inf-cases, joined-level, up-other, reports-same, take-alike, inv-passing}
+use Rattle.protocol.specs.Prelude.{GC, DK, Inf, Jn, Outst, Live, CoreEnds, Inv, inf-cases, joined-level, up-other, reports-same, take-alike, inv-passing, outst-ch, live-ch, last}
 use Rattle.protocol.specs.Traffic.{Tokens, Owing, Bests}
 use Rattle.steps_core.specs.Late.{Kept, late-report, kept}
 use Rattle.steps_core.specs.Core as C
@@ -114,32 +114,28 @@ module _ {p : Plan} {s : State} (i : Inv p s) {u v k w : ℕ} {r : List Msg} (id
   F4c′ : Owing p S′
   F4c′ = record {
     f4y = λ j a c e n. let t = i.F4c.f4y j a c e n in (t .0, t .1, t .2, outst j a c e (t .2) (t .3));
-    f4n = λ j a c e h b n o. i.F4c.f4n j a c e h b n (⊎-elim (λ t. inl (t .0, ⊎-elim (λ f. inl f) (λ l. inr (omega (arith, pop-le s.ch u k q isR c j))) (t .1))) (λ t. inr t) o);
+    f4n = λ j a c e h b n o. i.F4c.f4n j a c e h b n (outst-ch S′ s.ch c j (λ l. omega (arith, pop-le s.ch u k q isR c j)) o);
   }
     where
       -- nobody is counted over the in-branch
       outst : (j a c : ℕ) → Ends p j a c → s.ib a ≢ j → Outst s c j → Outst S′ c j
       outst j a c e n o = split c j
           (λ x y. absurd (n (sym (ap s.ib (other-end ends (flip e) x y)) ∙ ib ∙ y)))
-          (λ z. ⊎-elim (λ t. inl (t .0, ⊎-elim (λ f. inl f) (λ l. inr (subst (λ l. 1 ≤ sumL isR l) (sym z) l)) (t .1))) (λ t. inr t) o)
+          (λ z. outst-ch s c′ c j (λ r. subst (λ l. 1 ≤ sumL isR l) (sym z) r) o)
 
   B2′ : Bests p S′
   B2′ = record {
     b1e = λ a h n d. let t = i.B2.b1e a h n d in
         (t .0, t .1, t .2, t .3, t .4, t .5, t .6, t .7, omega (arith, pop-le s.ch u k q isR (t .0) (s.be a), t .8));
-    b2 = λ j a b e m d g. ⊎-elim (λ t. inl t)
-        (⊎-elim (λ t. inr (inl t)) (⊎-elim (λ t. inr (inr (inl t))) (λ t. inr (inr (inr (t .0, t .1, t .2, t .3, live (t .0) (t .2) (t .4), t .5))))))
-        (i.B2.b2 j a b e m d g);
+    b2 = λ j a b e m d g. last (λ t. (t .0, t .1, t .2, t .3, live (t .0) (t .2) (t .4), t .5)) (i.B2.b2 j a b e m d g);
   }
     where
       -- a core end counts without its Report
       live : (x : ℕ) → Inf s x → Live s x → Live S′ x
-      live x h (inl f) = inl f
-      live x h (inr (inl g)) = inr (inl g)
-      live x h (inr (inr l)) = split x (s.ib x)
+      live x h = live-ch s c′ x (λ l. split x (s.ib x)
           (λ a b. by-eq (s.ib x) (GC s x) (λ g. inr (inl g))
           (λ n. let e = subst (λ j. Ends p j x v) b (subst (λ z. Ends p k z v) a ends) in absurd (up-other i (s.ib x) x v e h refl (λ g. n (sym g)) (ib ∙ b))))
-          (λ z. inr (inr (subst (λ l. 1 ≤ sumL isR l) (sym z) l)))
+          (λ z. inr (inr (subst (λ l. 1 ≤ sumL isR l) (sym z) l))))
 
   pub inv-core-nothing : Inv p S′
   inv-core-nothing = inv-passing i c′ (record {

@@ -2,9 +2,9 @@
 -- 1, v is to execute procedure change-root; 4, the fragment is finished. What differs between the two is in `Ruling`.
 use Rattle.protocol.specs.Prelude.{ℕ, _≤_, arith, _≡_, sym, ap, subst, _∙_, _≢_, _⊎_, inl, inr, ⊎-elim, by-eq}
 use Rattle.protocol.specs.Prelude.{List, _∷_, upd, upd-elim, upd-same, upd-other, upd2, sumL, Msg, none, connect, report, change}
-use Rattle.protocol.specs.Prelude.{Plan, Ends, flip, State, pop, set-halt, set-dk, set-dn, set-oo}
-use Rattle.protocol.specs.Prelude.{isCI, isR, All, Only, le-sum, joins-lt, In, initiate, else-same, pop-in, pop-le, pop-bef}
-use Rattle.protocol.specs.Prelude.{Decision, GL, GC, DK, Inf, Outst, Live, Root, Child, CoreEnds, Spent, Inv, fc-find}
+use Rattle.protocol.specs.Prelude.{Plan, Ends, flip, State, pop, set-ch, set-halt, set-dk, set-dn, set-oo}
+use Rattle.protocol.specs.Prelude.{isR, All, Only, le-sum, joins-lt, In, else-same, pop-in, pop-le}
+use Rattle.protocol.specs.Prelude.{Decision, GL, GC, DK, Inf, Outst, Live, Root, Child, CoreEnds, Spent, Inv, fc-find, outst-ch, live-ch, last, reports-same, take-alike}
 use Rattle.protocol.specs.Fragments.{Ranges, Sleepers}
 use Rattle.protocol.specs.Decisions.{Halves, Tellings, Rootings, Finishes}
 use Rattle.protocol.specs.Search.{Parents, Finds}
@@ -185,51 +185,31 @@ module _ {p : Plan} {s : State} (i : Inv p s) {u v k d : ℕ} {m : Msg} {r : Lis
         (i.Dc.d7 j x y e g (o .1) f t);
   }
 
-  -- a Report of another fragment is what it was
-  core : (j a b n : ℕ) → s.fr v ≢ s.fr a → CoreEnds s a b j n → CoreEnds S′ a b j n
-  core j a b n o t =
-      let e = off a j o in (
-        t .0,
-        dk-off a o ∙ t .1,
-        t .2,
-        t .3,
-        t .4,
-        λ m f. t .5 m (pop-bef s.ch u k q a j f),
-        ⊎-elim (λ y. inl (y .0, ap (sumL isCI) e ∙ y .1)) (λ y. inr (y .0, subst (λ l. In (initiate (GL s b) j 1) l) (sym e) (y .1))) (t .6),
-      )
-
   R1′ : Reports p S′
   R1′ = record {
-    r1r = λ j a b n e o. i.R1.r1r j a b n e (pop-in s.ch u k q a j o);
-    r1j = λ j a b n e o. i.R1.r1j j a b n e (pop-in s.ch u k q a j o);
-    r1 = λ j a b n e o. by-eq (s.fr v) (s.fr a)
-        (λ z. inr (inr (h.spent j a b n e (sym z) o)))
-        (λ z. kind j a b n e z (pop-in s.ch u k q a j o));
-    r1c = λ j a b n e o f z g.
-        let y = pop-in s.ch u k q a j o in
-        let t = dk-old 0 b not0 z in
-        core j a b n (λ x. t .0 (x ∙ i.M1.m3 j a b e (i.R1.r1j j a b n e y))) (i.R1.r1c j a b n e y f (t .1) g);
+    r1r = o.r1r;
+    r1j = o.r1j;
+    r1 = λ j a b n e m. by-eq (s.fr v) (s.fr a) (λ z. inr (inr (h.spent j a b n e (sym z) m))) (λ z. kind j a b n e z m);
+    r1c = λ j a b n e m f z g. let t = dk-old 0 b not0 z in core j a b n (λ x. t .0 (x ∙ i.M1.m3 j a b e (o.r1j j a b n e m))) (o.r1c j a b n e m f (t .1) g);
   }
     where
-      kind : (j a b n : ℕ) → Ends p j a b → s.fr v ≢ s.fr a → In (report n) (s.ch a j) → Child S′ a b j n ⊎ (CoreEnds S′ a b j n ⊎ Spent p S′ a b j n)
-      kind j a b n e z o = ⊎-elim
-          (λ t. inl (t .0, t .1, t .2, t .3, t .4, t .5, t .6, ap (sumL isCI) (off a j z) ∙ t .7))
-          (⊎-elim
-          (λ t. inr (inl (core j a b n z t)))
-          (λ t. inr (inr (
-            t .0,
-            t .1,
-            t .2,
-            t .3,
-            λ m f. t .4 m (pop-bef s.ch u k q a j f),
-            ⊎-elim (λ l. inl l) (λ l. inr (l .0, l .1, dk-off b (λ x. z (x ∙ sym (i.M1.m3 j a b e (i.R1.r1j j a b n e o)))) ∙ l .2, l .3)) (t .5),
-          ))))
-          (i.R1.r1 j a b n e o)
+      -- a Report of another fragment is what it was
+      o : Reports p (set-ch s c′)
+      o = reports-same p s c′ (take-alike p s u k q (late.no-call)) i.R1
+
+      core : (j a b n : ℕ) → s.fr v ≢ s.fr a → CoreEnds (set-ch s c′) a b j n → CoreEnds S′ a b j n
+      core j a b n z t = (t .0, dk-off a z ∙ t .1, t .2, t .3, t .4, t .5, t .6)
+
+      kind : (j a b n : ℕ) → Ends p j a b → s.fr v ≢ s.fr a → In (report n) (c′ a j) → Child S′ a b j n ⊎ (CoreEnds S′ a b j n ⊎ Spent p S′ a b j n)
+      kind j a b n e z m = ⊎-elim (λ t. inl t)
+          (⊎-elim (λ t. inr (inl (core j a b n z t)))
+          (λ t. inr (inr (t .0, t .1, t .2, t .3, t .4, ⊎-elim (λ l. inl l) (λ l. inr (l .0, l .1, dk-off b (λ x. z (x ∙ sym (i.M1.m3 j a b e (o.r1j j a b n e m)))) ∙ l .2, l .3)) (t .5)))))
+          (o.r1 j a b n e m)
 
   F4c′ : Owing p S′
   F4c′ = record {
     f4y = λ j x c e n. let t = i.F4c.f4y j x c e n in (t .0, t .1, t .2, outst j x c (λ z. owing j x c e n (z ∙ sym (i.M1.m3 j x c e (t .1)))) (t .3));
-    f4n = λ j x c e f b n o. i.F4c.f4n j x c e f b n (⊎-elim (λ t. inl (t .0, ⊎-elim (λ f. inl f) (λ l. inr (omega (arith, pop-le s.ch u k q isR c j))) (t .1))) (λ t. inr t) o);
+    f4n = λ j x c e f b n o. i.F4c.f4n j x c e f b n (outst-ch S′ s.ch c j (λ l. omega (arith, pop-le s.ch u k q isR c j)) o);
   }
     where
       -- who waits for a Report is Find, so of another fragment
@@ -237,21 +217,17 @@ module _ {p : Plan} {s : State} (i : Inv p s) {u v k d : ℕ} {m : Msg} {r : Lis
       owing j x c e n z = h.no-find x (sym z) (fc-find i x (λ o. omega (arith, i.F4.f4 x, le-sum p.g.L j (s.owe x) (joins-lt e))))
 
       outst : (j x c : ℕ) → s.fr v ≢ s.fr c → Outst s c j → Outst S′ c j
-      outst j x c z = ⊎-elim (λ t. inl (t .0, ⊎-elim (λ f. inl f) (λ l. inr (subst (λ l. 1 ≤ sumL isR l) (sym (off c j z)) l)) (t .1))) (λ t. inr t)
+      outst j x c z = outst-ch s c′ c j (λ r. subst (λ l. 1 ≤ sumL isR l) (sym (off c j z)) r)
 
   B2′ : Bests p S′
   B2′ = record {
     b1e = λ x f n m. let t = i.B2.b1e x f n m in (t .0, t .1, t .2, t .3, t .4, t .5, t .6, t .7, omega (arith, pop-le s.ch u k q isR (t .0) (s.be x), t .8));
     b2 = λ j x y e m z l. let o = dk-old 0 x not0 z in
-        ⊎-elim (λ t. inl t) (⊎-elim (λ t. inr (inl t)) (⊎-elim (λ t. inr (inr (inl t)))
-        (λ t. inr (inr (inr (t .0, t .1, t .2, t .3, live (t .0) (λ a. o .0 (a ∙ t .1)) (t .4), t .5))))))
-        (i.B2.b2 j x y e m (o .1) l);
+        last (λ t. (t .0, t .1, t .2, t .3, live (t .0) (λ a. o .0 (a ∙ t .1)) (t .4), t .5)) (i.B2.b2 j x y e m (o .1) l);
   }
     where
       live : (x : ℕ) → s.fr v ≢ s.fr x → Live s x → Live S′ x
-      live x n (inl f) = inl f
-      live x n (inr (inl g)) = inr (inl g)
-      live x n (inr (inr l)) = inr (inr (subst (λ a. 1 ≤ sumL isR a) (sym (off x (s.ib x) n)) l))
+      live x n = live-ch s c′ x (λ l. inr (inr (subst (λ a. 1 ≤ sumL isR a) (sym (off x (s.ib x) n)) l)))
 
   pub inv-rule : Inv p S′
   inv-rule = record {

@@ -1,6 +1,6 @@
 -- v's fragment takes a decision of kind d with node v and edge k, as v sends m over it: 3 for a Connect, 2 for a Change-root.
 -- What differs between the two is in `Own`; the rest is proved here once.
-use Rattle.protocol.specs.Prelude.{ℕ, _≤_, arith, _≡_, sym, ap, subst, _∙_, _≢_, _⊎_, inl, inr, ⊎-elim, by-eq}
+use Rattle.protocol.specs.Prelude.{ℕ, _≤_, arith, _≡_, sym, ap, subst, _∙_, _≢_, _⊎_, inl, inr, ⊎-elim, by-eq, last}
 use Rattle.protocol.specs.Prelude.{upd, upd-elim, upd-same, upd-other, upd2, upd2-elim, All, at2}
 use Rattle.protocol.specs.Prelude.{Msg, connect, report, change}
 use Rattle.protocol.specs.Prelude.{Plan, Ends, Tree, flip, State, set-st, set-oo, set-ub, send, marked, decided}
@@ -383,9 +383,7 @@ module _ {p : Plan} {s : State} (i : Inv p s) {v y k d : ℕ} {m : Msg} (t : Tur
   B2′ = record {
     b1e = λ w f n a. let x = i.B2.b1e w f n a in
         (x .0, x .1, M.both-up i t h (s.be w) w (x .0) (x .2), x .3, x .4, x .5, x .6, M.st-two i t h (x .0) (x .7), M.same i t h isR (h.not-r) (x .0) (s.be w) ∙ x .8);
-    b2 = λ j u w e a z l. ⊎-elim (λ x. inl x) (⊎-elim (λ x. inr (inl x)) (⊎-elim (λ x. inr (inr (inl x)))
-        (λ x. inr (inr (inr (x .0, x .1, x .2, x .3, live (x .0) (x .4), x .5))))))
-        (i.B2.b2 j u w e (M.dn0 i t h u j a) (undecided u z .1) l);
+    b2 = λ j u w e a z l. last (λ x. (x .0, x .1, x .2, x .3, live (x .0) (x .4), x .5)) (i.B2.b2 j u w e (M.dn0 i t h u j a) (undecided u z .1) l);
   }
 
   pub inv-pass : Inv p S′

@@ -2,10 +2,10 @@
 use Rattle.protocol.specs.Prelude.{ℕ, suc, _≤_, _<_, arith, _≡_, refl, sym, ap, subst, _∙_, _≢_, _⊎_, inl, inr, ⊎-elim}
 use Rattle.protocol.specs.Prelude.{List, upd, upd-elim, upd-same, upd-other, by-eq, sumL, le-sum}
 use Rattle.protocol.specs.Prelude.{Msg, none, connect, initiate, report}
-use Rattle.protocol.specs.Prelude.{Plan, Ends, joins-lt, flip, other-end, ends-irr, State, reported}
-use Rattle.protocol.specs.Prelude.{isC, isI, isCI, isT, isA, isR, isK, arg1, fits-report, Fits, top, In, Bef, bef-before, in-sum}
-use Rattle.protocol.specs.Prelude.{snoc, snoc-elim, snoc-in, snoc-old, in-snoc2, snoc-bef, snoc-sum, snoc-here, snoc-else, snoc-all, snoc-top}
-use Rattle.protocol.specs.Prelude.{some-connect, no-reports, no-calls, none-in}
+use Rattle.protocol.specs.Prelude.{Plan, Ends, joins-lt, flip, other-end, ends-irr, State, set-ch, reported}
+use Rattle.protocol.specs.Prelude.{isC, isI, isCI, isT, isA, isR, isK, arg1, fits-report, Fits, In, Bef, bef-before, in-sum}
+use Rattle.protocol.specs.Prelude.{snoc, snoc-elim, snoc-in, snoc-old, in-snoc2, snoc-bef, snoc-sum, snoc-here, snoc-else, snoc-all}
+use Rattle.protocol.specs.Prelude.{some-connect, no-reports, no-calls, none-in, answers-same, connects-same, testing-same, around-same, core-same, post-telling}
 use Rattle.protocol.specs.Prelude.{GL, GC, DK, Inf, Jn, Outst, Live, Child, CoreEnds, Spent, Inv}
 use Rattle.protocol.specs.Prelude.{inf-cases, fc-find, mark-awake, up-other, no-initiate, no-connect, no-root}
 use Rattle.protocol.specs.Fragments.{Ranges, Sleepers}
@@ -177,9 +177,6 @@ module _ {p : Plan} {s : State} (i : Inv p s) {v k u : ℕ} (ot : s.ot ≡ 0) (o
       (λ q. inr (λ r. omega (arith, none-in isR own-rep (subst (λ l. In (report w) l) (ap (λ x. s.ch x j) (sym q) ∙ ap (s.ch v) (sym r)) h))))
       (λ n. inl n)
 
-  tops : (n w j : ℕ) → top n (c′ w j) ≡ top n (s.ch w j)
-  tops = snoc-top s.ch v k m refl
-
   G6c′ : Hush p S′
   G6c′ = record {
     g6o = λ j w x e z. let a = asleep w z in off w j (inl (a .0)) ∙ i.G6c.g6o j w x e (a .1);
@@ -210,10 +207,7 @@ module _ {p : Plan} {s : State} (i : Inv p s) {v k u : ℕ} (ot : s.ot ≡ 0) (o
       frs-at j x y e q r = frs ∙ ap s.fr (other-end ends (flip e) q r)
 
   C1′ : Connects p S′
-  C1′ = record {
-    c1m = λ j w x l e n. i.C1.c1m j w x l e (old isC refl (omega arith) w j n);
-    c1 = λ j w x l e n. i.C1.c1 j w x l e (old isC refl (omega arith) w j n);
-  }
+  C1′ = let o = connects-same p s c′ (λ w j l n. old isC refl (omega arith) w j n) i.C1 in record { c1m = o.c1m; c1 = o.c1 }
 
   I1′ : Initiates p S′
   I1′ = record {
@@ -234,28 +228,24 @@ module _ {p : Plan} {s : State} (i : Inv p s) {v k u : ℕ} (ot : s.ot ≡ 0) (o
 
   T4′ : Telling p S′
   T4′ = record {
-    u2 = λ j w c e b n. i.T4.u2 j w c e b n ∙ sym (tops (s.lev c) w j);
-    t2i = λ j w c e b t n l. in-snoc2 s.ch v k m w j
-        (subst (λ x. In (initiate (GL s w) (GC s w) x) (s.ch w j)) (sym (due-low c l)) (i.T4.t2i j w c e b t n l));
-    t4 = λ j x y e b g. ⊎-elim (λ t. inl (omega (arith, same isC refl x j)))
-        (⊎-elim (λ t. inr (inl (in-snoc2 s.ch v k m y j t))) (λ t. inr (inr t))) (i.T4.t4 j x y e b g);
-    t4n = λ j x y e b g n. let t = i.T4.t4n j x y e b g (omega (arith, same isC refl x j)) in (t .0, λ z. t .1 (old isI refl (omega arith) y j z));
+    u2 = o.u2;
+    t2i = λ j w c e b t n l. subst (λ x. In (initiate (GL s w) (GC s w) x) (c′ w j)) (sym (due-low c l)) (o.t2i j w c e b t n l);
+    t4 = o.t4;
+    t4n = o.t4n;
   }
+    where
+      o : Telling p (set-ch s c′)
+      o = post-telling p s v k m refl i.T4
 
   E1′ : Testing p S′
-  E1′ = record {
-    e1 = λ j w x l f e n. i.E1.e1 j w x l f e (old isT refl (omega arith) w j n);
-    e1w = λ j w x l f e n. i.E1.e1w j w x l f e (old isT refl (omega arith) w j n);
-    e2w = λ j w x e a b. omega (arith, i.E1.e2w j w x e a b, same isT refl w j, same isA refl x j);
-    e2c = λ j w x e a b. omega (arith, i.E1.e2c j w x e a b, same isT refl w j, same isA refl x j, same isT refl x j);
-    m6t = λ j w x e a b. same isT refl x j ∙ i.E1.m6t j w x e a b;
-  }
+  E1′ =
+      let o = testing-same p s c′ (λ w j l f n. old isT refl (omega arith) w j n) (same isT refl) (same isA refl) i.E1 in
+      record { e1 = o.e1; e1w = o.e1w; e2w = o.e2w; e2c = o.e2c; m6t = o.m6t }
 
   A1′ : Answers p S′
-  A1′ = record {
-    a1 = λ j w x e n. i.A1.a1 j w x e (old isA refl (omega arith) w j n);
-    j1 = λ j w x e n. i.A1.j1 j w x e (old isA refl (omega arith) w j n);
-  }
+  A1′ =
+      let o = answers-same p s c′ (λ w j n. old isA refl (omega arith) w j n) (λ w j n. old isA refl (omega arith) w j n) i.A1 in
+      record { a1 = o.a1; j1 = o.j1 }
 
   -- ---- Reports
 
@@ -298,15 +288,7 @@ module _ {p : Plan} {s : State} (i : Inv p s) {v k u : ℕ} (ot : s.ot ≡ 0) (o
   -- an old one: its channel has not changed
   core-old : (j a b w : ℕ) → In (report w) (s.ch a j) → CoreEnds s a b j w → CoreEnds S′ a b j w
   core-old j a b w h t =
-      let o = off a j (apart w a j h) in (
-        t .0,
-        t .1,
-        t .2,
-        found a (t .3),
-        t .4,
-        λ n x. t .5 n (subst (λ l. Bef (report w) n l) o x),
-        ⊎-elim (λ y. inl (y .0, ap (sumL isCI) o ∙ y .1)) (λ y. inr (y .0, subst (λ l. In (initiate (GL s b) j 1) l) (sym o) (y .1))) (t .6),
-      )
+      let x = core-same p s c′ a b j w (around-same (off a j (apart w a j h)) (in-snoc2 s.ch v k m a j h)) t in (x .0, x .1, x .2, found a (x .3), x .4, x .5, x .6)
 
   R1′ : Reports p S′
   R1′ = record {

@@ -1,12 +1,12 @@
 -- A node without edges wakes: Found and halted, and its fragment is finished.
-use Rattle.protocol.specs.Prelude.{ℕ, zero, suc, _+_, _≤_, _<_, arith, _≡_, refl, sym, ap, subst, _∙_, _≢_, _⊎_, inl, inr, ⊎-elim}
-use Rattle.protocol.specs.Prelude.{List, [], _∷_, _++_, upd, upd-elim, upd-same, upd-other, by-eq, sumL, none}
-use Rattle.protocol.specs.Prelude.{Plan, Ends, key, rank, flip, State, Idle, set-st, set-dk, set-halt, woken, woken-same}
-use Rattle.protocol.specs.Prelude.{isR, GL, GC, DK, Inf, Jn, Half, Told, Root, Outst, Live, Covered, Child, CoreEnds, Spent, Inv, sleep-te, sleep-fc}
+use Rattle.protocol.specs.Prelude.{ℕ, _≤_, _<_, arith, _≡_, sym, ap, subst, _∙_, _≢_, inl, inr, ⊎-elim}
+use Rattle.protocol.specs.Prelude.{upd, upd-elim, upd-same, upd-other, by-eq}
+use Rattle.protocol.specs.Prelude.{Plan, Ends, flip, State, Idle, set-st, set-dk, set-halt, woken, woken-same}
+use Rattle.protocol.specs.Prelude.{GL, DK, Inf, CoreEnds, Inv, sleep-te, sleep-fc, last}
 use Rattle.protocol.specs.Fragments.{Ranges, Sleepers}
 use Rattle.protocol.specs.Decisions.{Halves, Tellings, Rootings, Finishes}
-use Rattle.protocol.specs.Search.{Parents, Finds, Pending}
-use Rattle.protocol.specs.Traffic.{Hush, Tokens, Reports, Owing, Bests}
+use Rattle.protocol.specs.Search.{Finds, Pending}
+use Rattle.protocol.specs.Traffic.{Tokens, Reports, Owing, Bests}
 
 module _ {p : Plan} {s : State} (i : Inv p s) {v : ℕ} (idle : Idle s) (below : v < p.N) (asleep : s.st v ≡ 0) (lone : (k u : ℕ) → Ends p k v u → ⊥) where
   -- by `woken-same` waking changes the status alone
@@ -154,10 +154,7 @@ module _ {p : Plan} {s : State} (i : Inv p s) {v : ℕ} (idle : Idle s) (below :
   B2′ : Bests p S″
   B2′ = record {
     b1e = λ w h n d. let t = i.B2.b1e w h n d in (t .0, t .1, t .2, t .3, t .4, t .5, t .6, st-at (t .0) (inf-other (t .0) (t .4)) ∙ t .7, t .8);
-    b2 = λ k u w e m d l. ⊎-elim (λ t. inl t)
-        (⊎-elim (λ t. inr (inl t))
-        (⊎-elim (λ t. inr (inr (inl t)))
-        (λ t. inr (inr (inr (t .0, t .1, t .2, t .3, ⊎-elim (λ f. inl (st-at (t .0) (inf-other (t .0) (t .2)) ∙ f)) (λ r. inr r) (t .4), t .5))))))
+    b2 = λ k u w e m d l. last (λ t. (t .0, t .1, t .2, t .3, ⊎-elim (λ f. inl (st-at (t .0) (inf-other (t .0) (t .2)) ∙ f)) (λ r. inr r) (t .4), t .5))
         (i.B2.b2 k u w e m (dk-old 0 u (λ z. omega arith) d .1) l);
   }
 
