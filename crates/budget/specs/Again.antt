@@ -1,7 +1,7 @@
 -- A Reject, and a Test that crossed: nothing is sent. Where both ends had sent a Test, the edge pays back both.
 use Rattle.protocol.specs.Prelude.{ℕ, suc, _+_, _≤_, arith, _≡_, refl, sym, ap, subst, _∙_, _≢_, _⊎_, inl, inr, ⊎-elim, by-eq}
 use Rattle.protocol.specs.Prelude.{List, _∷_, sumL, upd, upd-elim, upd-same, upd-other, upd2, upd2-elim, sum-upd, Msg, test, reject}
-use Rattle.protocol.specs.Prelude.{Plan, Ends, end-lt, joins-lt, flip, other-end, ends-two, ends-irr, State, Idle, Strike, set-ot, pop, marked}
+use Rattle.protocol.specs.Prelude.{Plan, Ends, end-lt, joins-lt, flip, other-end, same-edge, ends-irr, State, Idle, Strike, set-ot, pop, marked}
 use Rattle.protocol.specs.Prelude.{isI, isT, isA, isY, In, pop-head, pop-sum, else-same, here-new, at2, Inf, Waits, Inv, waits-find}
 use Rattle.budget.specs.Paid.{LT, Paid, lt-else, lt-same, yes-le}
 use Rattle.budget.specs.Height.{heights-pop, tb-inf}
@@ -72,7 +72,7 @@ module _ {p : Plan} {z n : ℕ} {s : State} (i : Inv p s) (h : Paid p z s n) {u 
       open-lt j w x e a = by-eq k j
           (λ y. ⊎-elim
           (λ t. (each w j t, each x j t))
-          (λ t. absurd (⊎-elim (λ d. ⊎-elim (λ o. t .1 (ap (λ b. s.mark b k) (o .0) ∙ ap (s.mark w) y ∙ dn0 p s v k c strike w j a)) (λ o. d (o .1)) (ends-two ends (subst (λ b. Ends p b w x) (sym y) e)))
+          (λ t. absurd (⊎-elim (λ d. ⊎-elim (λ o. t .1 (ap (λ b. s.mark b k) (o .0) ∙ ap (s.mark w) y ∙ dn0 p s v k c strike w j a)) (λ o. d (o .1)) (same-edge ends e y))
           (λ d. d y) (dn-other p s v k c strike w j a))) tests)
           (λ y. (lt w j (inr y), lt x j (inr y)))
         where
@@ -100,7 +100,7 @@ module _ {p : Plan} {z n : ℕ} {s : State} (i : Inv p s) (h : Paid p z s n) {u 
       lk2 = λ j w x e a b. let t = waits j w a in by-eq k j
           (λ y. absurd (⊎-elim
           (λ o. omega (arith, no-test, ap (sumL isT) (sym (at2 c′ (o .0) y) ∙ here-new s.ch u k r)))
-          (λ o. t .0 (o .1)) (ends-two ends (subst (λ d. Ends p d w x) (sym y) e))))
+          (λ o. t .0 (o .1)) (same-edge ends e y)))
           (λ d. omega (arith, upd-other (h.lk) k 0 j d, h.L .lk2 j w x e (t .1) (omega (arith, off w j (inr d))), lt w j (inr d), lt x j (inr d)));
     };
     bal = omega (arith, h.bal, have, sum-upd p.N v 2 (upd (h.ts) u 2) (end-lt p (flip ends)), upd-other (h.ts) u 2 v (ends-irr p ends), sum-upd p.N u 2 (h.ts) (end-lt p ends), sum-upd p.g.L k 0 (h.lk) (joins-lt ends));
@@ -125,7 +125,7 @@ module _ {p : Plan} {z n : ℕ} {s : State} (i : Inv p s) (h : Paid p z s n) {u 
       shut : (j w x : ℕ) → Ends p j w x → m′ w j ≡ 0 → m′ x j ≢ 2 → k ≢ j
       shut j w x e a b y = ⊎-elim
           (λ o. b (ap (λ d. m′ d j) (sym (o .1)) ∙ ap (m′ v) (sym y) ∙ struck-to))
-          (λ o. omega (arith, a, struck-to, ap (λ d. m′ d j) (o .1), ap (m′ v) y)) (ends-two ends (subst (λ d. Ends p d w x) (sym y) e))
+          (λ o. omega (arith, a, struck-to, ap (λ d. m′ d j) (o .1), ap (m′ v) y)) (same-edge ends e y)
 
 -- v, informed and waiting for an answer on k with no Test of its own there, has its 2
 two-of : {p : Plan} {z n : ℕ} {s : State} (i : Inv p s) (h : Paid p z s n) {u v k : ℕ} → Ends p k v u → Inf s v → Waits s v k → sumL isT (s.ch v k) ≡ 0 → sumL isY (s.ch u k) ≡ 0 → 2 ≤ h.ts v

@@ -1,9 +1,9 @@
 -- A rejected Test: the edge pays for Test and Reject, and the sender may test again.
-use Rattle.protocol.specs.Prelude.{ℕ, zero, suc, _+_, _-_, _*_, eqb, bit, _≤_, _<_, arith, _≡_, refl, sym, ap, subst, _∙_, _≢_, _⊎_, inl, inr, ⊎-elim, by-eq}
-use Rattle.protocol.specs.Prelude.{List, [], _∷_, _++_, sum, sumL, upd, upd-elim, upd-same, upd-other, upd2, upd2-elim, sum-upd, Msg, none, test, accept, reject}
-use Rattle.protocol.specs.Prelude.{Plan, Ends, end-lt, joins-lt, flip, ends-same, ends-two, ends-irr, State, Idle, Strike, FirstBasic, set-te, set-ot, send, pop, marked}
-use Rattle.protocol.specs.Prelude.{isI, isT, isA, isY, In, pop-head, pop-sum, pop-here, pop-le, else-same, here-new, snoc, snoc-sum, snoc-here, snoc-else, GL, GC, DK, Inf, Waits, Inv}
-use Rattle.budget.specs.Paid.{LT, Heights, Dues, Tries, Links, Paid, lt-last, lt-else, lt-none, lt-le, lt-same, yes-le}
+use Rattle.protocol.specs.Prelude.{ℕ, _+_, _*_, _≤_, arith, _≡_, refl, sym, ap, _∙_, _≢_, _⊎_, inl, inr, ⊎-elim, by-eq}
+use Rattle.protocol.specs.Prelude.{List, _∷_, sumL, upd, upd-elim, upd-other, upd2, sum-upd, Msg, test, reject}
+use Rattle.protocol.specs.Prelude.{Plan, Ends, end-lt, joins-lt, same-edge, State, Idle, Strike, send, pop, marked}
+use Rattle.protocol.specs.Prelude.{isT, isA, isY, In, pop-head, pop-sum, here-new, snoc, snoc-sum, Inf, Waits, Inv}
+use Rattle.budget.specs.Paid.{LT, Links, Paid, lt-last, lt-else, lt-none, lt-same, yes-le}
 use Rattle.budget.specs.Height.{heights-pop, heights-send, tb-inf}
 use Rattle.steps_search.specs.RejectTest as R
 use Rattle.steps_search.specs.Own as O
@@ -58,20 +58,17 @@ module _ {p : Plan} {z n : ℕ} {s : State} (i : Inv p s) (h : Paid p z s n) {u 
 
   -- the end beyond k
   beyond : (j w x : ℕ) → Ends p j w x → k ≡ j → ((u ≡ w) × (v ≡ x)) ⊎ ((v ≡ w) × (u ≡ x))
-  beyond j w x e y = ⊎-elim (λ t. inl t) (λ t. inr (t .1, t .0)) (ends-two ends (subst (λ a. Ends p a w x) (sym y) e))
+  beyond j w x e y = ⊎-elim (λ t. inl t) (λ t. inr (t .1, t .0)) (same-edge ends e y)
 
   -- k is no longer open
   shut : (j w x : ℕ) → Ends p j w x → m′ w j ≡ 0 → m′ x j ≢ 2 → k ≢ j
   shut j w x e a b y = ⊎-elim
       (λ t.
       let o : s.mark u k ≡ 0 = ap (λ d. s.mark d k) (t .0) ∙ ap (s.mark w) y ∙ dn0 p s v k c strike w j a in
-      b (ap (λ d. m′ d j) (sym (t .1)) ∙ ap (m′ v) (sym y) ∙ here2 ∙ basic o))
+      b (ap (λ d. m′ d j) (sym (t .1)) ∙ ap (m′ v) (sym y) ∙ here-new s.mark v k c ∙ basic o))
       (λ t. ⊎-elim (λ d. d (t .0)) (λ d. d y) (dn-other p s v k c strike w j a))
       (beyond j w x e y)
     where
-      here2 : m′ v k ≡ c
-      here2 = upd2-elim (λ x. x ≡ c) s.mark v k c v k (λ a b. refl) (λ n. absurd (⊎-elim (λ f. f refl) (λ f. f refl) n))
-
       basic : s.mark u k ≡ 0 → c ≡ 2
       basic o = ⊎-elim (λ t. t .1)
           (λ t. absurd (omega (arith, O.branch-v i ends head low same (omega (arith, i.W0.mark-le v k, R.open-v i idle ends awake q low same other strike, t .0))))) strike

@@ -1,7 +1,7 @@
 -- Procedure test sends a Test: v pays, or at the last level the edge.
 use Rattle.protocol.specs.Prelude.{ℕ, suc, _+_, _-_, _≤_, arith, _≡_, refl, sym, ap, subst, _∙_, _≢_, _⊎_, inl, inr, ⊎-elim, by-eq}
 use Rattle.protocol.specs.Prelude.{List, sumL, upd, upd-same, upd-other, sum-upd, Msg, test}
-use Rattle.protocol.specs.Prelude.{Plan, Ends, end-lt, joins-lt, flip, other-end, ends-two, ends-irr, State, FirstBasic}
+use Rattle.protocol.specs.Prelude.{Plan, Ends, end-lt, joins-lt, flip, other-end, same-edge, ends-irr, State, FirstBasic}
 use Rattle.protocol.specs.Prelude.{isT, isY, snoc, snoc-sum, snoc-here, snoc-else, GL, Inf, Waits, Inv}
 use Rattle.budget.specs.Paid.{LT, Paid, lt-last, lt-else, lt-none, lt-le, lt-same}
 use Rattle.budget.specs.Height.{heights-send}
@@ -125,7 +125,7 @@ module _ {p : Plan} {z n : ℕ} {s : State} (i : Inv p s) (h : Paid p z s n) {v 
           (subst (λ d. 2 ≤ upd (h.lk) k (h.lk k - 1) k + LT z s.lev c′ d k + LT z s.lev c′ u k) (o .0) full))
           (λ o. subst (λ d. 2 ≤ upd (h.lk) k (h.lk k - 1) k + LT z s.lev c′ w k + LT z s.lev c′ d k) (o .0)
           (subst (λ d. 2 ≤ upd (h.lk) k (h.lk k - 1) k + LT z s.lev c′ d k + LT z s.lev c′ v k) (o .1) (omega (arith, full))))
-          (ends-two ends (subst (λ d. Ends p d w x) (sym y) e)))
+          (same-edge ends e y))
 
   pub paid-test-next : Paid p z S′ (n + 1)
   paid-test-next = by-eq (s.lev v) z high low

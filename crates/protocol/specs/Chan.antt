@@ -1,5 +1,5 @@
 -- Channels: membership and order in a list, and what becomes of them when the head is taken, moved back, or a message is sent.
-use Prim.Native.Nat.{ℕ, zero, suc, _+_, _≤_, _<_, zero-le}
+use Prim.Native.Nat.{ℕ, _+_, _≤_}
 use native.Mathlib.Omega.{arith}
 use mathlib.Core.Path.{_≡_, refl, sym, ap, subst, _∙_}
 use mathlib.Core.Logic.{_≢_, _⊎_, inl, inr, ⊎-elim}
@@ -137,8 +137,8 @@ module _ {A : Type 0} where
 pub at2 : {A : Type 0} (f : ℕ → ℕ → A) {u w k j : ℕ} → u ≡ w → k ≡ j → f u k ≡ f w j
 at2 f {u} {j} p q = ap (λ x. f u x) q ∙ ap (λ x. f x j) p
 
-module _ {A : Type 0} (c : ℕ → ℕ → List A) (u k : ℕ) (l : List A) where
-  -- another channel is as it was
+module _ {A : Type 0} (c : ℕ → ℕ → A) (u k : ℕ) (l : A) where
+  -- another place is as it was
   pub else-same : (w j : ℕ) → (u ≢ w) ⊎ (k ≢ j) → upd2 c u k l w j ≡ c w j
   else-same w j n = upd2-elim (λ x. x ≡ c w j) c u k l w j (λ a b. absurd (⊎-elim (λ f. f a) (λ f. f b) n)) (λ m. refl)
 

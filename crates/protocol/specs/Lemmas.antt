@@ -10,7 +10,7 @@ use Rattle.base.specs.Cond.{eqb-cases, eqb-same, eqb-diff, by-eq, bit, upd, upd
 use Rattle.base.specs.Pool.{sumL, sumL-app}
 use Rattle.base.specs.Sum.{sum, sum-change, sum-eq, le-sum}
 use Rattle.graph.specs.Graph.{Graph, Joins, up, down}
-use Rattle.graph.specs.Ways.{ends-same}
+use Rattle.graph.specs.Ways.{ends-same, ends-two}
 use Rattle.message.specs.Msg.{Msg, connect, initiate, test, accept, reject, report, change}
 use Rattle.protocol.specs.Plan.{Plan, Ends}
 use Rattle.protocol.specs.State.{State}
@@ -235,6 +235,10 @@ none-in f z i = omega (arith, in-sum f i)
 -- the other end of an edge, met twice
 pub other-end : {g : Graph} {k j u w v z : ℕ} → Joins g k u v → Joins g j w z → u ≡ w → k ≡ j → v ≡ z
 other-end {g} {j} {u} {z} a b e f = ends-same a (subst (λ d. Joins g d u z) (sym f) (subst (λ d. Joins g j d z) (sym e) b))
+
+-- the ends of one edge, in either order
+pub same-edge : {g : Graph} {k j u v a b : ℕ} → Joins g k u v → Joins g j a b → k ≡ j → ((u ≡ a) × (v ≡ b)) ⊎ ((u ≡ b) × (v ≡ a))
+same-edge {g} {u} {v} d e q = ends-two (subst (λ n. Joins g n u v) q d) e
 
 -- joined, of an edge and of its ends
 

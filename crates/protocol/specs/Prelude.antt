@@ -34,7 +34,7 @@ pub use Rattle.protocol.specs.Chan.{snoc, snoc-elim, snoc-in, snoc-old, 
 pub use Rattle.protocol.specs.Chan.{rot, rot-in, in-rot, rot-bef, rot-sum, rot-all}
 pub use Rattle.protocol.specs.Lemmas.{bulk-elim, bulk-in, bulk-out, relabel-keep, relabel-cases, copy-yes, copy-on}
 pub use Rattle.protocol.specs.Lemmas.{fan-elim, fan-in, in-fan, fan-new, fan-bef, fan-sum, fan-else, fill-elim, fill-else, sum-fill, sum-upd, sum-row, row-else}
-pub use Rattle.protocol.specs.Lemmas.{top-app, pop-top, snoc-top, rot-top, top-none, top-in, top-max, other-end, joined-both, both-joined}
+pub use Rattle.protocol.specs.Lemmas.{top-app, pop-top, snoc-top, rot-top, top-none, top-in, top-max, other-end, same-edge, joined-both, both-joined}
 pub use Rattle.protocol.specs.Lemmas.{some-connect, some-test, some-report, some-change, some-answer, some-call}
 pub use Rattle.protocol.specs.Lemmas.{no-connects, no-tests, no-reports, no-answers, no-calls, none-in}
 pub use Rattle.protocol.specs.Notion.{Informed, Both, Joined, Bounding, Decision, Rooting, Awaits, members, GL, GC, DK, Inf, Jn, Bounds}

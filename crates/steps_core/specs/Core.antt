@@ -2,7 +2,7 @@
 -- if v is not Find, the fragment is quiet, and only the best weights of the two ends still count.
 use Rattle.protocol.specs.Prelude.{ℕ, _≤_, _<_, arith, _≡_, refl, sym, ap, subst, _∙_, _≢_, _⊎_, inl, inr, ⊎-elim, by-eq}
 use Rattle.protocol.specs.Prelude.{List, _∷_, sumL, Msg, none, initiate, report}
-use Rattle.protocol.specs.Prelude.{Plan, Ends, key, rank, flip, ends-two, State, Idle, key-none, key-edge, rank-lt}
+use Rattle.protocol.specs.Prelude.{Plan, Ends, key, rank, flip, same-edge, State, Idle, key-none, key-edge, rank-lt}
 use Rattle.protocol.specs.Prelude.{isCI, isR, kinds, In, in-sum, le-sum, joins-lt, Bef, bef-before, in-cons, heads, upd2, at2, here-new, pop-head, pop-in, none-in, no-calls, some-report, set-dk}
 use Rattle.protocol.specs.Prelude.{GL, GC, DK, Inf, Jn, Live, Child, CoreEnds, Spent, Inv, inf-found, te-find, up-other, no-find, no-due, rest-none, no-connect, no-initiate}
 
@@ -103,7 +103,7 @@ module _ {p : Plan} {s : State} (i : Inv p s) {u v k w : ℕ} {r : List Msg} (en
     report-core j a b n e f o = ⊎-elim
         (λ t. absurd (none-find b (sym (i.M1.m3 j a b e (i.R1.r1j j a b n e o)) ∙ f) (t .6)))
         (⊎-elim
-        (λ t. let z : j ≡ k = sym (t .0) ∙ ap s.gc f ∙ core-v in inl (ends-two (subst (λ x. Ends p x a b) z e) ends, z, t .4))
+        (λ t. let z : j ≡ k = sym (t .0) ∙ ap s.gc f ∙ core-v in inl (same-edge e ends z, z, t .4))
         (λ t. inr t))
         (i.R1.r1 j a b n e o)
 
@@ -135,7 +135,7 @@ module _ {p : Plan} {s : State} (i : Inv p s) {u v k w : ℕ} {r : List Msg} (en
 
         at-core : s.ib x ≡ GC s x → (x ≡ u) ⊎ (x ≡ v)
         at-core z = ⊎-elim (λ t. inl (t .0)) (λ t. inr (t .0))
-            (ends-two (subst (λ j. Ends p j x (up-edge .0)) (z ∙ ap s.gc f ∙ core-v) (up-edge .1)) ends)
+            (same-edge (up-edge .1) ends (z ∙ ap s.gc f ∙ core-v))
 
         sent : s.ib x ≢ GC s x → ¬ (1 ≤ sumL isR (s.ch x (s.ib x)))
         sent n l =

@@ -1,7 +1,7 @@
 -- Report none from u at v over v's in-branch k, v not Find with best none: v halts, and the fragment is finished.
 use Rattle.protocol.specs.Prelude.{ℕ, _≤_, arith, _≡_, refl, sym, ap, subst, _∙_, _≢_, inl, inr, ⊎-elim, by-eq}
 use Rattle.protocol.specs.Prelude.{List, _∷_, upd, upd-elim, upd-same, upd-other, upd2, Msg, none, report}
-use Rattle.protocol.specs.Prelude.{Plan, Ends, key, flip, ends-two, ends-irr, State, Idle, pop, set-halt, set-dk}
+use Rattle.protocol.specs.Prelude.{Plan, Ends, key, flip, same-edge, ends-irr, State, Idle, pop, set-halt, set-dk}
 use Rattle.protocol.specs.Prelude.{isR, In, else-same, pop-in, pop-bef, none-in, some-report}
 use Rattle.protocol.specs.Prelude.{GL, GC, DK, Inf, CoreEnds, Spent, Inv, joined-level, decided-find, decided-report, no-root}
 use Rattle.steps_core.specs.Late.{late-report}
@@ -126,7 +126,7 @@ module _ {p : Plan} {s : State} (i : Inv p s) {u v k w : ℕ} {r : List Msg} (id
       subst (λ n. P n x y) (sym z) (⊎-elim
       (λ t. subst (λ n. P k n y) (sym (t .0)) (subst (λ n. P k u n) (sym (t .1)) a))
       (λ t. subst (λ n. P k n y) (sym (t .0)) (subst (λ n. P k v n) (sym (t .1)) b))
-      (ends-two (subst (λ n. Ends p n x y) z e) ends))
+      (same-edge e ends z))
 
   v≢u : v ≢ u
   v≢u = ends-irr p (flip ends)

@@ -1,7 +1,7 @@
 -- Merge keeps the clauses that speak of tables.
 use Rattle.protocol.specs.Prelude.{ℕ, suc, _^_, _≤_, arith, _≡_, sym, ap, subst, _∙_, _≢_, inl, inr, ⊎-elim}
 use Rattle.protocol.specs.Prelude.{upd, upd-elim, upd2-elim, at2, relabel-cases}
-use Rattle.protocol.specs.Prelude.{Plan, Ends, Tree, key, rank, Way, go, join, both-joined, joins-lt, flip, ends-two, other-end, end-lt, State}
+use Rattle.protocol.specs.Prelude.{Plan, Ends, Tree, key, rank, Way, go, join, both-joined, joins-lt, flip, same-edge, other-end, end-lt, State}
 use Rattle.protocol.specs.Prelude.{Both, Decision, GL, GC, DK, Half, waits-find}
 use Rattle.graph.specs.Size.{size, size-mono, level-merge}
 use Rattle.protocol.specs.Fragments.{Ranges, Levels, Sizes, Cores, Sleepers, Marks, Inbounds}
@@ -28,7 +28,7 @@ module _ {p : Plan} {s : State} {v k y l : ℕ} (r : Ready p s v k y l) where
   at-core j a b z e = ⊎-elim
       (λ q. ((sym (at2 S′.mark (q .0) z) ∙ mark-v, sym (at2 S′.mark (q .1) z) ∙ mark-y), inl (ap s.fr (sym (q .0)))))
       (λ q. ((sym (at2 S′.mark (q .1) z) ∙ mark-y, sym (at2 S′.mark (q .0) z) ∙ mark-v), inr (ap s.fr (sym (q .1)))))
-      (ends-two (subst (λ n. Ends p n v y) z (r.leave.ends)) e)
+      (same-edge (r.leave.ends) e z)
 
   -- beyond a joined edge one is inside too
   in-beyond : (j a b : ℕ) → Ends p j a b → U.Inside r a → Both S′.mark j a b → U.Inside r b

@@ -5,7 +5,7 @@ use Rattle.protocol.specs.Prelude.{List, [], _∷_, upd, upd-elim, upd-same, up
 use Rattle.protocol.specs.Prelude.{Msg, none, connect, test, report}
 use Rattle.protocol.specs.Prelude.{Plan, Ends, flip, other-end, ends-irr, edge-some, Way, wider, State}
 use Rattle.protocol.specs.Prelude.{isC, isI, isCI, isT, isA, isR, Rouse, Fits, top, snoc-top}
-use Rattle.protocol.specs.Prelude.{In, Bef, snoc, snoc-elim, snoc-in, snoc-old, in-snoc2, snoc-bef, snoc-sum, snoc-else, snoc-all}
+use Rattle.protocol.specs.Prelude.{In, Bef, snoc, snoc-elim, snoc-in, snoc-old, in-snoc2, snoc-bef, snoc-sum, snoc-else, here-new, else-same, snoc-all}
 use Rattle.protocol.specs.Prelude.{Both, Joined, GL, Jn, Waits, Inv, no-waits}
 use Rattle.protocol.specs.Fragments.{Inbounds}
 use Rattle.protocol.specs.Search.{Pending, Tests}
@@ -59,10 +59,10 @@ module _ {p : Plan} {s : State} (i : Inv p s) {v y k : ℕ} {m : Msg} (t : Turn 
   dn1 {C} w j = upd2-elim (λ x. x ≡ 1 → (v ≡ w → k ≡ j → C) → (s.mark w j ≡ 1 → C) → C) s.mark v k 1 w j (λ a b e f g. f a b) (λ n e f g. g e)
 
   pub mark-new : mark′ v k ≡ 1
-  mark-new = upd2-elim (λ x. x ≡ 1) s.mark v k 1 v k (λ a b. refl) (λ n. absurd (⊎-elim (λ f. f refl) (λ f. f refl) n))
+  mark-new = here-new s.mark v k 1
 
   pub mark-off : (w j : ℕ) → v ≢ w → mark′ w j ≡ s.mark w j
-  mark-off w j n = upd2-elim (λ x. x ≡ s.mark w j) s.mark v k 1 w j (λ a b. absurd (n a)) (λ d. refl)
+  mark-off w j n = else-same s.mark v k 1 w j (inl n)
 
   pub both-up : (j a b : ℕ) → Jn s j a b → Both mark′ j a b
   both-up j a b e = (up1 a j (e .0), up1 b j (e .1))

@@ -1,8 +1,8 @@
 -- v sends Connect over k, which is a branch at its other end y: the fragments of v and y become one, of the next level.
 -- Here: what the tables say of a node inside the new fragment, and of one outside it.
-use Rattle.protocol.specs.Prelude.{ℕ, suc, _≤_, _<_, arith, _≡_, refl, sym, ap, subst, _∙_, _≢_, _⊎_, inl, inr, ⊎-elim, by-eq}
+use Rattle.protocol.specs.Prelude.{ℕ, suc, _≤_, _<_, arith, _≡_, refl, sym, ap, _∙_, _≢_, _⊎_, inl, inr, ⊎-elim, by-eq}
 use Rattle.protocol.specs.Prelude.{upd, upd-same, upd-other, bulk, bulk-elim, bulk-in, bulk-out, relabel-keep, at2, connect}
-use Rattle.protocol.specs.Prelude.{Plan, Ends, flip, ends-two, State, halved, merged, set-st, set-oo}
+use Rattle.protocol.specs.Prelude.{Plan, Ends, flip, same-edge, State, halved, merged, set-st, set-oo}
 use Rattle.protocol.specs.Prelude.{Both, Bounds, GL, GC, DK, Inf, Jn, Half, Inv, decided-find, half-at}
 use Rattle.protocol.specs.Decisions.{HalfOk}
 use Rattle.steps_merge.specs.Turn.{Turn}
@@ -170,7 +170,7 @@ module _ {p : Plan} {s : State} {v k y l : ℕ} (r : Ready p s v k y l) where
   -- what was joined is not k
   pub not-k : (j a b : ℕ) → Ends p j a b → Jn s j a b → k ≢ j
   not-k j a b e x z = ⊎-elim (λ q. omega (arith, r.leave.basic, x .0, at2 s.mark (q .0) z)) (λ q. omega (arith, r.leave.basic, x .1, at2 s.mark (q .0) z))
-      (ends-two (subst (λ n. Ends p n v y) z (r.leave.ends)) e)
+      (same-edge (r.leave.ends) e z)
 
   -- of an outside node
   pub joined-out : (j a b : ℕ) → Ends p j a b → Outside a → Both S′.mark j a b → Jn s j a b

@@ -1,5 +1,5 @@
 -- Test (l, f) from u at v over k, of another fragment: v answers Accept.
-use Rattle.protocol.specs.Prelude.{ℕ, suc, _+_, _≤_, arith, _≡_, refl, sym, ap, subst, _∙_, _≢_, _⊎_, inl, inr, ⊎-elim}
+use Rattle.protocol.specs.Prelude.{ℕ, _+_, _≤_, arith, _≡_, refl, sym, ap, subst, _∙_, _≢_, inl, ⊎-elim}
 use Rattle.protocol.specs.Prelude.{List, _∷_, upd2, by-eq, sumL}
 use Rattle.protocol.specs.Prelude.{Msg, test, accept}
 use Rattle.protocol.specs.Prelude.{Plan, Ends, flip, ends-same, other-end, State, Idle, set-ch, send, pop}
@@ -7,7 +7,7 @@ use Rattle.protocol.specs.Prelude.{isT, isA, isR, fits-accept, In, in-sum, pop-
 use Rattle.protocol.specs.Prelude.{snoc, snoc-in, snoc-old, kinds, snoc-sum, Inf, Waits, Inv, inf-awake}
 use Rattle.protocol.specs.Prelude.{plain-test, plain-accept, before, bests-same, flow, inv-passing, flow-take, flow-post}
 use Rattle.protocol.specs.Traffic.{AcceptOk, Testing, Answers}
-use Rattle.steps_search.specs.Answer.{tests, even}
+use Rattle.steps_search.specs.Answer.{even, crossed}
 
 module _ {p : Plan} {s : State} (i : Inv p s) {u v k l f : ℕ} {r : List Msg} (idle : Idle s) (ends : Ends p k u v) (awake : s.st v ≢ 0) (q : s.ch u k ≡ test l f ∷ r)
     (low : l ≤ s.lev v) (differ : s.id v ≢ f) where
@@ -67,13 +67,9 @@ module _ {p : Plan} {s : State} (i : Inv p s) {u v k l f : ℕ} {r : List Msg} (
     e1 = λ j w x a b e h. i.E1.e1 j w x a b e (old isT refl (omega arith) w j h);
     e1w = λ j w x a b e h. i.E1.e1w j w x a b e (old isT refl (omega arith) w j h);
     e2w = λ j w x e a b. level j w x e ∙ i.E1.e2w j w x e a b;
-    e2c = λ j w x e a b. omega (arith, level j w x e, i.E1.e2c j w x e a b, tests p s ends q accept refl refl x j (crossed j x b));
+    e2c = λ j w x e a b. omega (arith, level j w x e, i.E1.e2c j w x e a b, crossed p s ends q accept refl refl idle (waits .0) j x b);
     m6t = λ j w x e m z. omega (arith, snoc-sum c₁ v k accept isT refl x j, pop-le s.ch u k q isT x j, i.E1.m6t j w x e m z);
   }
-    where
-      crossed : (j x : ℕ) → (s.te x ≢ j) ⊎ (s.ot ≡ suc x) → (u ≢ x) ⊎ (k ≢ j)
-      crossed j x b = by-eq u x
-          (λ y. inr (λ z. ⊎-elim (λ n. n (ap s.te (sym y) ∙ waits .0 ∙ z)) (λ o. omega (arith, idle .0)) b)) (λ y. inl y)
 
   A1′ : Answers p S′
   A1′ = record {

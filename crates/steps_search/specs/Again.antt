@@ -1,9 +1,9 @@
 -- v, which waits on k, takes m from u over k, strikes its mark for k and is to test again: a Reject, and a Test that crossed its own.
-use Rattle.protocol.specs.Prelude.{ℕ, suc, _+_, _≤_, arith, _≡_, refl, sym, ap, subst, _∙_, _≢_, _⊎_, inl, inr, ⊎-elim}
+use Rattle.protocol.specs.Prelude.{ℕ, suc, _+_, _≤_, arith, _≡_, sym, ap, subst, _∙_, _≢_, _⊎_, inl, inr, ⊎-elim}
 use Rattle.protocol.specs.Prelude.{List, _∷_, upd2, by-eq, sumL}
 use Rattle.protocol.specs.Prelude.{Msg, test}
 use Rattle.protocol.specs.Prelude.{Plan, Ends, flip, other-end, ends-irr, State, Idle, Strike, set-ch, set-mark, set-ot, marked, pop}
-use Rattle.protocol.specs.Prelude.{isT, isA, isR, In, pop-in, pop-sum, pop-le, else-same, here-new, at2, upd2-elim, none-in, Waits, Inv, waits-find}
+use Rattle.protocol.specs.Prelude.{isT, isA, isR, In, pop-in, pop-sum, pop-le, else-same, here-new, at2, none-in, Waits, Inv, waits-find}
 use Rattle.protocol.specs.Prelude.{Plain, bests-same, flow, flow-open, flow-take}
 use Rattle.protocol.specs.Search.{Pending, Tests}
 use Rattle.protocol.specs.Traffic.{Testing, Answers, Bests}
@@ -147,14 +147,11 @@ module _ {p : Plan} {s : State} (i : Inv p s) {u v k c : ℕ} {m : Msg} {r : Lis
           (λ z. absurd (omega (arith, none-in isT z (subst (λ y. In (test l f) y) (sym (at2 s.ch a b)) (old w j n)))))
           (λ t. let y = other-end back e a b in inr (
             inr (ap suc a),
-            sym (at2 m′ a b) ∙ here2 ∙ t .1,
+            sym (at2 m′ a b) ∙ here-new s.mark v k c ∙ t .1,
             subst (λ d. Waits S′ d j) y (subst (λ d. Waits S′ u d) b (still k u (λ q. ends-irr p back q) (t .0))),
             ap s.fr (sym a) ∙ h.inside ∙ ap s.fr y,
           ))
           (h.own)
-        where
-          here2 : m′ v k ≡ c
-          here2 = upd2-elim (λ x. x ≡ c) s.mark v k c v k (λ a b. refl) (λ n. absurd (⊎-elim (λ f. f refl) (λ f. f refl) n))
 
       -- no Test from u is left
       gone : (j w x l f : ℕ) → Ends p j w x → v ≡ x → k ≡ j → In (test l f) (c′ w j) → ⊥

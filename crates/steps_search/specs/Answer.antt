@@ -1,6 +1,6 @@
 -- v takes the Test of u over k and sends an answer m: one Test less from u, one answer more from v.
-use Rattle.protocol.specs.Prelude.{ℕ, _+_, arith, _≡_, refl, ap, _∙_, _≢_, _⊎_, inl, inr}
-use Rattle.protocol.specs.Prelude.{List, _∷_, upd2, by-eq, sumL, Msg, test, Plan, Ends, flip, other-end, State, isT, isA}
+use Rattle.protocol.specs.Prelude.{ℕ, suc, _+_, arith, _≡_, refl, sym, ap, _∙_, _≢_, _⊎_, inl, inr, ⊎-elim}
+use Rattle.protocol.specs.Prelude.{List, _∷_, upd2, by-eq, sumL, Msg, test, Plan, Ends, flip, other-end, State, Idle, isT, isA}
 use Rattle.protocol.specs.Prelude.{pop-sum, pop-here, else-same, snoc, snoc-sum, snoc-here, snoc-else}
 
 module _ (p : Plan) (s : State) {u v k l f : ℕ} {r : List Msg} (ends : Ends p k u v) (q : s.ch u k ≡ test l f ∷ r) (m : Msg) (no-test : isT m ≡ 0) (answer : isA m ≡ 1) where
@@ -43,3 +43,7 @@ module _ (p : Plan) (s : State) {u v k l f : ℕ} {r : List Msg} (ends : Ends p 
       (λ y. let n : v ≢ x = λ o. y (other-end (flip ends) (flip e) o z) in
       omega (arith, tests w j (inl y), answers x j (inl n))))
       (λ z. omega (arith, tests w j (inr z), answers x j (inr z)))
+
+  -- no Test of one who does not wait on k is touched: u waits there
+  pub crossed : Idle s → s.te u ≡ k → (j x : ℕ) → (s.te x ≢ j) ⊎ (s.ot ≡ suc x) → sumL isT (c′ x j) ≡ sumL isT (s.ch x j)
+  crossed idle e j x b = tests x j (by-eq u x (λ y. inr (λ z. ⊎-elim (λ n. n (ap s.te (sym y) ∙ e ∙ z)) (λ o. omega (arith, idle .0)) b)) (λ y. inl y))

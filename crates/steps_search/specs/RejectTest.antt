@@ -1,5 +1,5 @@
 -- Test of v's own fragment from u, over k that is not v's test edge: the mark is struck, v answers Reject.
-use Rattle.protocol.specs.Prelude.{ℕ, suc, _+_, _≤_, arith, _≡_, refl, sym, ap, subst, _∙_, _≢_, _⊎_, inl, inr, ⊎-elim}
+use Rattle.protocol.specs.Prelude.{ℕ, _+_, _≤_, arith, _≡_, refl, sym, ap, subst, _∙_, _≢_, _⊎_, inl, inr, ⊎-elim}
 use Rattle.protocol.specs.Prelude.{List, _∷_, upd2, upd2-elim, by-eq, sumL}
 use Rattle.protocol.specs.Prelude.{Msg, test, reject}
 use Rattle.protocol.specs.Prelude.{Plan, Ends, flip, ends-same, other-end, State, Idle, Strike, set-ch, send, pop, marked}
@@ -9,7 +9,7 @@ use Rattle.protocol.specs.Prelude.{plain-test, plain-reject, before, bests-same
 use Rattle.protocol.specs.Search.{Tests}
 use Rattle.protocol.specs.Traffic.{RejectOk, Testing, Answers, Bests}
 use Rattle.steps_search.specs.Own.{inf-u, inside, branch-v, branch-u}
-use Rattle.steps_search.specs.Answer.{tests, tests-here, even}
+use Rattle.steps_search.specs.Answer.{tests-here, even, crossed}
 use Rattle.steps_search.specs.Strike.{struck, up1, up2, up0, dn0, dn1, dn2, up-both, dn-both, flow-strike, inv-strike}
 
 module _ {p : Plan} {s : State} (i : Inv p s) {u v k l f c : ℕ} {r : List Msg} (idle : Idle s) (ends : Ends p k u v) (awake : s.st v ≢ 0) (q : s.ch u k ≡ test l f ∷ r)
@@ -102,7 +102,7 @@ module _ {p : Plan} {s : State} (i : Inv p s) {u v k l f c : ℕ} {r : List Msg}
         (λ t. inr (t .0, up2 p s v k c strike w j (t .1), t .2, t .3))
         (i.E1.e1w j w x a b e (old isT refl (omega arith) w j h));
     e2w = λ j w x e a b. level j w x e ∙ i.E1.e2w j w x e a b;
-    e2c = λ j w x e a b. omega (arith, level j w x e, i.E1.e2c j w x e a b, tests p s ends q reject refl refl x j (crossed j x b));
+    e2c = λ j w x e a b. omega (arith, level j w x e, i.E1.e2c j w x e a b, crossed p s ends q reject refl refl idle (waits .0) j x b);
     m6t = λ j w x e a b. ⊎-elim
         (λ o. omega (arith, snoc-sum c₁ v k reject isT refl x j, pop-le s.ch u k q isT x j, i.E1.m6t j w x e o (dn0 p s v k c strike x j b)))
         (λ o. omega (
@@ -117,10 +117,6 @@ module _ {p : Plan} {s : State} (i : Inv p s) {u v k l f c : ℕ} {r : List Msg}
     where
       level : (j w x : ℕ) → Ends p j w x → sumL isT (c′ w j) + sumL isA (c′ x j) ≡ sumL isT (s.ch w j) + sumL isA (s.ch x j)
       level = even p s ends q reject refl refl
-
-      crossed : (j x : ℕ) → (s.te x ≢ j) ⊎ (s.ot ≡ suc x) → (u ≢ x) ⊎ (k ≢ j)
-      crossed j x b = by-eq u x
-          (λ y. inr (λ z. ⊎-elim (λ n. n (ap s.te (sym y) ∙ waits .0 ∙ z)) (λ o. omega (arith, idle .0)) b)) (λ y. inl y)
 
   A1′ : Answers p S′
   A1′ = record {

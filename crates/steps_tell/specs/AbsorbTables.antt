@@ -2,7 +2,7 @@
 use Rattle.protocol.specs.Prelude.{ℕ, _+_, _^_, _≤_, _<_, arith, _≡_, refl, sym, ap, subst, _∙_, _≢_, inl, inr, ⊎-elim}
 use Rattle.protocol.specs.Prelude.{List, upd-elim, upd2-elim, by-eq, sum, size-mono}
 use Rattle.protocol.specs.Prelude.{Msg, none}
-use Rattle.protocol.specs.Prelude.{Plan, Ends, Tree, key, rank, joins-lt, flip, other-end, end-lt, ends-two, Way, join, hop, wider, State, absorbed, pop}
+use Rattle.protocol.specs.Prelude.{Plan, Ends, Tree, key, rank, joins-lt, flip, other-end, end-lt, same-edge, Way, join, hop, wider, State, absorbed, pop}
 use Rattle.protocol.specs.Prelude.{bulk-elim, sum-row, row-else, both-joined}
 use Rattle.protocol.specs.Prelude.{at2}
 use Rattle.protocol.specs.Prelude.{Both, Joined, members, GL, Inv}
@@ -115,7 +115,7 @@ module _ {p : Plan} {s : State} (i : Inv p s) {u v k l x : ℕ} {r : List Msg} (
   pub D1′ : Halves p s.dk s.dn s.de S′.fr s.gl s.lev s.ub S′.mark
   D1′ = record {
     m2 = λ j w y e h n. by-eq k j
-        (λ z. absurd (n (⊎-elim (λ t. sym (at2 S′.mark (t .1) z) ∙ F.joined i act .0) (λ t. sym (at2 S′.mark (t .0) z) ∙ F.joined i act .1) (ends-two act.ends (subst (λ a. Ends p a w y) (sym z) e)))))
+        (λ z. absurd (n (⊎-elim (λ t. sym (at2 S′.mark (t .1) z) ∙ F.joined i act .0) (λ t. sym (at2 S′.mark (t .0) z) ∙ F.joined i act .1) (same-edge act.ends e z))))
         (λ d. let t = i.D1.m2 j w y e (sym (F.mark-off i act w j (inr d)) ∙ h) (λ m. n (F.up1 i act y j m)) in
         F.dec-new i act 3 w j (λ a. d (sym (F.half i act .2) ∙ ap s.de (sym a) ∙ t .2)) t);
     d1f = λ w. F.lab i act (λ a. s.dk a ≡ 3 → S′.fr (s.dn a) ≡ a) w (λ z n h. F.fr-out i act (s.dn (s.fr z)) (λ y. n (sym (i.D1.d1f z h) ∙ y)) ∙ i.D1.d1f z h);

@@ -2,9 +2,9 @@
 use Rattle.protocol.specs.Prelude.{ℕ, _≤_, _<_, arith, _≡_, refl, sym, ap, subst, _∙_, _≢_, _⊎_, inl, inr, ⊎-elim}
 use Rattle.protocol.specs.Prelude.{List, _∷_, upd2-elim, by-eq}
 use Rattle.protocol.specs.Prelude.{Msg, connect, initiate}
-use Rattle.protocol.specs.Prelude.{Plan, Ends, flip, ends-two, ends-irr, State, Idle, Flag, absorbed, pop}
+use Rattle.protocol.specs.Prelude.{Plan, Ends, flip, same-edge, ends-irr, State, Idle, Flag, absorbed, pop}
 use Rattle.protocol.specs.Prelude.{bulk-elim, bulk-in, bulk-out, relabel-keep, relabel-cases}
-use Rattle.protocol.specs.Prelude.{In, at2, all-in, pop-head}
+use Rattle.protocol.specs.Prelude.{In, at2, here-new, else-same, all-in, pop-head}
 use Rattle.protocol.specs.Prelude.{Bounding, Decision, GL, GC, DK, Inf, Jn, Half, Told, Inv}
 use Rattle.protocol.specs.Prelude.{half-at, no-root, no-connect-decided}
 use Rattle.protocol.specs.Decisions.{HalfOk}
@@ -121,7 +121,7 @@ module _ {p : Plan} {s : State} (i : Inv p s) {u v k l x : ℕ} {r : List Msg} (
   rejected w j h = by-eq v w (λ a. inr (λ b. omega (arith, mark-v, at2 s.mark a b))) (λ a. inl a)
 
   pub mark-off : (w j : ℕ) → (v ≢ w) ⊎ (k ≢ j) → S′.mark w j ≡ s.mark w j
-  mark-off w j n = upd2-elim (λ y. y ≡ s.mark w j) s.mark v k 1 w j (λ a b. absurd (⊎-elim (λ f. f a) (λ f. f b) n)) (λ m. refl)
+  mark-off w j n = else-same s.mark v k 1 w j n
 
   pub up-both : (j a b : ℕ) → Jn s j a b → Jn S′ j a b
   up-both j a b h = (up1 a j (h .0), up1 b j (h .1))
@@ -129,11 +129,11 @@ module _ {p : Plan} {s : State} (i : Inv p s) {u v k l x : ℕ} {r : List Msg} (
   -- a joined edge: k, from either end, or one that was joined
   pub jn {κ} : {C : Type κ} (j a b : ℕ) → Ends p j a b → Jn S′ j a b → (v ≡ a → u ≡ b → k ≡ j → C) → (u ≡ a → v ≡ b → k ≡ j → C) → (k ≢ j → Jn s j a b → C) → C
   jn j a b e h f g o = by-eq k j
-      (λ z. ⊎-elim (λ t. g (t .0) (t .1) z) (λ t. f (t .1) (t .0) z) (ends-two act.ends (subst (λ y. Ends p y a b) (sym z) e)))
+      (λ z. ⊎-elim (λ t. g (t .0) (t .1) z) (λ t. f (t .1) (t .0) z) (same-edge act.ends e z))
       (λ n. o n (sym (mark-off a j (inr n)) ∙ h .0, sym (mark-off b j (inr n)) ∙ h .1))
 
   pub joined : Jn S′ k v u
-  joined = (upd2-elim (λ y. y ≡ 1) s.mark v k 1 v k (λ a b. refl) (λ n. absurd (⊎-elim (λ f. f refl) (λ f. f refl) n)), up1 u k mark-u)
+  joined = (here-new s.mark v k 1, up1 u k mark-u)
 
   -- a bound of a fragment other than D stays one
   pub bounds : (n z : ℕ) → s.fr z ≢ s.fr u → Bounding p s.fr s.mark n z → Bounding p S′.fr S′.mark n z
@@ -219,7 +219,7 @@ module _ {p : Plan} {s : State} (i : Inv p s) {u v k l x : ℕ} {r : List Msg} (
   -- k was joined from neither end
   pub not-joined : (j a b : ℕ) → Ends p j a b → Jn s j a b → k ≢ j
   not-joined j a b e h z = ⊎-elim (λ t. omega (arith, mark-v, h .1, at2 s.mark (t .1) z)) (λ t. omega (arith, mark-v, h .0, at2 s.mark (t .1) z))
-      (ends-two act.ends (subst (λ y. Ends p y a b) (sym z) e))
+      (same-edge act.ends e z)
 
   -- no Initiate was on its way to u
   pub no-init : (n g y : ℕ) → ¬ In (initiate n g y) (s.ch v k)

@@ -1,11 +1,11 @@
 -- In a stuck state an undecided fragment waits for one of a lower level, and one that is half for one that is half on an earlier edge.
-use Rattle.protocol.specs.Prelude.{ℕ, zero, suc, _+_, _-_, _≤_, _<_, arith, _≡_, refl, sym, ap, subst, _∙_, _≢_, _⊎_, inl, inr, ⊎-elim, by-eq, sum, sumL, le-sum}
-use Rattle.protocol.specs.Prelude.{Msg, none, connect, initiate, test, accept, reject, report, change, Plan, Ends, end-lt, up, joins-lt, flip, ends-two, ends-irr, edge-some, State}
+use Rattle.protocol.specs.Prelude.{ℕ, zero, suc, _-_, _≤_, _<_, arith, _≡_, refl, sym, ap, _∙_, _≢_, _⊎_, inl, inr, ⊎-elim, by-eq, sum, sumL, le-sum}
+use Rattle.protocol.specs.Prelude.{none, connect, test, report, Plan, Ends, end-lt, up, joins-lt, flip, same-edge, State}
 use Rattle.protocol.specs.Prelude.{rank, rank-inj, isT, isR, In, some-test, some-report, GL, GC, DK, Inf, Jn, Half, Waits, Inv, down-core, half-of}
 use mathlib.Core.Logic.{Dec·and}
 use native.Mathlib.Decide.{ℕ-discrete}
 use Rattle.base.specs.Search.{best, Best}
-use Rattle.stuck.specs.Informed.{Stuck, no-ans, core-inf, all-inf, level, not-low}
+use Rattle.stuck.specs.Informed.{Stuck, no-ans, all-inf, level, not-low}
 
 -- a sum that is not zero has a term that is not
 pub some-term : (n : ℕ) (f : ℕ → ℕ) → sum n f ≢ 0 → (k : ℕ) × (k < n) × (f k ≢ 0)
@@ -161,4 +161,4 @@ module _ {p : Plan} {s : State} (i : Inv p s) (t : Stuck p s) where
     where
       -- not on the same edge: its end there is Basic
       same : (j k a b z y : ℕ) → Ends p j a b → Ends p k z y → j ≡ k → s.mark a j ≡ 1 → s.mark y k ≡ 0 → a ≢ z → ⊥
-      same j k a b z y e f q m n d = ⊎-elim (λ r. d (r .0)) (λ r. omega (arith, m, n, ap (λ x. s.mark x j) (r .0), ap (s.mark y) q)) (ends-two (subst (λ x. Ends p x a b) q e) f)
+      same j k a b z y e f q m n d = ⊎-elim (λ r. d (r .0)) (λ r. omega (arith, m, n, ap (λ x. s.mark x j) (r .0), ap (s.mark y) q)) (same-edge e f q)
