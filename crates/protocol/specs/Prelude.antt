@@ -44,7 +44,7 @@ pub use Rattle.protocol.specs.Facts.{sleep-lev, sleep-id, sleep-te, slee
 pub use Rattle.protocol.specs.Facts.{inf-cases, inf-awake, inf-found, te-find, fc-find, waits-find, low-find, decided-find, no-waits, no-answer}
 pub use Rattle.protocol.specs.Facts.{joined-level, out-joined, half-of, told-of, root-of, no-root, half-at, up-other, down-core, core-informed}
 pub use Rattle.protocol.specs.Facts.{no-initiate, no-connect, no-connect-decided, decided-initiate, decided-report, decided-test, rest-none}
-pub use Rattle.protocol.specs.Same.{outst-ch, live-ch, last, live-to, covered-to, owing-same, bests-same, connects-same, initiates-same, answers-same, testing-same}
+pub use Rattle.protocol.specs.Same.{outst-ch, live-ch, last, live-to, covered-to, owing-same, bests-same, connects-same, initiates-same, init-ok, answers-same, testing-same}
 pub use Rattle.protocol.specs.Same.{Around, around-same, Alike, core-same, reports-same}
 pub use Rattle.protocol.specs.Flow.{Flow, flow, inv-asking, inv-passing}
 pub use Rattle.protocol.specs.Reopen.{reopened, flow-open}

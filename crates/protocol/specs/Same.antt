@@ -11,8 +11,8 @@ use Rattle.protocol.specs.Plan.{Plan, Ends, rank}
 use Rattle.protocol.specs.State.{State, set-ch}
 use Rattle.protocol.specs.Kind.{isCI, isT, isA, isR}
 use Rattle.protocol.specs.Chan.{In, Bef}
-use Rattle.protocol.specs.Notion.{GL, Outst, Live, Covered, CoreEnds}
-use Rattle.protocol.specs.Traffic.{Connects, Initiates, Testing, Answers, Reports, Owing, Bests}
+use Rattle.protocol.specs.Notion.{Both, GL, Outst, Live, Covered, CoreEnds}
+use Rattle.protocol.specs.Traffic.{Connects, InitOk, Initiates, Testing, Answers, Reports, Owing, Bests}
 
 -- ---- Reports to come, live best weights, what covers an edge
 
@@ -62,6 +62,22 @@ connects-same p s c′ old o = record { c1m = λ k u v l e n. o.c1m k u v l e (o
 pub initiates-same : (p : Plan) (s : State) (c′ : ℕ → ℕ → List Msg) → ((w j l f x : ℕ) → In (initiate l f x) (c′ w j) → In (initiate l f x) (s.ch w j))
     → Initiates p s → Initiates p (set-ch s c′)
 initiates-same p s c′ old o = record { i1 = λ k u v l f x e n. o.i1 k u v l f x e (old u k l f x n) }
+
+-- an Initiate stays in order where marks, inbound edges or dues change, but not for it
+pub init-ok : {p : Plan} {lev fr gl gc ub due ub′ due′ : ℕ → ℕ} {mark mark′ : ℕ → ℕ → ℕ} {k u v l f x : ℕ} → InitOk p lev fr gl gc ub due mark k u v l f x
+    → Both mark′ k u v → ub′ v ≡ k → due′ v ≡ due v → InitOk p lev fr gl gc ub′ due′ mark′ k u v l f x
+init-ok t j u d = record {
+  i1j = j;
+  i1u = u;
+  i1l = t.i1l;
+  i1g = t.i1g;
+  i1f = t.i1f;
+  i1i = t.i1i;
+  i1c = t.i1c;
+  i1d = λ q. t.i1d q ∙ sym d;
+  i1s = t.i1s;
+  i1z = t.i1z;
+}
 
 pub answers-same : (p : Plan) (s : State) (c′ : ℕ → ℕ → List Msg) → ((w j : ℕ) → In accept (c′ w j) → In accept (s.ch w j))
     → ((w j : ℕ) → In reject (c′ w j) → In reject (s.ch w j)) → Answers p s → Answers p (set-ch s c′)

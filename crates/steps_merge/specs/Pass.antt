@@ -1,6 +1,6 @@
 -- v's fragment takes a decision of kind d with node v and edge k, as v sends m over it: 3 for a Connect, 2 for a Change-root.
 -- What differs between the two is in `Own`; the rest is proved here once.
-use Rattle.protocol.specs.Prelude.{ℕ, _≤_, arith, _≡_, sym, ap, subst, _∙_, _≢_, _⊎_, inl, inr, ⊎-elim, by-eq, last}
+use Rattle.protocol.specs.Prelude.{ℕ, _≤_, arith, _≡_, refl, sym, ap, subst, _∙_, _≢_, _⊎_, inl, inr, ⊎-elim, by-eq, last, init-ok}
 use Rattle.protocol.specs.Prelude.{upd, upd-elim, upd-same, upd-other, upd2, upd2-elim, All, at2}
 use Rattle.protocol.specs.Prelude.{Msg, connect, report, change}
 use Rattle.protocol.specs.Prelude.{Plan, Ends, Tree, flip, State, set-st, set-oo, set-ub, send, marked, decided}
@@ -317,18 +317,7 @@ module _ {p : Plan} {s : State} (i : Inv p s) {v y k d : ℕ} {m : Msg} (t : Tur
   I1′ : Initiates p S′
   I1′ = record {
     i1 = λ j w u l f x e n. let r = i.I1.i1 j w u l f x e (M.old i t h isI (h.not-i) (omega arith) w j n) in
-        record {
-          i1j = M.both-up i t h j w u (r.i1j);
-          i1u = M.ub-off i t h u (M.low-off i t h u (omega (arith, r.i1l, r.i1g))) ∙ r.i1u;
-          i1l = r.i1l;
-          i1g = r.i1g;
-          i1f = r.i1f;
-          i1i = r.i1i;
-          i1c = r.i1c;
-          i1d = r.i1d;
-          i1s = r.i1s;
-          i1z = r.i1z;
-        };
+        init-ok r (M.both-up i t h j w u (r.i1j)) (M.ub-off i t h u (M.low-off i t h u (omega (arith, r.i1l, r.i1g))) ∙ r.i1u) refl;
   }
 
   T4′ : Telling p S′

@@ -5,7 +5,7 @@ use Rattle.protocol.specs.Prelude.{Msg, none, connect, initiate, report}
 use Rattle.protocol.specs.Prelude.{Plan, Ends, joins-lt, flip, other-end, ends-irr, State, set-ch, reported}
 use Rattle.protocol.specs.Prelude.{isC, isI, isCI, isT, isA, isR, isK, arg1, fits-report, Fits, In, Bef, bef-before, in-sum}
 use Rattle.protocol.specs.Prelude.{snoc, snoc-elim, snoc-in, snoc-old, in-snoc2, snoc-bef, snoc-sum, snoc-here, snoc-else, snoc-all}
-use Rattle.protocol.specs.Prelude.{some-connect, no-reports, no-calls, none-in, answers-same, connects-same, testing-same, around-same, core-same, post-telling}
+use Rattle.protocol.specs.Prelude.{some-connect, no-reports, no-calls, none-in, answers-same, connects-same, testing-same, init-ok, around-same, core-same, post-telling}
 use Rattle.protocol.specs.Prelude.{GL, GC, DK, Inf, Jn, Outst, Live, Child, CoreEnds, Spent, Inv}
 use Rattle.protocol.specs.Prelude.{inf-cases, fc-find, mark-awake, up-other, no-initiate, no-connect, no-root}
 use Rattle.protocol.specs.Fragments.{Ranges, Sleepers}
@@ -211,19 +211,7 @@ module _ {p : Plan} {s : State} (i : Inv p s) {v k u : ℕ} (ot : s.ot ≡ 0) (o
 
   I1′ : Initiates p S′
   I1′ = record {
-    i1 = λ j a w l f x e n. let o = old isI refl (omega arith) a j n in let t = i.I1.i1 j a w l f x e o in
-        record {
-          i1j = t.i1j;
-          i1u = t.i1u;
-          i1l = t.i1l;
-          i1g = t.i1g;
-          i1f = t.i1f;
-          i1i = t.i1i;
-          i1c = t.i1c;
-          i1d = λ q. t.i1d q ∙ sym (due-low w (omega (arith, t.i1l, t.i1g)));
-          i1s = t.i1s;
-          i1z = t.i1z;
-        };
+    i1 = λ j a w l f x e n. let t = i.I1.i1 j a w l f x e (old isI refl (omega arith) a j n) in init-ok t (t.i1j) (t.i1u) (due-low w (omega (arith, t.i1l, t.i1g)));
   }
 
   T4′ : Telling p S′

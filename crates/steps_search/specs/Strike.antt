@@ -1,7 +1,7 @@
 -- A mark of v for k that is Basic becomes Rejected: what stays of the clauses that read marks.
-use Rattle.protocol.specs.Prelude.{ℕ, _≤_, arith, _≡_, sym, ap, subst, _∙_, _≢_, _⊎_, inl, inr, ⊎-elim}
+use Rattle.protocol.specs.Prelude.{ℕ, _≤_, arith, _≡_, refl, sym, ap, subst, _∙_, _≢_, _⊎_, inl, inr, ⊎-elim}
 use Rattle.protocol.specs.Prelude.{upd2, upd2-elim, by-eq, Plan, Ends, key, rank, flip, other-end, wider, State, Strike, set-mark, set-ch, set-ot, List, Msg}
-use Rattle.protocol.specs.Prelude.{Both, Bounding, Inv, Flow, at2}
+use Rattle.protocol.specs.Prelude.{Both, Bounding, Inv, Flow, init-ok, at2}
 use Rattle.protocol.specs.Fragments.{Ranges, Cores, Sleepers, Marks, Inbounds}
 use Rattle.protocol.specs.Decisions.{Halves, Tellings, Rootings, Finishes}
 use Rattle.protocol.specs.Search.{Kids, Pending, Tests}
@@ -56,21 +56,7 @@ module _ (p : Plan) (s : State) (v k c : ℕ) (strike : Strike s v k c) where
   connects-strike o = record { c1m = λ j u w l e n. up1 u j (o.c1m j u w l e n); c1 = λ j u w l e n m. o.c1 j u w l e n (dn1 w j m) }
 
   initiates-strike : Initiates p s → Initiates p (set-mark s struck)
-  initiates-strike o = record {
-    i1 = λ j u w l f x e n. let t = o.i1 j u w l f x e n in
-        record {
-          i1j = up-both j u w (t.i1j);
-          i1u = t.i1u;
-          i1l = t.i1l;
-          i1g = t.i1g;
-          i1f = t.i1f;
-          i1i = t.i1i;
-          i1c = t.i1c;
-          i1d = t.i1d;
-          i1s = t.i1s;
-          i1z = t.i1z;
-        };
-  }
+  initiates-strike o = record { i1 = λ j u w l f x e n. let t = o.i1 j u w l f x e n in init-ok t (up-both j u w (t.i1j)) (t.i1u) refl }
 
   telling-strike : Telling p s → Telling p (set-mark s struck)
   telling-strike o = record {
