@@ -1,6 +1,6 @@
 -- THE BRIDGE: the response that the rules define for a node, at any state with the invariant, is a sequence of small steps, and is never
 -- refused by 32. For all kinds of messages and all corners of document 01.
-use Prim.Native.Nat.{ℕ, _+_, _<_}
+use Prim.Native.Nat.{ℕ, _<_}
 use native.Mathlib.Omega.{arith}
 use mathlib.Core.Path.{_≡_, refl, sym, ap, _∙_}
 use mathlib.Core.Logic.{_≢_, _⊎_, inl, inr, ⊎-elim}

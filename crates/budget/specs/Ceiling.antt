@@ -1,7 +1,7 @@
 -- THE CEILING: at most N × (5 ⌊log2 N⌋ − 2) + 2 L messages for N ≥ 2, none for N ≤ 1; so at most 5 N ⌊log2 N⌋ + 2 L.
-use Rattle.protocol.specs.Prelude.{ℕ, zero, suc, _+_, _*_, _^_, _≤_, _<_, arith, _≡_, refl, sym, ap, subst, _∙_, _≢_, _⊎_, inl, inr, ⊎-elim, by-eq, sum, sum-le, sum-add, none}
-use Rattle.protocol.specs.Prelude.{Plan, Ends, end-lt, flip, State, Step, setup, GL, GC, DK, Inf, Inv, sends, half-of, told-of, root-of, edge-some}
-use Rattle.base.specs.Log.{log2, log2-low, level-le}
+use Rattle.protocol.specs.Prelude.{ℕ, suc, _+_, _*_, _≤_, _<_, arith, _≡_, refl, sym, ap, _∙_, _≢_, _⊎_, inl, inr, by-eq, sum-le, sum-add, none}
+use Rattle.protocol.specs.Prelude.{Plan, end-lt, flip, State, Step, setup, GL, DK, Inf, Inv, sends, half-of, told-of, root-of, edge-some}
+use Rattle.base.specs.Log.{log2, level-le}
 use mathlib.Core.Logic.{by-cases}
 use native.Mathlib.Decide.{decLe}
 use Rattle.base.specs.Sum.{sum-const}

@@ -1,6 +1,6 @@
 -- The message budget: what may still be sent lies in tables, and each step pays from them. Level z is the last, ⌊log2 N⌋.
 -- A node that is about to reach a level brings 5: its Initiate, its Report, a Test with its Accept, and a Change-root or Connect.
-use Rattle.protocol.specs.Prelude.{ℕ, zero, suc, _+_, _*_, _≤_, _<_, arith, _≡_, refl, sym, ap, subst, _∙_, _≢_, _⊎_, inl, inr, ⊎-elim}
+use Rattle.protocol.specs.Prelude.{ℕ, suc, _+_, _*_, _≤_, _<_, arith, _≡_, sym, ap, _∙_, _≢_, _⊎_}
 use Rattle.protocol.specs.Prelude.{List, [], _∷_, eqb, eqb-same, eqb-diff, bit, by-eq, sum, sumL, Msg, none, connect, initiate, test, accept, reject, report, change}
 use Rattle.protocol.specs.Prelude.{Plan, Ends, State, isT, isA, isY, top, Awaits}
 

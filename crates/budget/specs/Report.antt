@@ -1,10 +1,10 @@
 -- A Report is paid from rp, a Change-root from rt.
-use Rattle.protocol.specs.Prelude.{ℕ, zero, suc, _+_, _-_, _*_, eqb, bit, _≤_, _<_, arith, _≡_, refl, sym, ap, subst, _∙_, _≢_, _⊎_, inl, inr, ⊎-elim, by-eq}
-use Rattle.protocol.specs.Prelude.{List, [], _∷_, _++_, sum, sumL, upd, upd-elim, upd-same, upd-other, upd2, upd2-elim, sum-upd, Msg, none, connect, initiate, test, accept, reject, report, change}
-use Rattle.protocol.specs.Prelude.{Plan, Ends, end-lt, joins-lt, flip, ends-same, ends-two, ends-irr, State, Idle, FirstBasic}
-use Rattle.protocol.specs.Prelude.{isI, isT, isA, isY, In, snoc, snoc-sum, snoc-here, snoc-else, top, top-none, GL, GC, DK, Inf, Jn, Waits, Inv}
-use Rattle.budget.specs.Paid.{LT, Heights, Dues, Tries, Links, Paid, lt-last, lt-else, lt-none, lt-le, lt-same, yes-le}
-use Rattle.budget.specs.Height.{Neutral, heights-pop, heights-send, links-send, dues-decide, tb-inf, tb-none}
+use Rattle.protocol.specs.Prelude.{ℕ, suc, _+_, _≤_, _<_, arith, _≡_, refl, sym, ap, subst, _∙_, _≢_, _⊎_, ⊎-elim, by-eq}
+use Rattle.protocol.specs.Prelude.{upd, upd-elim, upd-same, upd-other, sum-upd, none, report, change}
+use Rattle.protocol.specs.Prelude.{Plan, Ends, end-lt, State}
+use Rattle.protocol.specs.Prelude.{snoc, top, top-none, GL, Inf, Inv}
+use Rattle.budget.specs.Paid.{Heights, Paid}
+use Rattle.budget.specs.Height.{heights-send, links-send, tb-inf}
 use Rattle.protocol.specs.Prelude.{set-ub, set-oo, send, decided, reported, no-initiate}
 
 module _ {p : Plan} {z n : ℕ} {s : State} (i : Inv p s) (h : Paid p z s n) where

@@ -1,5 +1,5 @@
 -- EVERY STEP PAYS FOR WHAT IT SENDS.
-use Rattle.protocol.specs.Prelude.{ℕ, zero, suc, _+_, _*_, _≤_, _<_, arith, _≡_, refl, sym, ap, subst, _∙_, _≢_, _⊎_, Plan, Ends, end-lt, flip, ends-irr, State, Step, Inv, sends}
+use Rattle.protocol.specs.Prelude.{ℕ, _+_, _≤_, arith, _≡_, refl, Plan, Ends, end-lt, flip, ends-irr, State, Step, Inv, sends}
 use Rattle.protocol.specs.Step.{wake-lone, wake-half, wake-merge, back, absorb, core-reply, tell, accept-test, reject-test, crossed-test, accepted, rejected}
 use Rattle.protocol.specs.Step.{child-report, core-nothing, core-halt, decide, change-root, test-next, test-none, report-now, report-later, root-branch, root-half, root-merge}
 use Rattle.base.specs.Log.{log2}

@@ -1,5 +1,5 @@
 -- WHATEVER SEQUENCE OF SMALL STEPS IS TAKEN FROM SETUP: the invariant holds, and no more messages are sent than the ceiling.
-use Rattle.protocol.specs.Prelude.{ℕ, _+_, _*_, _≤_, arith, _≡_, refl, sym, ap, subst, _∙_, Plan, Tree, State, setup, Inv, sends, Steps, done, then}
+use Rattle.protocol.specs.Prelude.{ℕ, _+_, _*_, _≤_, arith, _≡_, subst, Plan, Tree, State, setup, Inv, sends, Steps, done, then}
 use Rattle.protocol.specs.Setup.{inv-setup}
 use Rattle.base.specs.Log.{log2}
 use Rattle.budget.specs.Ceiling.{Sent, sent-setup, sent-step, sent-ceiling, sent-low}

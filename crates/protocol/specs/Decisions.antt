@@ -1,7 +1,7 @@
 -- Clauses on the decisions of fragments that speak of tables, not of channels.
-use Prim.Native.Nat.{ℕ, suc, _+_, _^_, _≤_, _<_}
+use Prim.Native.Nat.{ℕ, suc, _≤_}
 use mathlib.Core.Path.{_≡_}
-use mathlib.Core.Logic.{_≢_, _⊎_}
+use mathlib.Core.Logic.{_≢_}
 use Rattle.message.specs.Msg.{none}
 use Rattle.protocol.specs.Plan.{Plan, Ends, key, rank}
 use Rattle.protocol.specs.Notion.{Informed, Both, Bounding, Decision, Rooting}

@@ -1,19 +1,19 @@
 -- Facts that follow from the invariant in one state. The proofs of the steps begin with these.
-use Prim.Native.Nat.{ℕ, zero, suc, _+_, _≤_, _<_, zero-le}
+use Prim.Native.Nat.{ℕ, _≤_, _<_}
 use native.Mathlib.Omega.{arith}
 use mathlib.Core.Path.{_≡_, refl, sym, ap, subst, _∙_}
-use mathlib.Core.Logic.{_≢_, _⊎_, inl, inr, ⊎-elim}
-use mathlib.Core.List.{List, [], _∷_, _++_}
+use mathlib.Core.Logic.{_≢_, ⊎-elim}
+use mathlib.Core.List.{List, _∷_}
 use Rattle.base.specs.Cond.{by-eq}
 use Rattle.base.specs.Pool.{sumL}
-use Rattle.graph.specs.Ways.{joins-lt, flip, ends-same, ends-two}
-use Rattle.message.specs.Msg.{Msg, none, connect, initiate, test, accept, reject, report, change}
-use Rattle.protocol.specs.Plan.{Plan, Ends, key, rank, edge-some, ends-irr}
+use Rattle.graph.specs.Ways.{flip}
+use Rattle.message.specs.Msg.{Msg, none, connect, initiate, test, report}
+use Rattle.protocol.specs.Plan.{Plan, Ends, edge-some, ends-irr}
 use Rattle.protocol.specs.State.{State}
-use Rattle.protocol.specs.Kind.{isC, isCI, isT, isA, isR, isK, Fits}
-use Rattle.protocol.specs.Chan.{In, Bef, heads, first, sum-none}
-use Rattle.protocol.specs.Lemmas.{no-answers, no-calls, some-connect, none-in}
-use Rattle.protocol.specs.Notion.{GL, GC, DK, Inf, Jn, Half, Told, Root, Waits, Outst, Child, CoreEnds, Spent}
+use Rattle.protocol.specs.Kind.{isC, isA, Fits}
+use Rattle.protocol.specs.Chan.{In, Bef, heads, sum-none}
+use Rattle.protocol.specs.Lemmas.{no-answers, none-in}
+use Rattle.protocol.specs.Notion.{GL, GC, DK, Inf, Jn, Half, Told, Root, Waits, Spent}
 use Rattle.protocol.specs.Inv.{Inv}
 
 module _ {p : Plan} {s : State} (i : Inv p s) where

@@ -1,6 +1,6 @@
 -- Clauses on values, fragments, sleepers, marks and inbound edges. They speak of tables, not of channels:
 -- a step that leaves these tables alone keeps the record itself.
-use Prim.Native.Nat.{ℕ, suc, _+_, _^_, _≤_, _<_}
+use Prim.Native.Nat.{ℕ, _^_, _≤_, _<_}
 use mathlib.Core.Path.{_≡_}
 use mathlib.Core.Logic.{_≢_, _⊎_}
 use Rattle.graph.specs.Graph.{Way}

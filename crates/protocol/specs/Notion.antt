@@ -1,8 +1,7 @@
 -- The notions that the clauses of the invariant speak of. Those over a few tables come first; the others take the state.
-use Prim.Native.Nat.{ℕ, suc, _+_, _^_, _≤_, _<_}
+use Prim.Native.Nat.{ℕ, suc, _≤_, _<_}
 use mathlib.Core.Path.{_≡_}
 use mathlib.Core.Logic.{_≢_, _⊎_}
-use mathlib.Core.List.{List}
 use Rattle.base.specs.Pool.{sumL}
 use Rattle.graph.specs.Size.{size}
 use Rattle.message.specs.Msg.{Msg, none, initiate, report}

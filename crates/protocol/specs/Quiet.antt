@@ -1,8 +1,8 @@
 -- THE QUIET LEMMA: where both core ends of an undecided fragment are informed and Found, nobody in it is due, so nobody is Find.
-use Prim.Native.Nat.{ℕ, zero, suc, _+_, _≤_, _<_}
+use Prim.Native.Nat.{ℕ, _<_}
 use native.Mathlib.Omega.{arith}
 use mathlib.Core.Path.{_≡_, refl, sym, ap, subst, _∙_}
-use mathlib.Core.Logic.{_≢_, _⊎_, inl, inr, ⊎-elim}
+use mathlib.Core.Logic.{_≢_, inl, inr, ⊎-elim}
 use Rattle.base.specs.Cond.{by-eq}
 use Rattle.base.specs.Sum.{le-sum}
 use Rattle.base.specs.Search.{strong}
@@ -11,9 +11,9 @@ use Rattle.graph.specs.Ways.{joins-lt, flip, ends-two}
 use Rattle.protocol.specs.Plan.{Plan, Ends}
 use Rattle.protocol.specs.State.{State}
 use Rattle.protocol.specs.Lemmas.{joined-both}
-use Rattle.protocol.specs.Notion.{GL, GC, DK, Inf, Jn, Joined, Outst}
+use Rattle.protocol.specs.Notion.{GL, GC, Inf, Jn, Joined, Outst}
 use Rattle.protocol.specs.Inv.{Inv}
-use Rattle.protocol.specs.Facts.{inf-cases, fc-find, joined-level, up-other}
+use Rattle.protocol.specs.Facts.{inf-cases, fc-find, up-other}
 
 module _ {p : Plan} {s : State} (i : Inv p s) where
   -- who waits for a Report is Find

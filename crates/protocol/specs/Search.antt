@@ -1,5 +1,5 @@
 -- Clauses on the tree of informed nodes, the search, test edges and best weights that speak of tables, not of channels.
-use Prim.Native.Nat.{ℕ, suc, _+_, _^_, _≤_, _<_}
+use Prim.Native.Nat.{ℕ, suc, _+_, _≤_, _<_}
 use mathlib.Core.Path.{_≡_}
 use mathlib.Core.Logic.{_≢_, _⊎_}
 use Rattle.base.specs.Sum.{sum}

@@ -1,14 +1,11 @@
 -- The invariant holds at setup: everybody sleeps, each node is a fragment, nothing is under way.
-use Prim.Native.Nat.{ℕ, zero, suc, _+_, _^_, _≤_, _<_, zero-le}
+use Prim.Native.Nat.{zero-le}
 use native.Mathlib.Omega.{arith}
-use mathlib.Core.Path.{_≡_, refl, sym, ap, subst, _∙_}
-use mathlib.Core.Logic.{_≢_, _⊎_, inl, inr}
-use mathlib.Core.List.{List, []}
+use mathlib.Core.Path.{refl, sym}
 use Rattle.base.specs.Pool.{nil}
 use Rattle.base.specs.Sum.{sum-zero}
 use Rattle.graph.specs.Size.{size-start}
 use Rattle.graph.specs.Ways.{here}
-use Rattle.message.specs.Msg.{none}
 use Rattle.protocol.specs.Plan.{Plan, edge-some}
 use Rattle.protocol.specs.State.{setup}
 use Rattle.protocol.specs.Chan.{in-nil, bef-nil}

@@ -1,13 +1,13 @@
 -- Clauses on what is under way on the channels.
-use Prim.Native.Nat.{ℕ, suc, _+_, _^_, _≤_, _<_}
+use Prim.Native.Nat.{ℕ, suc, _+_, _≤_, _<_}
 use mathlib.Core.Path.{_≡_}
 use mathlib.Core.Logic.{_≢_, _⊎_}
-use mathlib.Core.List.{List, []}
+use mathlib.Core.List.{[]}
 use Rattle.base.specs.Pool.{All, sumL}
 use Rattle.message.specs.Msg.{Msg, none, connect, initiate, test, accept, reject, report, change}
 use Rattle.protocol.specs.Plan.{Plan, Ends, key, rank}
 use Rattle.protocol.specs.State.{State}
-use Rattle.protocol.specs.Kind.{isC, isT, isA, isR, isK, Only, Rouse, Fits, top}
+use Rattle.protocol.specs.Kind.{isC, isT, isA, isR, Only, Rouse, Fits, top}
 use Rattle.protocol.specs.Chan.{In, Bef}
 use Rattle.protocol.specs.Notion.{Informed, Both, Awaits, GL, GC, DK, Inf, Jn, Half, Told, Root, Waits, Outst, Covered, Child, CoreEnds, Spent}
 

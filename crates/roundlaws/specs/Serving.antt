@@ -1,6 +1,6 @@
 -- The second half of a round: every node serves as many as its queue held. No service is refused, and where progress does not rise each word of
 -- the queues was blocked.
-use Prim.Native.Nat.{ℕ, suc, _+_, _≤_, _<_}
+use Prim.Native.Nat.{ℕ, suc, _≤_, _<_}
 use native.Mathlib.Omega.{arith}
 use native.Mathlib.Nat.{not-suc-le-zero}
 use mathlib.Core.Path.{_≡_, refl, sym, ap, subst, _∙_}

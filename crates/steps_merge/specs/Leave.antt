@@ -1,5 +1,5 @@
 -- Edge k leads from v out of its fragment, to y, and no edge that leaves the fragment is earlier.
-use Rattle.protocol.specs.Prelude.{ℕ, suc, _≤_, arith, _≡_, refl, sym, ap, subst, _∙_, _≢_, _⊎_, inr, ⊎-elim, by-eq}
+use Rattle.protocol.specs.Prelude.{ℕ, suc, _≤_, arith, _≡_, refl, sym, ap, subst, _∙_, _≢_, inr, ⊎-elim, by-eq}
 use Rattle.protocol.specs.Prelude.{true, false, eqb, eqb-cases, eqb-same, eqb-diff, cut-rank}
 use Rattle.protocol.specs.Prelude.{Msg, connect, initiate, test, accept, reject, report, change}
 use Rattle.protocol.specs.Prelude.{Plan, Ends, Tree, key, rank, flip, ends-two, ends-irr, ends-key, State, First}

@@ -1,5 +1,5 @@
 -- Merge keeps the clauses that speak of channels.
-use Rattle.protocol.specs.Prelude.{ℕ, _+_, _≤_, arith, _≡_, refl, sym, ap, subst, _∙_, _≢_, _⊎_, inl, inr, ⊎-elim}
+use Rattle.protocol.specs.Prelude.{ℕ, _+_, _≤_, arith, _≡_, refl, sym, ap, subst, _∙_, _≢_, inl, inr, ⊎-elim}
 use Rattle.protocol.specs.Prelude.{upd-other, All, sumL, at2}
 use Rattle.protocol.specs.Prelude.{Msg, connect, initiate, report}
 use Rattle.protocol.specs.Prelude.{Plan, Ends, rank, flip, State, isC, isI, isT, isA, isR, isK, arg1, Only}

@@ -1,5 +1,5 @@
 -- Procedure change-root with best edge k a branch of v: v sends Change-root over k, to its child c.
-use Rattle.protocol.specs.Prelude.{ℕ, suc, arith, _≡_, refl, sym, ap, subst, _∙_, fun-ext, _≢_, _⊎_, inl, ⊎-elim, by-eq}
+use Rattle.protocol.specs.Prelude.{ℕ, suc, arith, _≡_, refl, sym, ap, subst, _∙_, fun-ext, _≢_, inl, ⊎-elim, by-eq}
 use Rattle.protocol.specs.Prelude.{upd, upd-id, upd2, upd2-elim, at2, Msg, change, Plan, Ends, key, ends-two, ends-same, ends-irr, State}
 use Rattle.protocol.specs.Prelude.{set-st, set-mark, set-ub, set-oo, send, marked, decided, isK, fits-change, In, in-new, in-sum, some-change}
 use Rattle.protocol.specs.Prelude.{Jn, Inf, Inv, inf-found, inf-awake}

@@ -1,6 +1,6 @@
 -- A Test that carries v's own identity, of a level not above v's: its sender u is of v's fragment, and v is informed.
-use Rattle.protocol.specs.Prelude.{ℕ, zero, suc, _+_, _≤_, _<_, arith, _≡_, refl, sym, ap, subst, _∙_, _≢_, _⊎_, inl, inr, ⊎-elim}
-use Rattle.protocol.specs.Prelude.{by-eq, sumL, Msg, none, test, accept, reject, Plan, Ends, up, flip, State, isT, isA, In, GL, GC, Inf, Jn, Waits, Inv}
+use Rattle.protocol.specs.Prelude.{ℕ, _≤_, arith, _≡_, refl, sym, ap, subst, _∙_}
+use Rattle.protocol.specs.Prelude.{by-eq, test, Plan, Ends, up, flip, State, In, GC, Inf, Inv}
 
 module _ {p : Plan} {s : State} (i : Inv p s) {u v k l f : ℕ} (ends : Ends p k u v) (head : In (test l f) (s.ch u k)) (low : l ≤ s.lev v) (same : s.id v ≡ f) where
   pub inf-u : Inf s u

@@ -1,12 +1,12 @@
 -- THE STUCK LEMMA: in a stuck state the fragment of every awake node is finished, is its whole part of the graph, and no message waits.
-use Rattle.protocol.specs.Prelude.{ℕ, zero, suc, _+_, _≤_, _<_, arith, _≡_, refl, sym, ap, subst, _∙_, _≢_, _⊎_, inl, inr, ⊎-elim, by-eq, strong}
-use Rattle.protocol.specs.Prelude.{Msg, none, connect, initiate, test, accept, reject, report, change, Plan, Ends, rank, Way, stop, go, up, down, flip, join, hop, wider, State}
-use Rattle.protocol.specs.Prelude.{In, Blocked, GL, GC, DK, Inf, Jn, Joined, Waits, Inv, waits-find}
+use Rattle.protocol.specs.Prelude.{ℕ, _≤_, _<_, arith, _≡_, refl, sym, ap, _∙_, _≢_, _⊎_, inl, inr, ⊎-elim, by-eq, strong}
+use Rattle.protocol.specs.Prelude.{Msg, connect, initiate, test, accept, reject, report, change, Plan, Ends, rank, Way, stop, go, up, down, flip, join, hop, wider, State}
+use Rattle.protocol.specs.Prelude.{In, Blocked, GL, DK, Inv, waits-find}
 use native.Mathlib.Decide.{ℕ-discrete}
 use Rattle.base.specs.Search.{least, Least}
 use Rattle.graph.specs.Ways.{Any, back}
 use Rattle.stuck.specs.Informed.{Stuck, no-told, no-rooting, all-inf}
-use Rattle.stuck.specs.Waiting.{lower, Meets, meets, earlier}
+use Rattle.stuck.specs.Waiting.{lower, meets, earlier}
 
 -- a node has an edge, or none
 pub edge? : (p : Plan) (v : ℕ) → ((k : ℕ) × (u : ℕ) × Ends p k v u) ⊎ ((k u : ℕ) → ¬ Ends p k v u)

@@ -1,7 +1,7 @@
 -- A stuck state: no response is under way, and every message would be put back by an awake receiver. Then every node has its fragment's level.
-use Rattle.protocol.specs.Prelude.{ℕ, zero, suc, _+_, _≤_, _<_, arith, _≡_, refl, sym, ap, subst, _∙_, _≢_, _⊎_, inl, inr, ⊎-elim, by-eq, sumL}
-use Rattle.protocol.specs.Prelude.{Msg, none, connect, initiate, test, accept, reject, report, change, Plan, Ends, Way, stop, go, up, flip, ends-two, State, Idle, Blocked}
-use Rattle.protocol.specs.Prelude.{isC, In, some-connect, some-answer, isA, no-answers, joined-both, GL, GC, DK, Inf, Jn, Joined, Inv, inf-cases, told-of, no-root}
+use Rattle.protocol.specs.Prelude.{ℕ, _≤_, _<_, arith, _≡_, refl, sym, ap, _∙_, _≢_, ⊎-elim, by-eq, sumL}
+use Rattle.protocol.specs.Prelude.{Msg, connect, initiate, accept, reject, change, Plan, Ends, Way, stop, go, up, flip, State, Idle, Blocked}
+use Rattle.protocol.specs.Prelude.{In, some-connect, isA, no-answers, joined-both, GL, GC, DK, Inf, Jn, Joined, Inv, inf-cases, told-of, no-root}
 
 -- every message has an awake receiver that would put it back
 pub record Stuck (p : Plan) (s : State) : Type 0 where

@@ -1,6 +1,6 @@
 -- At rest: the branches are the tree, the other edges are Rejected at both ends, and just the core ends have halted. For each part with an awake node.
-use Rattle.protocol.specs.Prelude.{ℕ, zero, suc, _+_, _≤_, _<_, arith, _≡_, refl, sym, ap, subst, _∙_, _≢_, _⊎_, inl, inr, ⊎-elim, by-eq}
-use Rattle.protocol.specs.Prelude.{Msg, none, report, Plan, Ends, Tree, joins-lt, up, flip, hop, Way, stop, go, State, In, GL, GC, DK, Inf, Jn, Joined, Inv, both-joined, joined-both}
+use Rattle.protocol.specs.Prelude.{ℕ, _≤_, arith, _≡_, refl, sym, ap, subst, _∙_, _≢_, _⊎_, inl, inr, ⊎-elim, by-eq}
+use Rattle.protocol.specs.Prelude.{none, report, Plan, Ends, Tree, joins-lt, up, flip, hop, Way, stop, go, State, GL, GC, Jn, Joined, Inv, joined-both}
 use Rattle.graph.specs.Cycle.{needed}
 use Rattle.graph.specs.Ways.{against}
 use Rattle.stuck.specs.Informed.{Stuck}
