@@ -1,1 +1,6 @@
 pub mod Total
+pub mod Text
+pub mod Reported
+pub mod Fits
+pub mod Agrees
+pub mod Sample

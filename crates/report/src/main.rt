@@ -1,84 +1,53 @@
 // The reporting program: reads a plan on standard input, wakes module 0, runs rounds to rest and prints the tree that the
 // field has come to. A refused plan prints one line, as "refused 19".
 ghost use mathlib.Core.Path.{_≡_};
-ghost use Rattle.report.specs.Total.{total};
-use field::Field;
+ghost use lib.ListN.{length};
+ghost use Rattle.text.specs.Put.{page, put};
+ghost use Rattle.settle.specs.Settled.{settled as Settled·settled};
+ghost use Rattle.report.specs.Reported.{refusedText, settledText, reported};
 use libc::STDIN_FILENO;
+use libc::STDOUT_FILENO;
 use plan::Plan;
 
-fn refused(number: u32) {
-    print::line(b"refused ", number as u64);
-}
+mod render;
 
-// One branch link: lower module, higher module, cost.
-fn branch(lower: u16, higher: u16, cost: u32) {
-    print::text(b"branch ");
-    print::number(lower as u64);
-    print::text(b" ");
-    print::number(higher as u64);
-    print::line(b" ", cost as u64);
-}
-
-// The branch links, by number. Answers their total cost. At rest both ends of a link say the same (demand 3), so the
-// lower end's mark decides; past the plan's links all marks are 0.
-fn branches(f: Field) -> u64
-    ensures { λ r. ⌜ r ≡ total (f .plan) (f .marks) 600 ⌝ }
+fn refused(out: &mut [u8], number: u32) -> usize
+    ensures { λ r. ⌜ page r (now (out .exit)) ≡ put (page 0 (now (out .entry))) (refusedText number) ⌝ }
 {
-    let p = f.plan;
-    let marks = f.marks;
-    let mut total: u64 = 0;
-    let mut k: usize = 0;
-    while k < 600 {
-        if marks[2 * k] == 1 {
-            let cost = plan::cost(p.near[k], p.far[k]);
-            branch(p.lower[k], p.higher[k], cost);
-            total += cost as u64;
-        }
-        k += 1;
-    }
-    total
-}
-
-// The halted modules, by number: the ends of the core. A module alone halts too, and has no core.
-fn core(f: Field) {
-    print::text(b"core");
-    if f.plan.modules < 2 {
-        print::text(b" none\n");
-        return;
-    }
-    let cells = f.cells;
-    let mut v: usize = 0;
-    while v < 192 {
-        if cells[9 * v + 8] == 1 {
-            print::text(b" ");
-            print::number(v as u64);
-        }
-        v += 1;
-    }
-    print::text(b"\n");
-}
-
-fn show(f: Field, rounds: u16) {
-    let p = f.plan;
-    print::line(b"modules ", p.modules as u64);
-    print::line(b"links ", p.links as u64);
-    let total = branches(f);
-    print::line(b"total ", total);
-    core(f);
-    print::text(b"messages ");
-    print::number(f.sent as u64);
-    print::line(b" of ", plan::ceiling(p.modules, p.links) as u64);
-    print::line(b"rounds ", rounds as u64);
+    text::put_line(out, 0, b"refused ", number as u64)
 }
 
 // What the field of a plan comes to.
-fn report(p: Plan, words: &mut [u64]) {
+fn settled(p: Plan, words: &mut [u64], out: &mut [u8]) -> usize
+    ensures { λ r. ⌜ page r (now (out .exit)) ≡ put (page 0 (now (out .entry))) (settledText (Settled·settled p (now (words .entry)))) ⌝ }
+{
     let s = settle::settle(p, words);
+    let f = s.field;
     if s.refusal != 0 {
-        refused(s.refusal);
-        return;
+        return refused(out, s.refusal);
     }
-    show(s.field, s.rounds);
+    render::render(f, s.rounds, out)
+}
+
+// The report of a plan's bytes.
+fn report(s: &[u8], out: &mut [u8]) -> usize
+    ensures { λ r. ⌜ page r (now (out .exit)) ≡ put (page 0 (now (out .entry))) (reported (now (s .entry))) ⌝ }
+{
+    let got = planfile::read(s);
+    let p = got.plan;
+    if got.refusal != 0 {
+        return refused(out, got.refusal);
+    }
+    let m = plan::ceiling(p.modules, p.links) as usize;
+    let mut lent = [0u64; 7920];
+    settled(p, &mut lent[..m], out)
+}
+
+// What it asks is what the program owes: the text is the report of the bytes read.
+fn show(given: &[u8], text: &[u8])
+    requires { ⌜ now text ≡ reported (now given) ⌝ }
+{
+    let _done = io::write_all(STDOUT_FILENO, text);
 }
 
 fn main() {
@@ -86,18 +55,7 @@ fn main() {
     // taken has 4807 bytes; a longer one whose length fits is refused by 14 or 15 and not by 13.)
     let mut space = [0u8; 65539];
     let n = io::read_full(STDIN_FILENO, &mut space);
-    let got = planfile::read(&space[..n]);
-    if got.refusal != 0 {
-        refused(got.refusal);
-        return;
-    }
-    let p = got.plan;
-    let m = plan::ceiling(p.modules, p.links) as usize;
-    let mut lent = [0u64; 7920];
-    // (no plan that is taken needs more words)
-    if 7920 < m {
-        refused(21);
-        return;
-    }
-    report(p, &mut lent[..m]);
+    let mut out = [0u8; 65536];
+    let end = report(&space[..n], &mut out);
+    show(&space[..n], &out[..end]);
 }

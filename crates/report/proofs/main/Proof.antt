@@ -1,7 +1,10 @@
+use Prim.Native.Nat.{_≤_}
 use native.Mathlib.Omega.{arith}
 use mathlib.Core.Path.{sym}
+use lib.ListN.{length}
 use lib.Seq.{length-take-le}
 use borrow.Author.Needs.{needs}
+use Rattle.report.specs.Fits.{reported-length, whole-text, whole-inside, zeros-length}
 use Rattle.report.proofs.main.Statement.{statement}
 use Rattle.report.proofs.main.Tie as tie
 
@@ -14,41 +17,38 @@ read-full-requires c κs = search needs
 array-share-prefix-space : tie.Need-array-share-prefix-space
 array-share-prefix-space c = search needs
 
-slice-aggregate-read : tie.Need-slice-aggregate-read
-slice-aggregate-read c = search needs
-
-read-requires : tie.Need-read-requires
-read-requires c κs = search needs
-
-refused-requires : tie.Need-refused-requires
-refused-requires c κs = search needs
-
-returns : tie.Need-returns
-returns c = search needs
-
-ceiling-requires : tie.Need-ceiling-requires
-ceiling-requires c κs = search needs
-
-cast-m : tie.Need-cast-m
-cast-m c = search needs
-
-refused-requires-2 : tie.Need-refused-requires-2
-refused-requires-2 c κs = search needs
-
-returns-2 : tie.Need-returns-2
-returns-2 c = search needs
-
-array-borrow-prefix-lent : tie.Need-array-borrow-prefix-lent
-array-borrow-prefix-lent c = search needs
-
 slice-aggregate-report : tie.Need-slice-aggregate-report
-slice-aggregate-report c = sym (length-take-le _ _ (omega arith))
+slice-aggregate-report c = search needs
+
+slice-aggregate-report-2 : tie.Need-slice-aggregate-report-2
+slice-aggregate-report-2 c = search needs
 
 report-requires : tie.Need-report-requires
 report-requires c κs = search needs
 
-returns-3 : tie.Need-returns-3
-returns-3 c = search needs
+array-share-prefix-space-2 : tie.Need-array-share-prefix-space-2
+array-share-prefix-space-2 c = search needs
+
+slice-aggregate-show : tie.Need-slice-aggregate-show
+slice-aggregate-show c = search needs
+
+-- the report is shorter than the buffer
+room : (c : tie.After-report) → c .report .result ≤ length (c .report .last .1 .0)
+room c = whole-inside _ _ (reported-length _) (zeros-length 46202 65536 (omega arith)) _ _ (c .report .ensures)
+
+array-share-prefix-out : tie.Need-array-share-prefix-out
+array-share-prefix-out c = room (c .before .before)
+
+slice-aggregate-show-2 : tie.Need-slice-aggregate-show-2
+slice-aggregate-show-2 c =
+    sym (length-take-le _ _ (room (c .before .before .before)))
+
+show-requires : tie.Need-show-requires
+show-requires c κs =
+    whole-text _ _ (reported-length _) (zeros-length 46202 65536 (omega arith)) _ _ (c .before .before .before .report .ensures)
+
+returns : tie.Need-returns
+returns c = search needs
 
 pub main-spec : {M : Type 1} → statement M
 main-spec =
@@ -57,15 +57,12 @@ main-spec =
     slice-aggregate-read-full
     read-full-requires
     array-share-prefix-space
-    slice-aggregate-read
-    read-requires
-    refused-requires
-    returns
-    ceiling-requires
-    cast-m
-    refused-requires-2
-    returns-2
-    array-borrow-prefix-lent
     slice-aggregate-report
+    slice-aggregate-report-2
     report-requires
-    returns-3)
+    array-share-prefix-space-2
+    slice-aggregate-show
+    array-share-prefix-out
+    slice-aggregate-show-2
+    show-requires
+    returns)

@@ -1,22 +1,27 @@
 use Prim.Native.Nat.{_≤_, _*_, _-_}
 use native.Mathlib.Omega.{arith}
-use mathlib.Core.Path.{_≡_, _∙_, sym}
+use mathlib.Core.Path.{_≡_, refl, sym, ap, _∙_}
 use mathlib.Core.Logic.{⊎-elim}
 use borrow.Author.Needs.{needs}
-use Rattle.report.proofs.branches.Statement.{statement}
-use Rattle.report.proofs.branches.Tie as tie
+use Rattle.report.specs.Text.{capped}
 use Rattle.plan.specs.Weights.{costIn}
 use Rattle.report.specs.Total.{total, total-branch, total-other}
+use Rattle.report.proofs.render.total.Statement.{statement}
+use Rattle.report.proofs.render.total.Tie as tie
 
 abbrev Inv-loop : tie.InvT-loop
-Inv-loop p marks total₀ k₀ sum k = (k ≤ 600) × (sum ≤ 4294967295 * k) × (sum ≡ total p marks k)
+Inv-loop p marks n sum₀ k₀ sum k = (k ≤ n) × (n ≤ 600) × (sum ≤ 4294967295 * k) × (sum ≡ total p marks k)
 
 abbrev μ-loop : tie.MeasureT-loop
-μ-loop p marks total₀ k₀ sum k = 600 - k
+μ-loop p marks n sum₀ k₀ sum k = n - k
+
+at-most-requires : tie.Need-at-most-requires Inv-loop μ-loop
+at-most-requires c κs = search needs
 
 loop-holds : tie.Need-loop-holds Inv-loop μ-loop
 unfolding total
-loop-holds c = search needs
+loop-holds c =
+    (omega arith, capped _ _ _ (c .at-most .ensures), omega arith, refl)
 
 mul-if1 : tie.Need-mul-if1 Inv-loop μ-loop
 mul-if1 c = search needs
@@ -39,26 +44,11 @@ element-copy-out-cost-2 c = search needs
 cost-requires : tie.Need-cost-requires Inv-loop μ-loop
 cost-requires c κs = search needs
 
-mul-branch : tie.Need-mul-branch Inv-loop μ-loop
-mul-branch c = search needs
+cast-sum : tie.Need-cast-sum Inv-loop μ-loop
+cast-sum c = search needs
 
-element-copy-out-branch : tie.Need-element-copy-out-branch Inv-loop μ-loop
-element-copy-out-branch c = search needs
-
-mul-branch-2 : tie.Need-mul-branch-2 Inv-loop μ-loop
-mul-branch-2 c = search needs
-
-element-copy-out-branch-2 : tie.Need-element-copy-out-branch-2 Inv-loop μ-loop
-element-copy-out-branch-2 c = search needs
-
-branch-requires : tie.Need-branch-requires Inv-loop μ-loop
-branch-requires c κs = search needs
-
-cast-total : tie.Need-cast-total Inv-loop μ-loop
-cast-total c = search needs
-
-add-total : tie.Need-add-total Inv-loop μ-loop
-add-total c = search needs
+add-sum : tie.Need-add-sum Inv-loop μ-loop
+add-sum c = search needs
 
 add-k : tie.Need-add-k Inv-loop μ-loop
 add-k c = search needs
@@ -71,22 +61,23 @@ unfolding costIn
 loop-again c =
     let at = c .before .before .loop in
     ⊎-elim
-    (λ w. (omega arith, omega arith, w .7 ∙ rw (at .inv .2, w .3 .ensures) (sym (total-branch _ _ _ (w .0 .taken)))))
-    (λ w. (omega arith, omega arith, w .1 ∙ at .inv .2 ∙ sym (total-other _ _ _ (w .0 .left))))
+    (λ w. (omega arith, omega arith, omega arith, w .4 ∙ rw (at .inv .3, w .3 .ensures) (sym (total-branch _ _ _ (w .0 .taken)))))
+    (λ w. (omega arith, omega arith, omega arith, w .1 ∙ at .inv .3 ∙ sym (total-other _ _ _ (w .0 .left))))
     (c .if1 .came)
 
 returns : tie.Need-returns Inv-loop μ-loop
 returns c =
-    let at = c .before .loop in
-    let end : at .k ≡ 600 = omega arith in
-    rw end at (at .inv .2)
+    let at = c .before in
+    let end : at .loop .k ≡ at .before .at-most .result = omega arith in
+    at .loop .inv .3 ∙ ap (total _ _) (end ∙ at .before .at-most .ensures)
 
-pub branches-spec : {M : Type 1} → statement M
-branches-spec =
+pub total-spec : {M : Type 1} → statement M
+total-spec =
     tie.close
     (tie.spec
     Inv-loop
     μ-loop
+    at-most-requires
     loop-holds
     mul-if1
     array-read-if1
@@ -95,13 +86,8 @@ branches-spec =
     mul-cost-2
     element-copy-out-cost-2
     cost-requires
-    mul-branch
-    element-copy-out-branch
-    mul-branch-2
-    element-copy-out-branch-2
-    branch-requires
-    cast-total
-    add-total
+    cast-sum
+    add-sum
     add-k
     loop-less
     loop-again

@@ -1,0 +1,83 @@
+use Prim.Native.Nat.{_≤_, _-_}
+use native.Mathlib.Omega.{arith}
+use mathlib.Core.Path.{_≡_, refl, sym, ap, _∙_}
+use lib.ListN.{length}
+use borrow.Author.Needs.{needs}
+use Rattle.report.specs.Text.{endsText, endText, ends-none, ends-turn, capped}
+use Rattle.text.specs.Put.{page, put, put-none, put-on}
+use Rattle.report.proofs.render.ends.Statement.{statement}
+use Rattle.report.proofs.render.ends.Tie as tie
+
+abbrev Inv-loop : tie.InvT-loop
+Inv-loop out₀ at cells n a₀ v₀ out a v =
+    (v ≤ n) × (n ≤ 192) × (length out ≡ length out₀) × (page a out ≡ put (page at out₀) (endsText cells v))
+
+abbrev μ-loop : tie.MeasureT-loop
+μ-loop out₀ at cells n a₀ v₀ out a v = n - v
+
+at-most-requires : tie.Need-at-most-requires Inv-loop μ-loop
+at-most-requires c κs = search needs
+
+loop-holds : tie.Need-loop-holds Inv-loop μ-loop
+loop-holds c =
+    (omega arith, capped _ _ _ (c .at-most .ensures), refl, sym (ap (put _) (ends-none _) ∙ put-none _))
+
+mul-end : tie.Need-mul-end Inv-loop μ-loop
+mul-end c = search needs
+
+add-end : tie.Need-add-end Inv-loop μ-loop
+add-end c = search needs
+
+mul-end-2 : tie.Need-mul-end-2 Inv-loop μ-loop
+mul-end-2 c = search needs
+
+array-read-end : tie.Need-array-read-end Inv-loop μ-loop
+array-read-end c = search needs
+
+end-requires : tie.Need-end-requires Inv-loop μ-loop
+end-requires c κs = search needs
+
+add-v : tie.Need-add-v Inv-loop μ-loop
+add-v c = search needs
+
+loop-less : tie.Need-loop-less Inv-loop μ-loop
+loop-less c = search needs
+
+loop-again : tie.Need-loop-again Inv-loop μ-loop
+loop-again c =
+    let call = c .before .before in
+    let at = call .before .before .before in (
+      omega arith,
+      at .loop .inv .1,
+      search needs,
+      put-on _ (endsText _ _) (endText _ _) (at .loop .inv .3) (call .end .ensures)
+          ∙ ap (put _) (ends-turn _ _),
+    )
+
+same-length : tie.Need-same-length Inv-loop μ-loop
+same-length c = search needs
+
+returns : tie.Need-returns Inv-loop μ-loop
+returns c =
+    let at = c .before in
+    let end : at .loop .v ≡ at .before .at-most .result = omega arith in
+    at .loop .inv .3 ∙ ap (put _) (ap (endsText _) (end ∙ at .before .at-most .ensures))
+
+pub ends-spec : {M : Type 1} → statement M
+ends-spec =
+    tie.close
+    (tie.spec
+    Inv-loop
+    μ-loop
+    at-most-requires
+    loop-holds
+    mul-end
+    add-end
+    mul-end-2
+    array-read-end
+    end-requires
+    add-v
+    loop-less
+    loop-again
+    same-length
+    returns)

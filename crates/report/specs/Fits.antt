@@ -1,0 +1,162 @@
+-- The longest report has 46202 bytes, and no plan that is taken asks for more than 7920 words.
+use Prim.Native.Nat.{ℕ, zero, suc, _+_, _*_, _≤_, min}
+use Prim.Native.String.{String}
+use native.Mathlib.Omega.{arith}
+use native.Mathlib.Decide.{decLt}
+use native.Mathlib.Nat.{mul-le-mul}
+use mathlib.Core.Path.{_≡_, refl, ap, _∙_}
+use mathlib.Core.Logic.{by-cases}
+use mathlib.Core.Bool.{Bool, cond}
+use mathlib.Core.List.{List, [], _∷_, _++_}
+use lib.ListN.{length, take, getD, replicate, length-append, length-replicate}
+use lib.Pow.{pow-mono}
+use lib.Dec.{eqb, ltb}
+use Rattle.base.specs.Cond.{eqb-cases}
+use Rattle.base.specs.LoopLaws.{by-test}
+use Rattle.base.specs.Log.{log2, log2-low}
+use Rattle.base.specs.Loop.{Ran}
+use Rattle.text.specs.Ascii.{ascii}
+use Rattle.text.specs.Decimal.{decimal, decimal-length}
+use Rattle.text.specs.Put.{Page, page, put, put-front, put-place, put-length}
+use Rattle.plan.specs.declared.Plan.{Plan}
+use Rattle.plan.specs.Refusal.{planRefusal}
+use Rattle.plan.specs.Accepted.{Accepted, accepted, fine-first}
+use Rattle.plan.specs.Weights.{cost}
+use Rattle.plan.specs.Ceiling.{ceiling}
+use Rattle.planfile.specs.declared.Outcome.{Outcome}
+use Rattle.planfile.specs.Layout.{decode, blank}
+use Rattle.planfile.specs.Reading.{headRefusal, readRefusal, readPlan}
+use Rattle.field.specs.declared.Field.{Field}
+use Rattle.field.specs.Edges.{ceilingOf}
+use Rattle.field.specs.Held.{Held}
+use Rattle.settle.specs.Settled.{settled}
+use Rattle.report.specs.Total.{total}
+use Rattle.report.specs.Text.{named, line, headText, branchText, branchLines, endText, endsText, coreText, tailText, reportText}
+use Rattle.report.specs.Reported.{refusedText, settledText, planText, reported}
+
+-- two texts within their limits
+both : (s t : List ℕ) {m n : ℕ} → length s ≤ m → length t ≤ n → length (s ++ t) ≤ m + n
+both s t h k = rw (length-append s t) (omega arith)
+
+module _ (word : String) (n : ℕ) where
+  named-length : length (named word n) ≤ length (ascii word) + 20
+  named-length = both (ascii word) (decimal n) (omega arith) (decimal-length n)
+
+  line-length : length (line word n) ≤ length (ascii word) + 20 + 1
+  line-length = both (named word n) (ascii "\n") named-length (omega arith)
+
+branch-length : (mark lower higher c : ℕ) → length (branchText mark lower higher c) ≤ 70
+unfolding branchText
+branch-length mark lower higher c = by-test (eqb mark 1) (λ b. length (cond b (named "branch " lower ++ named " " higher ++ line " " c) []) ≤ 70)
+    (both (named "branch " lower ++ named " " higher) (line " " c) (both (named "branch " lower) (named " " higher) (named-length "branch " lower) (named-length " " higher)) (line-length " " c))
+    (omega arith)
+
+branches-length : (p : Plan) (marks : List ℕ) (k : ℕ) → length (branchLines p marks k) ≤ 70 * k
+unfolding branchLines
+branches-length p marks zero = omega arith
+branches-length p marks (suc k) =
+    rw (length-append (branchLines p marks k) (branchText (getD marks (2 * k) 0) (getD (p .lower) k 0) (getD (p .higher) k 0) (cost p k)))
+    (omega (arith, branches-length p marks k, branch-length (getD marks (2 * k) 0) (getD (p .lower) k 0) (getD (p .higher) k 0) (cost p k)))
+
+end-length : (halted v : ℕ) → length (endText halted v) ≤ 21
+unfolding endText
+end-length halted v = by-test (eqb halted 1) (λ b. length (cond b (named " " v) []) ≤ 21) (named-length " " v) (omega arith)
+
+ends-length : (cells : List ℕ) (v : ℕ) → length (endsText cells v) ≤ 21 * v
+unfolding endsText
+ends-length cells zero = omega arith
+ends-length cells (suc v) = rw (length-append (endsText cells v) (endText (getD cells (9 * v + 8) 0) v)) (omega (arith, ends-length cells v, end-length (getD cells (9 * v + 8) 0) v))
+
+core-length : (n : ℕ) (cells : List ℕ) → length (coreText n cells) ≤ 4037
+unfolding coreText
+core-length n cells = by-test (ltb n 2) (λ b. length (cond b (ascii "core none\n") (ascii "core" ++ endsText cells (min n 192) ++ ascii "\n")) ≤ 4037)
+    (omega arith)
+    (both (ascii "core" ++ endsText cells (min n 192)) (ascii "\n") {n = 1} (both (ascii "core") (endsText cells (min n 192)) {m = 4} (omega arith) most) (omega arith))
+  where
+    most : length (endsText cells (min n 192)) ≤ 4032
+    most = omega (arith, ends-length cells (min n 192))
+
+lines-length : (p : Plan) (marks : List ℕ) (l : ℕ) → length (branchLines p marks (min l 600)) ≤ 42000
+lines-length p marks l = omega (arith, branches-length p marks (min l 600))
+
+head-length : (n l : ℕ) → length (headText n l) ≤ 56
+head-length n l = both (line "modules " n) (line "links " l) (line-length "modules " n) (line-length "links " l)
+
+tail-length : (sent most rounds : ℕ) → length (tailText sent most rounds) ≤ 82
+tail-length sent most rounds =
+    both (named "messages " sent ++ line " of " most) (line "rounds " rounds)
+    (both (named "messages " sent) (line " of " most) (named-length "messages " sent) (line-length " of " most))
+    (line-length "rounds " rounds)
+
+pub report-length : (f : Field) (rounds : ℕ) → length (reportText f rounds) ≤ 46202
+unfolding reportText
+report-length f rounds =
+    let p = f .plan in
+    let h = headText (p .modules) (p .links) in
+    let b = branchLines p (f .marks) (min (p .links) 600) in
+    let sum = total p (f .marks) (min (p .links) 600) in
+    let k = coreText (p .modules) (f .cells) in
+    let t = tailText (f .sent) (ceiling (p .modules) (p .links)) rounds in
+    both (h ++ b ++ line "total " sum ++ k) t
+    (both (h ++ b ++ line "total " sum) k
+    (both (h ++ b) (line "total " sum) (both h b (head-length (p .modules) (p .links)) (lines-length p (f .marks) (p .links))) (line-length "total " sum))
+    (core-length (p .modules) (f .cells)))
+    (tail-length (f .sent) (ceiling (p .modules) (p .links)) rounds)
+
+refused-length : (number : ℕ) → length (refusedText number) ≤ 46202
+refused-length number = omega (arith, line-length "refused " number)
+
+settled-length : (r : Ran Held) → length (settledText r) ≤ 46202
+unfolding settledText
+settled-length r = by-test (eqb (r .answer) 0) (λ b. length (cond b (reportText (r .state .field) (r .done)) (refusedText (r .answer))) ≤ 46202)
+    (report-length (r .state .field) (r .done)) (refused-length (r .answer))
+
+pub reported-length : (s : List ℕ) → length (reported s) ≤ 46202
+unfolding planText
+reported-length s =
+    let g = readPlan s in
+    let x = settledText (settled (g .plan) (replicate (ceilingOf (g .plan)) 0)) in
+    by-test (eqb (g .refusal) 0) (λ b. length (cond b x (refusedText (g .refusal))) ≤ 46202)
+    (settled-length (settled (g .plan) (replicate (ceilingOf (g .plan)) 0))) (refused-length (g .refusal))
+
+-- A buffer of that size or more has the text whole, from its front.
+module _ (b t : List ℕ) (short : length t ≤ 46202) (size : 46202 ≤ length b) (at : ℕ) (b′ : List ℕ) (e : page at b′ ≡ put (page 0 b) t) where
+  pub whole-text : take at b′ ≡ t
+  whole-text = ap (λ (p : Page). take (p .place) (p .bytes)) e ∙ put-front 0 b t (omega arith)
+
+  pub whole-end : at ≤ 46202
+  whole-end = omega (arith, ap (λ (p : Page). p .place) e, put-place (page 0 b) t)
+
+  pub whole-inside : at ≤ length b′
+  whole-inside = omega (arith, ap (λ (p : Page). length (p .bytes)) e, put-length (page 0 b) t, whole-end)
+
+-- The words of a plan that is taken.
+level-small : (n : ℕ) → 1 ≤ n → n ≤ 192 → log2 n ≤ 7
+level-small n l h = by-cases (decLt (log2 n) 8) (λ y. omega arith) (λ f. absurd (let g : 8 ≤ log2 n = omega arith in omega (arith, pow-mono g, log2-low n l)))
+
+taken-small : (p : Plan) → Accepted p → ceilingOf p ≤ 7920
+taken-small p k =
+    let n : 5 * p .modules ≤ 960 = omega (arith, k .modulesOk) in
+    omega (arith, k .linksOk, mul-le-mul n (level-small (p .modules) (k .someone) (k .modulesOk)))
+
+-- a plan that the reader takes is accepted
+pub read-taken : (s : List ℕ) (g : Outcome) → g ≡ readPlan s → g .refusal ≡ 0 → planRefusal (g .plan) ≡ 0
+unfolding readPlan readRefusal
+read-taken s g e = rw e (eqb-cases (readRefusal s) 0 (λ b. answer b .refusal ≡ 0 → planRefusal (answer b .plan) ≡ 0)
+    (λ z _. fine-first (headRefusal s) z .1)
+    (λ n z. absurd (n z)))
+  where
+    answer : Bool → Outcome
+    answer b = cond b (record { refusal = 0; plan = decode s }) (record { refusal = readRefusal s; plan = blank })
+
+pub read-small : (s : List ℕ) (g : Outcome) → g ≡ readPlan s → g .refusal ≡ 0 → ceilingOf (g .plan) ≤ 7920
+read-small s g e z = taken-small (g .plan) (accepted (g .plan) (read-taken s g e z))
+
+-- Arrays of zeros, and their fronts.
+pub zeros-front : (m n : ℕ) → m ≤ n → take {A = ℕ} m (replicate n 0) ≡ replicate m 0
+zeros-front zero n l = refl
+zeros-front (suc m) zero l = absurd (omega arith)
+zeros-front (suc m) (suc n) l = ap (λ (t : List ℕ). 0 ∷ t) (zeros-front m n (omega arith))
+
+pub zeros-length : (k n : ℕ) → k ≤ n → k ≤ length {A = ℕ} (replicate n 0)
+zeros-length k n l = rw (length-replicate {A = ℕ} n 0) l
