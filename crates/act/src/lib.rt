@@ -1,4 +1,5 @@
 // A response worked out by value: what it answers, the new node, at most one new mark, and what it sends.
+use base::NONE;
 use node::Node;
 ghost use mathlib.Core.Path.{_≡_};
 ghost use mathlib.Core.List.{List};
@@ -7,8 +8,6 @@ ghost use Rattle.message.specs.Msg.{none, connect, initiate, test, accept, reje
 ghost use Rattle.node.specs.Work.{Send, putBack, refused};
 ghost use Rattle.node.specs.Rules.{doReport, testOn, wakeOn};
 ghost use Rattle.act.specs.Act.{Does, Says, outFor, begun};
-
-pub const NONE: u16 = 65535;
 
 // A message and the own edge that it goes by, none for no message.
 pub struct Out {

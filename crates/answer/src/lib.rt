@@ -1,5 +1,6 @@
 // The responses to Test, Accept, Reject and Report, worked out by value: v is the node, j the own edge that the message came by.
 use act::Act;
+use base::NONE;
 use node::Node;
 ghost use mathlib.Core.Path.{_≡_};
 ghost use mathlib.Core.Logic.{_⊎_};
@@ -14,8 +15,6 @@ ghost use Rattle.node.specs.Rules.{strike, onTest, onAccept, onReject, childRep
 ghost use Rattle.search.specs.Own.{isOwn, ownIn, marksIn};
 ghost use Rattle.act.specs.Act.{Does};
 ghost use Rattle.answer.specs.Laws.{bettered};
-
-pub const NONE: u16 = 65535;
 
 // The mark of a rejected edge, x before: a branch stays a branch.
 fn struck(x: u8) -> u8

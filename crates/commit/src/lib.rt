@@ -1,6 +1,7 @@
 // A response that was worked out by value is put in place: its messages behind the waiting words, its node and its mark.
 use act::Act;
 use act::Out;
+use base::NONE;
 use cells;
 use message;
 use node::Node;
@@ -27,7 +28,7 @@ fn post(lower: &[u16; 600], lent: &mut [u64], n: usize, v: u16, x: Out) -> usize
     requires { ⌜ Laid (now lent) n × OutOk x × (n + length (sent x) ≤ length (now lent)) ⌝ }
     ensures { λ r. ⌜ Posted (now (lent .entry)) (now (lent .exit)) n r (postedIn (now (lower .entry)) v (sent x)) ⌝ }
 {
-    if x.to == search::NONE {
+    if x.to == NONE {
         return n;
     }
     let h = message::header(x.kind, x.level, x.find);
@@ -55,7 +56,7 @@ fn is_copied<'a>(
     if k == j {
         return false;
     }
-    search::mark_of(lower, marks, v, search::NONE, 0, k) == 1
+    search::mark_of(lower, marks, v, NONE, 0, k) == 1
 }
 
 // The copy for link k, if it gets one, goes to the end of the m words that wait.
@@ -189,7 +190,7 @@ fn post_all<'a>(
 fn one(x: Out) -> u32
     ensures { λ r. ⌜ (r ≡ length (sent x)) × (r ≤ 1) ⌝ }
 {
-    if x.to == search::NONE {
+    if x.to == NONE {
         return 0;
     }
     1

@@ -1,4 +1,5 @@
 // Refusal 31 of one word and of one module.
+use base::NONE;
 use message;
 use node::Node;
 use plan;
@@ -9,6 +10,7 @@ ghost use mathlib.Core.Path.{_≡_};
 ghost use mathlib.Core.Bool.{_||_};
 ghost use mathlib.Core.List.{List};
 ghost use lib.Dec.{eqb, ltb};
+ghost use Rattle.base.specs.None.{none};
 ghost use Rattle.plan.specs.Links.{planOf};
 ghost use Rattle.node.specs.Work.{degree};
 ghost use Rattle.search.specs.Own.{ownIn, isOwn};
@@ -16,9 +18,9 @@ ghost use Rattle.field.specs.Valid.{wordFits, valuesListed, identityFits, nodeF
 
 // Whether x is a link's number or none.
 fn link_or_none(links: u16, x: u16) -> bool
-    ensures { λ r. ⌜ r ≡ (eqb x 65535 || ltb x links) ⌝ }
+    ensures { λ r. ⌜ r ≡ (eqb x none || ltb x links) ⌝ }
 {
-    (x == search::NONE) | (x < links)
+    (x == NONE) | (x < links)
 }
 
 // Whether a word is as laid out, its carried link and directed link are the plan's and its level is within the limit.
@@ -41,9 +43,9 @@ fn own_or_none<'a>(
     x: u16,
 ) -> bool
     requires { ⌜ links ≤ 600 ⌝ }
-    ensures { λ r. ⌜ r ≡ (eqb x 65535 || isOwn links (now (lower .entry)) (now (higher .entry)) v x) ⌝ }
+    ensures { λ r. ⌜ r ≡ (eqb x none || isOwn links (now (lower .entry)) (now (higher .entry)) v x) ⌝ }
 {
-    if x == search::NONE {
+    if x == NONE {
         return true;
     }
     if links <= x {
@@ -77,9 +79,9 @@ fn identity_fits(n: Node) -> bool
     ensures { λ r. ⌜ r ≡ identityFits n ⌝ }
 {
     if n.level == 0 {
-        return n.identity == search::NONE;
+        return n.identity == NONE;
     }
-    n.identity != search::NONE
+    n.identity != NONE
 }
 
 // Whether module v's values fit, where it has `ends` links.

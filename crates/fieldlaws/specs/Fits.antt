@@ -1,18 +1,15 @@
 -- Refusal 31 as facts: what the test `fits` says of a state, both ways.
 use Prim.Native.Nat.{ℕ, _*_, _/_, _^_, _≤_, _<_}
 use native.Mathlib.Omega.{arith}
-use native.Mathlib.Decide.{decLt}
 use mathlib.Core.Path.{_≡_, refl, ap, _∙_}
-use mathlib.Core.Logic.{_≢_, _⊎_, inl, inr, ⊎-elim, by-cases}
+use mathlib.Core.Logic.{_≢_, _⊎_, inl, inr, ⊎-elim}
 use mathlib.Core.Bool.{Bool, true, false, not, cond, _&&_, _||_, and-eq-true-iff}
 use mathlib.Core.List.{List, [], _∷_}
 use lib.ListN.{length, getD}
 use lib.Dec.{eqb, ltb, leb}
-use lib.Pow.{pow-mono}
 use borrow.Author.Tests.{ltb-true, leb-true, eqb-true, eqb-false, not-true, lt-ltb, le-leb, eq-eqb, ne-eqb}
 use Rattle.base.specs.Cond.{eqb-cases}
 use Rattle.base.specs.None.{none}
-use Rattle.base.specs.Log.{log2, log2-low}
 use Rattle.base.specs.Test.{every, every-all, all-every}
 use Rattle.base.specs.Pool.{All, nil, con, All-map}
 use Rattle.message.specs.Msg.{Msg, connect, initiate, test, accept, reject, report, change}
@@ -31,6 +28,7 @@ use Rattle.field.specs.Edges.{isOwn, ownOf, limitOf, ceilingOf}
 use Rattle.field.specs.State.{State, nodeAt, msgIn, wordOf, posted}
 use Rattle.field.specs.Valid.{allOf, linkOrNone, ownOrNone, carriedFits, linkFits, levelFits, wordFits, valuesListed, levelWithin, countWithin, identityFits, nodeFits, markFits, fits}
 use Rattle.plan.specs.Accepted.{Accepted}
+use Rattle.plan.specs.Ceiling.{level-small}
 use Rattle.fieldlaws.specs.Places.{own-below, over-below}
 use Rattle.fieldlaws.specs.Sends.{Packs}
 use Rattle.fieldlaws.specs.Lists.{LinkOrNone, OwnOrNone, NodeOk, MsgOk, SendOk}
@@ -191,10 +189,6 @@ hand-fits p w e =
 
 -- ---- a send
 
--- a level fits three bits
-level-small : (n : ℕ) → 1 ≤ n → n ≤ 192 → log2 n < 8
-level-small n l h = by-cases (decLt (log2 n) 8) (λ y. y) (λ f. absurd (let g : 8 ≤ log2 n = omega arith in omega (arith, pow-mono g, log2-low n l)))
-
 module _ (o : Own) (limit : ℕ) where
   level-within : (m : Msg) → MsgOk o limit m → partsOf m .level ≤ limit
   unfolding partsOf
@@ -228,7 +222,7 @@ module _ (o : Own) (limit : ℕ) where
 module _ (p : Plan) (a : Accepted p) (v : ℕ) (x : Send) (h : SendOk (ownOf p v) (limitOf p) x) where
   pub send-packs : Packs x
   send-packs = record {
-    listed = msg-listed (ownOf p v) (limitOf p) (level-small (p .modules) (a .someone) (a .modulesOk)) (a .linksOk) (x .msg) (h .msg);
+    listed = msg-listed (ownOf p v) (limitOf p) (level-small p a) (a .linksOk) (x .msg) (h .msg);
     small = omega (arith, own-below p v (x .edge) (h .own), a .linksOk);
   }
 

@@ -1,9 +1,6 @@
 -- A message between neighbours, one constructor for each kind of document 01.
 use Prim.Native.Nat.{ℕ}
-
--- "none": no edge. Carried numbers, weights and edges use it in every layer.
-abbrev pub none : ℕ
-none = 65535
+pub use Rattle.base.specs.None.{none}
 
 pub data Msg : Type 0 where
   -- level

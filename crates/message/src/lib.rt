@@ -1,11 +1,9 @@
 // Messages between neighbours: the header byte taken apart and put together, and which messages are listed.
+use base::NONE;
 ghost use Prim.Native.Nat.{ℕ, _<_};
 ghost use mathlib.Core.Path.{_≡_};
 ghost use Rattle.message.specs.Header.{headerByte, kindAt, levelAt, findAt};
 ghost use Rattle.message.specs.Listed.{bare, listedAs, listed};
-
-// "None": no edge.
-pub const NONE: u16 = 65535;
 
 // The kind, bits 0 to 2 of a header.
 pub fn kind(header: u8) -> u8

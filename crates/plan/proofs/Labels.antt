@@ -1,24 +1,20 @@
 -- Laws of the labels of parts, as the code keeps them.
 use Prim.Native.Nat.{ℕ, zero, suc, _≤_, _<_}
 use native.Mathlib.Omega.{arith}
-use mathlib.Core.Path.{_≡_, refl, ap₂, _∙_}
+use mathlib.Core.Path.{_≡_, refl, ap₂}
 use mathlib.Core.Bool.{Bool, true}
 use mathlib.Core.List.{List}
 use lib.Dec.{eqb}
-use lib.ListN.{length, getD}
-use Rattle.base.specs.Table.{tabulate, tabulated, tabulate-ext, getD-tabulate}
+use lib.ListN.{getD}
+use Rattle.base.specs.Table.{tabulate, tabulate-ext, getD-tabulate}
 use Rattle.base.specs.Test.{every}
 use Rattle.graph.specs.Graph.{Graph}
-use Rattle.graph.specs.Labels.{rename, rename-elim}
+use Rattle.graph.specs.Labels.{rename}
 use Rattle.graph.specs.Decide.{label, joined, connected}
 
 -- all links
 abbrev pub all : ℕ → Bool
 all k = true
-
--- a part that joins itself
-pub rename-same : (a b : ℕ) (n : ℕ) (s : List ℕ) → length s ≡ n → a ≡ b → s ≡ tabulate n (λ v. rename a b (getD s v 0))
-rename-same a b n s e q = tabulated n (λ v. rename a b (getD s v 0)) s e (λ k l. rename-elim (λ x. getD s k 0 ≡ x) a b (getD s k 0) (λ h. h ∙ q) (λ h. refl))
 
 -- link k is added to the labels
 pub merge-turn : (g : Graph) (k n : ℕ) (s : List ℕ) → s ≡ tabulate n (label g all k) → g.lo k < n → g.hi k < n

@@ -7,11 +7,10 @@ use mathlib.Core.Logic.{_≢_}
 use mathlib.Core.Bool.{Bool, true, false}
 use mathlib.Core.List.{List}
 use lib.Dec.{ltb}
-use lib.Pow.{pow-mono}
 use lib.Count.{leadingZeros, leading-top}
-use borrow.Author.Tests.{ltb-true, ltb-false, le-ltb, eq-eqb, ne-eqb}
+use borrow.Author.Tests.{le-ltb, eq-eqb, ne-eqb}
 use Rattle.base.specs.Cond.{bool-cases}
-use Rattle.base.specs.Log.{log2, log2-low, level-le}
+use Rattle.base.specs.Log.{log2, log2-lt, level-le}
 use Rattle.base.specs.Test.{every}
 use Rattle.plan.specs.Weights.{costIn, earlierIn}
 
@@ -30,13 +29,7 @@ module _ (near far : List ℕ) (a b x y : ℕ) (p : x ≡ costIn near far a) (q 
 
 -- the place of the highest digit
 pub log2-is : (j n : ℕ) → 2 ^ j ≤ n → n < 2 ^ suc j → log2 n ≡ j
-log2-is j n l h =
-    let up : j ≤ log2 n = level-le j n l in
-    let down : log2 n ≤ j = bool-cases (ltb j (log2 n)) (λ t. absurd (beyond (ltb-true j (log2 n) t))) (λ t. ltb-false j (log2 n) t) in
-    omega arith
-  where
-    beyond : suc j ≤ log2 n → ⊥
-    beyond g = omega (arith, pow-mono g, log2-low n (omega arith))
+log2-is j n l h = omega (arith, level-le j n l, log2-lt (suc j) n (omega arith) h)
 
 -- 32 digits: the zeros above the highest
 pub leading : (n : ℕ) → n ≢ 0 → n < 2 ^ 32 → (leadingZeros 32 n ≤ 31) × (31 - leadingZeros 32 n ≡ log2 n)
@@ -45,21 +38,18 @@ leading n d h =
     let e : log2 n ≡ t .0 = log2-is (t .0) n (t .2) (t .3) in
     (omega (arith, t .1), omega (arith, t .1))
 
-log2-pos : (n : ℕ) → 1 ≤ log2 n → 1 ≤ n
+-- a logarithm of 16 bits
+log2-fits : (n : ℕ) → n < 2 ^ 16 → log2 n ≤ 15
 unfolding log2
-log2-pos zero h = h
-log2-pos (suc n) h = omega arith
+log2-fits zero h = omega arith
+log2-fits (suc n) h = omega (arith, log2-lt 16 (suc n) (omega arith) h)
 
 -- the first term of the ceiling, for any 16 bits
 pub term-fits : (n t : ℕ) → n < 2 ^ 16 → t ≡ log2 n → 5 * n * t ≤ 4915125
 term-fits n t h e =
-    let small : log2 n ≤ 15 = bool-cases (ltb 15 (log2 n)) (λ g. absurd (beyond (ltb-true 15 (log2 n) g))) (λ g. ltb-false 15 (log2 n) g) in
     let first : 5 * n ≤ 327675 = omega arith in
-    let second : t ≤ 15 = omega arith in
+    let second : t ≤ 15 = omega (arith, log2-fits n h) in
     mul-le-mul first second
-  where
-    beyond : 16 ≤ log2 n → ⊥
-    beyond g = omega (arith, pow-mono g, log2-low n (log2-pos n (omega arith)))
 
 -- A TEST OF ALL, from the last down
 

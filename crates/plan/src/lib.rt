@@ -1,8 +1,10 @@
 // Plans: the plan value, the order of its links, its check, the ceiling.
+use base::NONE;
 ghost use mathlib.Core.Path.{_≡_};
 ghost use mathlib.Core.Logic.{_⊎_};
 ghost use Prim.Native.Nat.{_<_, _≤_};
 ghost use Rattle.base.specs.Log.{log2};
+ghost use Rattle.base.specs.None.{none};
 ghost use Rattle.plan.specs.Ceiling.{ceiling};
 ghost use Rattle.plan.specs.Links.{planOf};
 ghost use Rattle.plan.specs.Refusal.{ascends, inOrder, linkVerdict, linksRefusal, planRefusal};
@@ -19,9 +21,6 @@ pub struct Plan {
     pub near: [u16; 600],
     pub far: [u16; 600],
 }
-
-// "none": no link.
-pub const NONE: u16 = 65535;
 
 // The whole part of the binary logarithm, and 0 for 0.
 pub fn floor_log2(n: u16) -> u16
@@ -64,7 +63,7 @@ pub fn earlier<'a>(near: &'a [u16; 600], far: &'a [u16; 600], a: u16, b: u16) ->
 
 // Whether weight a is earlier than weight b, each a link or none.
 pub fn before<'a>(near: &'a [u16; 600], far: &'a [u16; 600], a: u16, b: u16) -> bool
-    requires { ⌜ ((a < 600) ⊎ (a ≡ 65535)) × ((b < 600) ⊎ (b ≡ 65535)) ⌝ }
+    requires { ⌜ ((a < 600) ⊎ (a ≡ none)) × ((b < 600) ⊎ (b ≡ none)) ⌝ }
     ensures { λ r. ⌜ r ≡ beforeIn (now (near .entry)) (now (far .entry)) a b ⌝ }
 {
     if a == NONE {

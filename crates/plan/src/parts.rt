@@ -1,4 +1,4 @@
-// Whether the links join all modules: labels of parts, merged link by link (quick-find).
+// Whether the links join all modules: labels of parts, merged link by link.
 ghost use mathlib.Core.Path.{_≡_};
 ghost use mathlib.Core.Bool.{true};
 ghost use Prim.Native.Nat.{ℕ, _<_, _≤_};
@@ -6,61 +6,20 @@ ghost use lib.ListN.{length, getD};
 ghost use lib.Dec.{eqb};
 ghost use Rattle.base.specs.Table.{tabulate};
 ghost use Rattle.base.specs.Test.{every};
-ghost use Rattle.graph.specs.Labels.{rename};
 ghost use Rattle.graph.specs.Decide.{label, connected};
 ghost use Rattle.plan.specs.Links.{edges};
-
-// A label after part `from` got the label `to`.
-fn renamed(from: u8, to: u8, x: u8) -> u8
-    ensures { λ r. ⌜ r ≡ rename from to x ⌝ }
-{
-    if x == from { to } else { x }
-}
-
-// Each module is a part of its own.
-fn number(parts: &mut [u8; 192])
-    requires { ⌜ length (now parts) ≡ 192 ⌝ }
-    ensures { λ _. ⌜ now (parts .exit) ≡ tabulate 192 (λ v. v) ⌝ }
-{
-    let mut v: u8 = 0;
-    while v < 192 {
-        parts[v as usize] = v;
-        v += 1;
-    }
-}
-
-fn relabel(parts: &mut [u8; 192], from: u8, to: u8)
-    requires { ⌜ length (now parts) ≡ 192 ⌝ }
-    ensures { λ _. ⌜ now (parts .exit) ≡ tabulate 192 (λ v. rename from to (getD (now (parts .entry)) v 0)) ⌝ }
-{
-    let mut v: usize = 0;
-    while v < 192 {
-        parts[v] = renamed(from, to, parts[v]);
-        v += 1;
-    }
-}
-
-// The parts labelled `from` and `to` become one.
-fn join(parts: &mut [u8; 192], from: u8, to: u8)
-    requires { ⌜ length (now parts) ≡ 192 ⌝ }
-    ensures { λ _. ⌜ now (parts .exit) ≡ tabulate 192 (λ v. rename from to (getD (now (parts .entry)) v 0)) ⌝ }
-{
-    if from != to {
-        relabel(parts, from, to);
-    }
-}
 
 // The labels that the first l links leave.
 fn merge<'a>(l: usize, lower: &'a [u16; 600], higher: &'a [u16; 600], parts: &mut [u8; 192])
     requires { ⌜ (length (now parts) ≡ 192) × (l ≤ 600) × ((k : ℕ) → k < l → (getD (now lower) k 0 < 192) × (getD (now higher) k 0 < 192)) ⌝ }
     ensures { λ _. ⌜ now (parts .exit) ≡ tabulate 192 (label (edges l (now (lower .entry)) (now (higher .entry))) (λ _. true) l) ⌝ }
 {
-    number(parts);
+    labels::number(parts);
     let mut k: usize = 0;
     while k < l {
         let a = parts[lower[k] as usize];
         let b = parts[higher[k] as usize];
-        join(parts, a, b);
+        labels::join(parts, a, b);
         k += 1;
     }
 }

@@ -1,5 +1,6 @@
 // The procedures test, wakeup and change-root, and the responses to Connect and Initiate, worked out by value from the plan's columns and the marks: v is the node, j the own edge that the message came by.
 use act::Act;
+use base::NONE;
 use node::Node;
 ghost use mathlib.Core.Path.{_≡_};
 ghost use mathlib.Core.Logic.{_≢_, _⊎_};
@@ -12,8 +13,6 @@ ghost use Rattle.node.specs.Rules.{doTest, wakeup, awake, changeRoot, joined, a
 ghost use Rattle.search.specs.Own.{isOwn, ownIn, marksIn};
 ghost use Rattle.reply.specs.Copies.{copiesIn};
 ghost use Rattle.act.specs.Act.{Does};
-
-pub const NONE: u16 = 65535;
 
 // Procedure test.
 pub fn do_test<'a>(

@@ -1,4 +1,5 @@
 // One node's own edges: which they are, their marks, the earliest of them, how many there are.
+use base::NONE;
 use plan;
 ghost use mathlib.Core.Path.{_≡_};
 ghost use mathlib.Core.Bool.{true, not, cond, _&&_};
@@ -7,11 +8,10 @@ ghost use mathlib.Core.List.{List};
 ghost use Prim.Native.Nat.{ℕ, _<_, _≤_};
 ghost use lib.Dec.{eqb};
 ghost use Rattle.base.specs.Cond.{bit};
+ghost use Rattle.base.specs.None.{none};
 ghost use Rattle.plan.specs.Weights.{beforeIn};
 ghost use Rattle.node.specs.Work.{earliest, number, every, degree};
 ghost use Rattle.search.specs.Own.{isOwn, ownIn, endIn, marksIn, marked, looked, counted};
-
-pub const NONE: u16 = 65535;
 
 // Whether edge k ends at node v.
 pub fn owns<'a>(links: u16, lower: &'a [u16; 600], higher: &'a [u16; 600], v: u16, k: u16) -> bool
@@ -97,10 +97,10 @@ fn turn<'a>(
     best: u16,
     k: u16,
 ) -> u16
-    requires { ⌜ (links ≤ 600) × (k < links) × ((best < 600) ⊎ (best ≡ 65535)) ⌝ }
+    requires { ⌜ (links ≤ 600) × (k < links) × ((best < 600) ⊎ (best ≡ none)) ⌝ }
     ensures { λ r. ⌜ (r ≡ cond (isOwn links (now (lower .entry)) (now (higher .entry)) v k
         && looked all (marked (marksIn links (now (lower .entry)) (now (higher .entry)) (now (marks .entry)) v) e x) k
-        && beforeIn (now (near .entry)) (now (far .entry)) k best) k best) × ((r < 600) ⊎ (r ≡ 65535)) ⌝ }
+        && beforeIn (now (near .entry)) (now (far .entry)) k best) k best) × ((r < 600) ⊎ (r ≡ none)) ⌝ }
 {
     if !looks(links, lower, higher, marks, v, e, x, all, k) {
         return best;

@@ -1,12 +1,12 @@
 // Two steps on lent arrays: a module wakes, a module serves the first word of its queue. (A hand-over is in `store`.)
 // A response is worked out by value, then settled: 32 and 33 before anything is written.
 use act::Act;
+use base::NONE;
 use cells;
 use commit;
 use message;
 use plan;
 use respond;
-use search;
 use store;
 use word;
 ghost use Prim.Native.Nat.{ℕ, _+_, _*_, _<_, _≤_};
@@ -220,7 +220,7 @@ pub fn wake<'a>(
         0,
         0,
         7,
-        search::NONE,
+        NONE,
         a,
     )
 }

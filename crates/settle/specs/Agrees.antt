@@ -1,24 +1,21 @@
 -- What the whole job leaves, by demand 3: not refused, at rest within M + N rounds, and every module marks exactly the tree that the central
 -- builder writes.
-use Prim.Native.Nat.{ℕ, _+_, _*_, _≤_, _<_}
+use Prim.Native.Nat.{ℕ, _+_, _≤_, _<_}
 use native.Mathlib.Omega.{arith}
-use native.Mathlib.Decide.{decLt}
-use native.Mathlib.Nat.{mul-le-mul}
 use mathlib.Core.Path.{_≡_, refl, sym, ap, subst, _∙_}
-use mathlib.Core.Logic.{_≢_, _⊎_, inl, inr, by-cases}
+use mathlib.Core.Logic.{_≢_, _⊎_, inl, inr}
 use mathlib.Core.Bool.{true, false, not}
 use mathlib.Core.List.{List, [], _∷_}
 use lib.ListN.{length, getD}
 use lib.Dec.{eqb, ltb}
-use lib.Pow.{pow-mono}
 use borrow.Author.Tests.{eq-eqb, lt-leb}
 use Rattle.base.specs.Cond.{bool-cases}
-use Rattle.base.specs.Log.{log2, log2-low}
 use Rattle.base.specs.Loop.{After, Ran}
 use Rattle.base.specs.Pool.{All, nil, con}
 use Rattle.plan.specs.declared.Plan.{Plan}
 use Rattle.plan.specs.Refusal.{planRefusal}
-use Rattle.plan.specs.Accepted.{Accepted, accepted}
+use Rattle.plan.specs.Accepted.{accepted}
+use Rattle.plan.specs.Ceiling.{ceiling-small}
 use Rattle.node.specs.Work.{Work, ASLEEP, REFUSED, BRANCH, REJECTED}
 use Rattle.field.specs.Edges.{ceilingOf}
 use Rattle.field.specs.State.{State, nodeAt}
@@ -97,14 +94,7 @@ module _ (p : Plan) (lent : List ℕ) (ok : setUp p lent .answer ≡ 0) where
 
   -- M + N is below the limit
   room : ceilingOf p + p .modules ≤ 65535
-  room =
-      let k = accepted p (started p lent ok .plan) in
-      let n : 5 * p .modules ≤ 960 = omega (arith, k .modulesOk) in
-      let product : 5 * p .modules * log2 (p .modules) ≤ 960 * 7 = mul-le-mul n (small (k .someone) (k .modulesOk)) in
-      omega (arith, k .linksOk, k .modulesOk, product)
-    where
-      small : 1 ≤ p .modules → p .modules ≤ 192 → log2 (p .modules) ≤ 7
-      small l h = by-cases (decLt (log2 (p .modules)) 8) (λ y. omega arith) (λ f. absurd (let g : 8 ≤ log2 (p .modules) = omega arith in omega (arith, pow-mono g, log2-low (p .modules) l)))
+  room = let k = started p lent ok .plan in omega (arith, ceiling-small p k, accepted p k .modulesOk)
 
   -- so the job is that list of calls
   pub settled-is : settled p lent ≡ runRounds 65535 (stepAlone 1 0 start .state)

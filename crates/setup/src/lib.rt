@@ -1,4 +1,5 @@
 // Setup: the field of a plan, all modules asleep, no word waiting.
+use base::NONE;
 use field::Field;
 use node::Node;
 use plan::Plan;
@@ -21,11 +22,11 @@ fn lay_cells(cells: &mut [u16; 1728])
     let n = Node {
         status: 0,
         level: 0,
-        identity: 65535,
-        weight: 65535,
-        best: 65535,
-        test: 65535,
-        branch: 65535,
+        identity: NONE,
+        weight: NONE,
+        best: NONE,
+        test: NONE,
+        branch: NONE,
         count: 0,
         halted: 0,
     };

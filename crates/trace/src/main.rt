@@ -9,9 +9,9 @@ ghost use Rattle.plan.specs.Refusal.{planRefusal};
 ghost use Rattle.field.specs.Edges.{ceilingOf};
 ghost use Rattle.field.specs.Held.{fresh};
 ghost use Rattle.calls.specs.Call.{runBytes};
+use base::NONE;
 use libc::STDIN_FILENO;
 use node::Node;
-use plan::NONE;
 use plan::Plan;
 use run::Ran;
 

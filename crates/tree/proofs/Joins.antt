@@ -9,6 +9,7 @@ use lib.ListN.{length, set}
 use lib.Seq.{getD-set-same, getD-set-other}
 use Rattle.base.specs.Cond.{by-eq}
 use Rattle.base.specs.None.{none}
+use Rattle.base.specs.Table.{tabulate, length-tabulate, getD-tabulate}
 use Rattle.graph.specs.Graph.{Graph}
 use Rattle.graph.specs.Labels.{rename}
 use Rattle.plan.specs.Links.{edges}
@@ -16,11 +17,18 @@ use Rattle.tree.specs.Forest.{Ends, Forest, Joined, joined-coarser, join
 use Rattle.tree.specs.Phase.{Leaves, First, first-pick, first-some, apart, apart-none, apart-some, apart-falls}
 use Rattle.tree.specs.Columns.{at, Parts, Fit, Takes, TakesTo, Phased}
 
+-- each node a part of its own
+pub own-label : (s : List ℕ) → s ≡ tabulate 192 (λ v. v) → (v : ℕ) → v < 192 → at s v ≡ v
+own-label s e v l = rw e (getD-tabulate 192 (λ i. i) v l)
+
+pub own-parts : (s : List ℕ) → s ≡ tabulate 192 (λ v. v) → Parts s
+own-parts s e = record { size = rw e (length-tabulate 192 (λ i. i)); range = λ v l. omega (arith, own-label s e v l) }
+
 -- one edge: the labels are renamed, the byte is set
 pub joined : (label label′ out : List ℕ) (u v x y k : ℕ) → u ≡ x → v ≡ y → k < length out
-    → ((w : ℕ) → w < 192 → at label′ w ≡ rename (at label u) (at label v) (at label w)) → Joined x y k (at label) (at out) (at label′) (at (set out k 1))
-joined label label′ out u v x y k p q l renamed = record {
-  labels = λ w lw. rw (← p, ← q) (renamed w lw);
+    → label′ ≡ tabulate 192 (λ w. rename (at label u) (at label v) (at label w)) → Joined x y k (at label) (at out) (at label′) (at (set out k 1))
+joined label label′ out u v x y k p q l e = record {
+  labels = λ w lw. rw (← p, ← q, e) (getD-tabulate 192 (λ i. rename (at label u) (at label v) (at label i)) w lw);
   marked = getD-set-same out k 1 0 l;
   others = λ j n. getD-set-other out k j 1 0 (λ e. n (sym e));
 }

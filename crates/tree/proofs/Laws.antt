@@ -1,5 +1,5 @@
 -- Laws that the functions' proofs cite, over plain lists and numbers.
-use Prim.Native.Nat.{ℕ, _+_, _≤_, _<_}
+use Prim.Native.Nat.{ℕ, _+_, _<_}
 use native.Mathlib.Omega.{arith}
 use native.Mathlib.Numerals.{add-one}
 use mathlib.Core.Path.{_≡_, sym, _∙_}
@@ -17,7 +17,3 @@ fill f l v x h below e i k = by-eq v i (λ q. rw (← q) (getD-set-same l v x 0 
 -- one more term
 pub sum-next : (f : ℕ → ℕ) (k : ℕ) → sum (k + 1) f ≡ sum k f + f k
 sum-next f k = rw add-one (omega arith)
-
--- what lies above keeps
-pub kept : (l l₀ : List ℕ) (v x : ℕ) → ((i : ℕ) → v ≤ i → at l i ≡ at l₀ i) → (i : ℕ) → v + 1 ≤ i → at (set l v x) i ≡ at l₀ i
-kept l l₀ v x above i k = getD-set-other l v i x 0 (λ q. omega arith) ∙ above i (omega arith)

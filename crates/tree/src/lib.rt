@@ -5,16 +5,14 @@ ghost use mathlib.Core.Logic.{_⊎_};
 ghost use Prim.Native.Nat.{ℕ, _+_, _<_, _≤_};
 ghost use lib.ListN.{length, set};
 ghost use Rattle.base.specs.None.{none};
-ghost use Rattle.graph.specs.Labels.{rename};
 ghost use Rattle.plan.specs.Weights.{earlierIn};
 ghost use Rattle.plan.specs.Links.{edges};
 ghost use Rattle.tree.specs.Tree.{centralTree};
 ghost use Rattle.tree.specs.Forest.{Ends, Joined, Forest, Exact};
 ghost use Rattle.tree.specs.Phase.{sooner, apartAt, apart};
 ghost use Rattle.tree.specs.Columns.{at, Parts, Fit, Takes, TakesTo, Firsts, Phased};
+use base::NONE;
 use plan::Plan;
-
-const NONE: u16 = plan::NONE;
 
 fn index(x: u8) -> usize
     ensures { λ r. ⌜ r ≡ x ⌝ }
@@ -26,38 +24,6 @@ fn wide(x: u16) -> usize
     ensures { λ r. ⌜ r ≡ x ⌝ }
 {
     x as usize
-}
-
-// Each node a part of its own.
-fn singles() -> [u8; 192]
-    ensures { λ r. ⌜ (length r ≡ 192) × ((v : ℕ) → v < 192 → at r v ≡ v) ⌝ }
-{
-    let mut label = [0u8; 192];
-    let mut v: usize = 0;
-    while v < 192 {
-        label[v] = v as u8;
-        v += 1;
-    }
-    label
-}
-
-// x, or b where it is a.
-fn renamed(x: u8, a: u8, b: u8) -> u8
-    ensures { λ r. ⌜ r ≡ rename a b x ⌝ }
-{
-    if x == a { b } else { x }
-}
-
-// Part a becomes part of b.
-fn merge(label: &mut [u8; 192], a: u8, b: u8)
-    requires { ⌜ length (now label) ≡ 192 ⌝ }
-    ensures { λ _. ⌜ (length (now (label .exit)) ≡ 192) × ((v : ℕ) → v < 192 → at (now (label .exit)) v ≡ rename a b (at (now (label .entry)) v)) ⌝ }
-{
-    let mut v: usize = 0;
-    while v < 192 {
-        label[v] = renamed(label[v], a, b);
-        v += 1;
-    }
 }
 
 // The earlier of b, an edge or none, and edge k.
@@ -147,7 +113,7 @@ fn join<'a>(
     let v = wide(higher[k]);
     let a = label[u];
     let b = label[v];
-    merge(label, a, b);
+    labels::relabel(label, a, b);
     out[k] = 1;
 }
 
@@ -251,7 +217,8 @@ fn grow<'a>(
     ensures { λ _. ⌜ Exact (edges (length (now (out .entry))) (now (lower .entry)) (now (higher .entry))) (earlierIn (now (near .entry)) (now (far .entry))) (at (now (out .exit))) ⌝ }
 {
     clear(out);
-    let mut label = singles();
+    let mut label = [0u8; 192];
+    labels::number(&mut label);
     phases(lower, higher, near, far, &mut label, out);
 }
 

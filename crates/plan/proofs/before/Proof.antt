@@ -2,11 +2,12 @@ use Prim.Native.Nat.{ℕ, _<_}
 use mathlib.Core.Path.{_≡_}
 use mathlib.Core.Logic.{_≢_, _⊎_, inl, inr}
 use borrow.Author.Tests.{ne-eqb}
+use Rattle.base.specs.None.{none}
 use Rattle.plan.specs.Weights.{beforeIn}
 use Rattle.plan.proofs.before.Statement.{statement}
 use Rattle.plan.proofs.before.Tie as tie
 
-link : (a : ℕ) → (a < 600) ⊎ (a ≡ 65535) → a ≢ 65535 → a < 600
+link : (a : ℕ) → (a < 600) ⊎ (a ≡ none) → a ≢ none → a < 600
 link a (inl l) d = l
 link a (inr e) d = absurd (d e)
 

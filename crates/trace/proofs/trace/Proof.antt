@@ -4,7 +4,8 @@ use mathlib.Core.Path.{_≡_, sym, _∙_}
 use lib.Seq.{length-take-le}
 use borrow.Author.Needs.{needs}
 use Rattle.plan.specs.Refusal.{planRefusal}
-use Rattle.trace.proofs.Start.{read-taken, ceiling-small}
+use Rattle.plan.specs.Ceiling.{ceiling-small}
+use Rattle.trace.proofs.Start.{read-taken}
 use Rattle.trace.proofs.trace.Statement.{statement}
 use Rattle.trace.proofs.trace.Tie as tie
 

@@ -1,5 +1,6 @@
 use native.Mathlib.Omega.{arith}
 use borrow.Author.Needs.{needs}
+use Rattle.base.specs.Table.{length-tabulate}
 use Rattle.tree.proofs.Joins.{joined}
 use Rattle.tree.proofs.join.Statement.{statement}
 use Rattle.tree.proofs.join.Tie as tie
@@ -32,8 +33,8 @@ element-copy-out-b c =
     let s = c .before .before .before .before .before .before in
     omega (arith, c .before .wide2 .ensures, s .pre .0 .ends (s .args .k) (s .pre .1) .1)
 
-merge-requires : tie.Need-merge-requires
-merge-requires c κs = search needs
+relabel-requires : tie.Need-relabel-requires
+relabel-requires c κs = search needs
 
 slice-write-out : tie.Need-slice-write-out
 slice-write-out c = search needs
@@ -45,8 +46,8 @@ returns : tie.Need-returns
 returns c =
     let w = c .before .before .before .before in
     let s = w .before .before .before .before .before in (
-      joined (s .args .label .now) (c .merge .last .0) (s .args .out .now) _ _ _ _ (s .args .k) (w .before .before .wide .ensures) (w .wide2 .ensures) (s .pre .1) (c .merge .ensures .1),
-      c .merge .ensures .0,
+      joined (s .args .label .now) (c .relabel .last .0) (s .args .out .now) _ _ _ _ (s .args .k) (w .before .before .wide .ensures) (w .wide2 .ensures) (s .pre .1) (c .relabel .ensures),
+      rw (c .relabel .ensures) (length-tabulate 192 _),
     )
 
 pub join-spec : {M : Type 1} → statement M
@@ -61,7 +62,7 @@ join-spec =
     wide-requires-2
     element-copy-out-a
     element-copy-out-b
-    merge-requires
+    relabel-requires
     slice-write-out
     same-length
     returns)

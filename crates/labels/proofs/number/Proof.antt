@@ -6,8 +6,8 @@ use mathlib.Core.Path.{_≡_, refl, _∙_}
 use lib.ListN.{getD}
 use Rattle.base.specs.Table.{tabulate, upto, fill-start, fill-turn, fill-end}
 use borrow.Author.Needs.{needs}
-use Rattle.plan.proofs.parts.number.Statement.{statement}
-use Rattle.plan.proofs.parts.number.Tie as tie
+use Rattle.labels.proofs.number.Statement.{statement}
+use Rattle.labels.proofs.number.Tie as tie
 
 abbrev Inv-loop : tie.InvT-loop
 Inv-loop parts₀ v₀ parts v = (v ≤ 192) × (parts ≡ tabulate 192 (upto v (λ k. k) (λ k. getD parts₀ k 0)))

@@ -7,8 +7,8 @@ use native.Mathlib.Numerals.{add-one}
 use lib.ListN.{getD}
 use Rattle.graph.specs.Labels.{rename}
 use borrow.Author.Needs.{needs}
-use Rattle.plan.proofs.parts.relabel.Statement.{statement}
-use Rattle.plan.proofs.parts.relabel.Tie as tie
+use Rattle.labels.proofs.relabel.Statement.{statement}
+use Rattle.labels.proofs.relabel.Tie as tie
 
 abbrev Inv-loop : tie.InvT-loop
 Inv-loop parts₀ from to v₀ parts v = (v ≤ 192) × (parts ≡ tabulate 192 (upto v (λ k. rename from to (getD parts₀ k 0)) (λ k. getD parts₀ k 0)))

@@ -1,8 +1,8 @@
 use mathlib.Core.Path.{sym}
 use borrow.Author.Tests.{ne-eqb}
 use Rattle.graph.specs.Labels.{rename, rename-from}
-use Rattle.plan.proofs.parts.renamed.Statement.{statement}
-use Rattle.plan.proofs.parts.renamed.Tie as tie
+use Rattle.labels.proofs.renamed.Statement.{statement}
+use Rattle.labels.proofs.renamed.Tie as tie
 
 returns : tie.Need-returns
 returns c = rw (c .if1 .taken) (sym (rename-from _ _))

@@ -1,7 +1,7 @@
-use Rattle.plan.proofs.Labels.{rename-same}
+use Rattle.labels.proofs.Laws.{rename-same}
 use borrow.Author.Needs.{needs}
-use Rattle.plan.proofs.parts.join.Statement.{statement}
-use Rattle.plan.proofs.parts.join.Tie as tie
+use Rattle.labels.proofs.join.Statement.{statement}
+use Rattle.labels.proofs.join.Tie as tie
 
 relabel-requires : tie.Need-relabel-requires
 relabel-requires c κs = search needs
