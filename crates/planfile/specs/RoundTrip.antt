@@ -3,10 +3,12 @@ use Prim.Native.Nat.{ℕ, zero, suc, _+_, _*_, _/_, _%_, _-_, _≤_, _<_}
 use native.Mathlib.Omega.{arith}
 use native.Mathlib.Nat.{not-suc-le-zero}
 use mathlib.Core.Path.{_≡_, refl, sym, ap, subst, _∙_}
+use mathlib.Core.Bool.{Bool, cond}
 use mathlib.Core.List.{List, [], _∷_, _++_}
 use lib.ListN.{length, getD, drop, List·getD-append}
 use lib.Seq.{getD-append-add}
 use borrow.Author.Tests.{le-ltb}
+use Rattle.base.specs.Cond.{eqb-cases}
 use Rattle.base.specs.Loop.{taken}
 use Rattle.base.specs.Pool.{All, nil, con, All-app}
 use Rattle.base.specs.Search.{lt-suc-cases}
@@ -15,7 +17,8 @@ use Rattle.plan.specs.declared.Plan.{Plan}
 use Rattle.plan.specs.Refusal.{planRefusal}
 use Rattle.plan.specs.Accepted.{Accepted, LinkOk, accepted, fine-first, first-fine}
 use Rattle.plan.specs.Same.{Same, same-taken}
-use Rattle.planfile.specs.Layout.{linkNumbers, linksNumbers, bytesOf, encode, word, column, decode, trim, trimmed}
+use Rattle.planfile.specs.declared.Outcome.{Outcome}
+use Rattle.planfile.specs.Layout.{linkNumbers, linksNumbers, bytesOf, encode, word, column, decode, trim, trimmed, blank}
 use Rattle.planfile.specs.Lengths.{length-links, length-encode}
 use Rattle.planfile.specs.Reading.{headRefusal, readRefusal, readPlan}
 use Rattle.planfile.specs.Writing.{writePlan}
@@ -168,6 +171,17 @@ module _ (s : List ℕ) (z : readRefusal s ≡ 0) where
       let e = read-written b in
       let n : 7 + 8 * (decode s) .links ≡ length s = sym (length-encode (decode s)) ∙ ap length e in
       rw (read-accepted, n, le-ltb (length t) (length s) l, e)
+
+-- what the reader takes is accepted
+pub read-taken : (s : List ℕ) (r : Outcome) → r ≡ readPlan s → r .refusal ≡ 0 → planRefusal (r .plan) ≡ 0
+unfolding readPlan
+read-taken s r e z = rw e (eqb-cases (readRefusal s) 0 (λ b. answer b .refusal ≡ 0 → planRefusal (answer b .plan) ≡ 0)
+    (λ h y. read-accepted s h)
+    (λ n y. absurd (n y))
+    (rw e at z))
+  where
+    answer : Bool → Outcome
+    answer b = cond b (record { refusal = 0; plan = decode s }) (record { refusal = readRefusal s; plan = blank })
 
 -- THE READER TAKES EXACTLY THE WRITTEN PLANS
 

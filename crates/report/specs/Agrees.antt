@@ -10,6 +10,7 @@ use Rattle.base.specs.Loop.{Ran}
 use Rattle.plan.specs.declared.Plan.{Plan}
 use Rattle.plan.specs.Links.{low}
 use Rattle.planfile.specs.Reading.{readPlan}
+use Rattle.planfile.specs.RoundTrip.{read-taken}
 use Rattle.search.specs.Own.{isOwn, endIn, marksIn}
 use Rattle.field.specs.Edges.{ceilingOf}
 use Rattle.field.specs.State.{State, markAt}
@@ -22,7 +23,6 @@ use Rattle.settle.specs.Settled.{settled}
 use Rattle.settle.specs.Agrees.{calls, settled-is, outcome}
 use Rattle.report.specs.Text.{reportText}
 use Rattle.report.specs.Reported.{reported, settled-shown, plan-taken}
-use Rattle.report.specs.Fits.{read-taken}
 
 -- the mark of a link's lower module stands at 2 × k
 lower-mark : (p : Plan) (s : State) (k : ℕ) → k < p .links → markAt p s (low p k) k ≡ getD (s .marks) (2 * k) 0

@@ -2,30 +2,22 @@
 use Prim.Native.Nat.{ℕ, zero, suc, _+_, _*_, _≤_, min}
 use Prim.Native.String.{String}
 use native.Mathlib.Omega.{arith}
-use native.Mathlib.Decide.{decLt}
-use native.Mathlib.Nat.{mul-le-mul}
 use mathlib.Core.Path.{_≡_, refl, ap, _∙_}
-use mathlib.Core.Logic.{by-cases}
-use mathlib.Core.Bool.{Bool, cond}
+use mathlib.Core.Bool.{cond}
 use mathlib.Core.List.{List, [], _∷_, _++_}
 use lib.ListN.{length, take, getD, replicate, length-append, length-replicate}
-use lib.Pow.{pow-mono}
 use lib.Dec.{eqb, ltb}
-use Rattle.base.specs.Cond.{eqb-cases}
 use Rattle.base.specs.LoopLaws.{by-test}
-use Rattle.base.specs.Log.{log2, log2-low}
 use Rattle.base.specs.Loop.{Ran}
 use Rattle.text.specs.Ascii.{ascii}
 use Rattle.text.specs.Decimal.{decimal, decimal-length}
 use Rattle.text.specs.Put.{Page, page, put, put-front, put-place, put-length}
 use Rattle.plan.specs.declared.Plan.{Plan}
-use Rattle.plan.specs.Refusal.{planRefusal}
-use Rattle.plan.specs.Accepted.{Accepted, accepted, fine-first}
 use Rattle.plan.specs.Weights.{cost}
-use Rattle.plan.specs.Ceiling.{ceiling}
+use Rattle.plan.specs.Ceiling.{ceiling, ceiling-small}
 use Rattle.planfile.specs.declared.Outcome.{Outcome}
-use Rattle.planfile.specs.Layout.{decode, blank}
-use Rattle.planfile.specs.Reading.{headRefusal, readRefusal, readPlan}
+use Rattle.planfile.specs.Reading.{readPlan}
+use Rattle.planfile.specs.RoundTrip.{read-taken}
 use Rattle.field.specs.declared.Field.{Field}
 use Rattle.field.specs.Edges.{ceilingOf}
 use Rattle.field.specs.Held.{Held}
@@ -131,26 +123,8 @@ module _ (b t : List ℕ) (short : length t ≤ 46202) (size : 46202 ≤ length 
   whole-inside = omega (arith, ap (λ (p : Page). length (p .bytes)) e, put-length (page 0 b) t, whole-end)
 
 -- The words of a plan that is taken.
-level-small : (n : ℕ) → 1 ≤ n → n ≤ 192 → log2 n ≤ 7
-level-small n l h = by-cases (decLt (log2 n) 8) (λ y. omega arith) (λ f. absurd (let g : 8 ≤ log2 n = omega arith in omega (arith, pow-mono g, log2-low n l)))
-
-taken-small : (p : Plan) → Accepted p → ceilingOf p ≤ 7920
-taken-small p k =
-    let n : 5 * p .modules ≤ 960 = omega (arith, k .modulesOk) in
-    omega (arith, k .linksOk, mul-le-mul n (level-small (p .modules) (k .someone) (k .modulesOk)))
-
--- a plan that the reader takes is accepted
-pub read-taken : (s : List ℕ) (g : Outcome) → g ≡ readPlan s → g .refusal ≡ 0 → planRefusal (g .plan) ≡ 0
-unfolding readPlan readRefusal
-read-taken s g e = rw e (eqb-cases (readRefusal s) 0 (λ b. answer b .refusal ≡ 0 → planRefusal (answer b .plan) ≡ 0)
-    (λ z _. fine-first (headRefusal s) z .1)
-    (λ n z. absurd (n z)))
-  where
-    answer : Bool → Outcome
-    answer b = cond b (record { refusal = 0; plan = decode s }) (record { refusal = readRefusal s; plan = blank })
-
 pub read-small : (s : List ℕ) (g : Outcome) → g ≡ readPlan s → g .refusal ≡ 0 → ceilingOf (g .plan) ≤ 7920
-read-small s g e z = taken-small (g .plan) (accepted (g .plan) (read-taken s g e z))
+read-small s g e z = ceiling-small (g .plan) (read-taken s g e z)
 
 -- Arrays of zeros, and their fronts.
 pub zeros-front : (m n : ℕ) → m ≤ n → take {A = ℕ} m (replicate n 0) ≡ replicate m 0

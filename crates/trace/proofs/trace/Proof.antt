@@ -5,7 +5,7 @@ use lib.Seq.{length-take-le}
 use borrow.Author.Needs.{needs}
 use Rattle.plan.specs.Refusal.{planRefusal}
 use Rattle.plan.specs.Ceiling.{ceiling-small}
-use Rattle.trace.proofs.Start.{read-taken}
+use Rattle.planfile.specs.RoundTrip.{read-taken}
 use Rattle.trace.proofs.trace.Statement.{statement}
 use Rattle.trace.proofs.trace.Tie as tie
 
