@@ -1,3 +1,4 @@
 pub mod Ascii
 pub mod Put
 pub mod Decimal
+pub mod Lines

@@ -91,3 +91,11 @@ module _ (at : ℕ) (b t : List ℕ) (fits : at + length t ≤ length b) where
   pub put-front : take (put (page at b) t .place) (put (page at b) t .bytes) ≡ take at b ++ t
   put-front = rw put-whole (take-at (take at b ++ t) (drop (at + length t) b) (at + length t)
       (length-append (take at b) t ∙ ap (λ n. n + length t) (length-take-le at b (omega arith))))
+
+-- A buffer that is long enough has the text whole, from its front.
+module _ (b t : List ℕ) (fits : length t ≤ length b) (at : ℕ) (b′ : List ℕ) (e : page at b′ ≡ put (page 0 b) t) where
+  pub whole-text : take at b′ ≡ t
+  whole-text = ap (λ (p : Page). take (p .place) (p .bytes)) e ∙ put-front 0 b t (omega arith)
+
+  pub whole-inside : at ≤ length b′
+  whole-inside = omega (arith, ap (λ (p : Page). p .place) e, put-place (page 0 b) t, ap (λ (p : Page). length (p .bytes)) e, put-length (page 0 b) t)

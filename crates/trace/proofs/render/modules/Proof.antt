@@ -1,0 +1,62 @@
+use Prim.Native.Nat.{_≤_, _-_}
+use native.Mathlib.Omega.{arith}
+use mathlib.Core.Path.{_≡_, refl, sym, ap, _∙_}
+use lib.ListN.{length}
+use borrow.Author.Needs.{needs}
+use Rattle.text.specs.Put.{page, put, put-none, put-on}
+use Rattle.trace.specs.Text.{modulesText, modules-none, modules-turn}
+use Rattle.trace.proofs.render.modules.Statement.{statement}
+use Rattle.trace.proofs.render.modules.Tie as tie
+
+abbrev Inv-loop : tie.InvT-loop
+Inv-loop p cells marks out₀ at a₀ v₀ out a v =
+    (v ≤ p .modules) × (length out ≡ length out₀) × (page a out ≡ put (page at out₀) (modulesText p cells marks v))
+
+abbrev μ-loop : tie.MeasureT-loop
+μ-loop p cells marks out₀ at a₀ v₀ out a v = p .modules - v
+
+loop-holds : tie.Need-loop-holds Inv-loop μ-loop
+loop-holds c =
+    (omega arith, refl, sym (ap (put _) (modules-none _ _ _) ∙ put-none _))
+
+module-line-requires : tie.Need-module-line-requires Inv-loop μ-loop
+module-line-requires c κs = search needs
+
+add-v : tie.Need-add-v Inv-loop μ-loop
+add-v c = search needs
+
+loop-less : tie.Need-loop-less Inv-loop μ-loop
+loop-less c = search needs
+
+loop-again : tie.Need-loop-again Inv-loop μ-loop
+loop-again c =
+    let call = c .before .before in
+    let at = call .before .before .before .before in (
+      omega arith,
+      search needs,
+      put-on _ (modulesText _ _ _ _) _ (at .loop .inv .2) (call .module-line .ensures)
+          ∙ ap (put _) (modules-turn _ _ _ _),
+    )
+
+same-length : tie.Need-same-length Inv-loop μ-loop
+same-length c = search needs
+
+returns : tie.Need-returns Inv-loop μ-loop
+returns c =
+    let at = c .before .before in
+    let end : at .loop .v ≡ at .before .before .args .p .modules = omega arith in
+    at .loop .inv .2 ∙ ap (put _) (ap (modulesText _ _ _) end)
+
+pub modules-spec : {M : Type 1} → statement M
+modules-spec =
+    tie.close
+    (tie.spec
+    Inv-loop
+    μ-loop
+    loop-holds
+    module-line-requires
+    add-v
+    loop-less
+    loop-again
+    same-length
+    returns)

@@ -1,0 +1,62 @@
+use Prim.Native.Nat.{_≤_, _-_}
+use native.Mathlib.Omega.{arith}
+use mathlib.Core.Path.{_≡_, refl, sym, ap, _∙_}
+use lib.ListN.{length}
+use borrow.Author.Needs.{needs}
+use Rattle.text.specs.Put.{page, put, put-none, put-on}
+use Rattle.trace.specs.Text.{markText, marksText, marks-none, marks-turn}
+use Rattle.trace.proofs.render.own_marks.Statement.{statement}
+use Rattle.trace.proofs.render.own_marks.Tie as tie
+
+abbrev Inv-loop : tie.InvT-loop
+Inv-loop links lower higher marks out₀ at v a₀ k₀ out a k =
+    (k ≤ links) × (length out ≡ length out₀) × (page a out ≡ put (page at out₀) (marksText links lower higher marks v k))
+
+abbrev μ-loop : tie.MeasureT-loop
+μ-loop links lower higher marks out₀ at v a₀ k₀ out a k = links - k
+
+loop-holds : tie.Need-loop-holds Inv-loop μ-loop
+loop-holds c =
+    (omega arith, refl, sym (ap (put _) (marks-none _ _ _ _ _) ∙ put-none _))
+
+mark-requires : tie.Need-mark-requires Inv-loop μ-loop
+mark-requires c κs = search needs
+
+add-k : tie.Need-add-k Inv-loop μ-loop
+add-k c = search needs
+
+loop-less : tie.Need-loop-less Inv-loop μ-loop
+loop-less c = search needs
+
+loop-again : tie.Need-loop-again Inv-loop μ-loop
+loop-again c =
+    let call = c .before .before in
+    let at = call .before .before .before in (
+      omega arith,
+      search needs,
+      put-on _ (marksText _ _ _ _ _ _) (markText _ _ _ _ _ _) (at .loop .inv .2) (call .mark .ensures)
+          ∙ ap (put _) (marks-turn _ _ _ _ _ _),
+    )
+
+same-length : tie.Need-same-length Inv-loop μ-loop
+same-length c = search needs
+
+returns : tie.Need-returns Inv-loop μ-loop
+returns c =
+    let at = c .before in
+    let end : at .loop .k ≡ at .before .before .args .links = omega arith in
+    at .loop .inv .2 ∙ ap (put _) (ap (marksText _ _ _ _ _) end)
+
+pub own-marks-spec : {M : Type 1} → statement M
+own-marks-spec =
+    tie.close
+    (tie.spec
+    Inv-loop
+    μ-loop
+    loop-holds
+    mark-requires
+    add-k
+    loop-less
+    loop-again
+    same-length
+    returns)
