@@ -1,8 +1,7 @@
 -- The longest report has 46202 bytes, and no plan that is taken asks for more than 7920 words.
 use Prim.Native.Nat.{ℕ, zero, suc, _+_, _*_, _≤_, min}
-use Prim.Native.String.{String}
 use native.Mathlib.Omega.{arith}
-use mathlib.Core.Path.{_≡_, refl, ap, _∙_}
+use mathlib.Core.Path.{_≡_, refl, ap}
 use mathlib.Core.Bool.{cond}
 use mathlib.Core.List.{List, [], _∷_, _++_}
 use lib.ListN.{length, take, getD, replicate, length-append, length-replicate}
@@ -10,8 +9,7 @@ use lib.Dec.{eqb, ltb}
 use Rattle.base.specs.LoopLaws.{by-test}
 use Rattle.base.specs.Loop.{Ran}
 use Rattle.text.specs.Ascii.{ascii}
-use Rattle.text.specs.Decimal.{decimal, decimal-length}
-use Rattle.text.specs.Put.{Page, page, put, put-front, put-place, put-length}
+use Rattle.text.specs.Lines.{both, named-length, line-length}
 use Rattle.plan.specs.declared.Plan.{Plan}
 use Rattle.plan.specs.Weights.{cost}
 use Rattle.plan.specs.Ceiling.{ceiling, ceiling-small}
@@ -25,17 +23,6 @@ use Rattle.settle.specs.Settled.{settled}
 use Rattle.report.specs.Total.{total}
 use Rattle.report.specs.Text.{named, line, headText, branchText, branchLines, endText, endsText, coreText, tailText, reportText}
 use Rattle.report.specs.Reported.{refusedText, settledText, planText, reported}
-
--- two texts within their limits
-both : (s t : List ℕ) {m n : ℕ} → length s ≤ m → length t ≤ n → length (s ++ t) ≤ m + n
-both s t h k = rw (length-append s t) (omega arith)
-
-module _ (word : String) (n : ℕ) where
-  named-length : length (named word n) ≤ length (ascii word) + 20
-  named-length = both (ascii word) (decimal n) (omega arith) (decimal-length n)
-
-  line-length : length (line word n) ≤ length (ascii word) + 20 + 1
-  line-length = both (named word n) (ascii "\n") named-length (omega arith)
 
 branch-length : (mark lower higher c : ℕ) → length (branchText mark lower higher c) ≤ 70
 unfolding branchText
@@ -111,17 +98,6 @@ reported-length s =
     by-test (eqb (g .refusal) 0) (λ b. length (cond b x (refusedText (g .refusal))) ≤ 46202)
     (settled-length (settled (g .plan) (replicate (ceilingOf (g .plan)) 0))) (refused-length (g .refusal))
 
--- A buffer of that size or more has the text whole, from its front.
-module _ (b t : List ℕ) (short : length t ≤ 46202) (size : 46202 ≤ length b) (at : ℕ) (b′ : List ℕ) (e : page at b′ ≡ put (page 0 b) t) where
-  pub whole-text : take at b′ ≡ t
-  whole-text = ap (λ (p : Page). take (p .place) (p .bytes)) e ∙ put-front 0 b t (omega arith)
-
-  pub whole-end : at ≤ 46202
-  whole-end = omega (arith, ap (λ (p : Page). p .place) e, put-place (page 0 b) t)
-
-  pub whole-inside : at ≤ length b′
-  whole-inside = omega (arith, ap (λ (p : Page). length (p .bytes)) e, put-length (page 0 b) t, whole-end)
-
 -- The words of a plan that is taken.
 pub read-small : (s : List ℕ) (g : Outcome) → g ≡ readPlan s → g .refusal ≡ 0 → ceilingOf (g .plan) ≤ 7920
 read-small s g e z = ceiling-small (g .plan) (read-taken s g e z)
@@ -132,5 +108,6 @@ zeros-front zero n l = refl
 zeros-front (suc m) zero l = absurd (omega arith)
 zeros-front (suc m) (suc n) l = ap (λ (t : List ℕ). 0 ∷ t) (zeros-front m n (omega arith))
 
-pub zeros-length : (k n : ℕ) → k ≤ n → k ≤ length {A = ℕ} (replicate n 0)
-zeros-length k n l = rw (length-replicate {A = ℕ} n 0) l
+-- a buffer of n zeros
+pub reported-fits : (n : ℕ) → 46202 ≤ n → (s : List ℕ) → length (reported s) ≤ length {A = ℕ} (replicate n 0)
+reported-fits n l s = rw (length-replicate {A = ℕ} n 0) (omega (arith, reported-length s))

@@ -1,6 +1,5 @@
 -- What the reporting program prints of a field and a number of rounds. (Document 01, samples, has one whole.)
 use Prim.Native.Nat.{ℕ, zero, suc, _+_, _*_, _≤_, _<_, min}
-use Prim.Native.String.{String}
 use native.Mathlib.Omega.{arith}
 use native.Mathlib.Numerals.{add-one}
 use mathlib.Core.Path.{_≡_, refl}
@@ -11,20 +10,13 @@ use lib.ListN.{getD}
 use lib.Dec.{eqb, ltb}
 use borrow.Author.Tests.{eq-eqb, ne-eqb, lt-ltb, le-ltb}
 use Rattle.text.specs.Ascii.{ascii}
-use Rattle.text.specs.Decimal.{decimal}
+pub use Rattle.text.specs.Lines.{named, line}
 use Rattle.text.specs.Put.{Page, put, put-on}
 use Rattle.plan.specs.declared.Plan.{Plan}
 use Rattle.plan.specs.Weights.{cost, costOf, costIn}
 use Rattle.plan.specs.Ceiling.{ceiling}
 use Rattle.field.specs.declared.Field.{Field}
 use Rattle.report.specs.Total.{total}
-
--- a word and a number; the same on a line
-abbrev pub named : String → ℕ → List ℕ
-named word n = ascii word ++ decimal n
-
-abbrev pub line : String → ℕ → List ℕ
-line word n = named word n ++ ascii "\n"
 
 abbrev pub headText : ℕ → ℕ → List ℕ
 headText n l = line "modules " n ++ line "links " l

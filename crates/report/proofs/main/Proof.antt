@@ -4,7 +4,8 @@ use mathlib.Core.Path.{sym}
 use lib.ListN.{length}
 use lib.Seq.{length-take-le}
 use borrow.Author.Needs.{needs}
-use Rattle.report.specs.Fits.{reported-length, whole-text, whole-inside, zeros-length}
+use Rattle.text.specs.Put.{whole-text, whole-inside}
+use Rattle.report.specs.Fits.{reported-fits}
 use Rattle.report.proofs.main.Statement.{statement}
 use Rattle.report.proofs.main.Tie as tie
 
@@ -34,7 +35,7 @@ slice-aggregate-show c = search needs
 
 -- the report is shorter than the buffer
 room : (c : tie.After-report) → c .report .result ≤ length (c .report .last .1 .0)
-room c = whole-inside _ _ (reported-length _) (zeros-length 46202 65536 (omega arith)) _ _ (c .report .ensures)
+room c = whole-inside _ _ (reported-fits 65536 (omega arith) _) _ _ (c .report .ensures)
 
 array-share-prefix-out : tie.Need-array-share-prefix-out
 array-share-prefix-out c = room (c .before .before)
@@ -45,7 +46,7 @@ slice-aggregate-show-2 c =
 
 show-requires : tie.Need-show-requires
 show-requires c κs =
-    whole-text _ _ (reported-length _) (zeros-length 46202 65536 (omega arith)) _ _ (c .before .before .before .report .ensures)
+    whole-text _ _ (reported-fits 65536 (omega arith) _) _ _ (c .before .before .before .report .ensures)
 
 returns : tie.Need-returns
 returns c = search needs
