@@ -1,15 +1,15 @@
--- A module that was woken stays awake, so after a list of calls in which one was woken one is awake.
+-- A module that was woken stays awake, so after a list of calls every module that was woken in it is awake.
 use Prim.Native.Nat.{ℕ, _<_}
 use native.Mathlib.Omega.{arith}
-use mathlib.Core.Path.{_≡_, refl, sym, ap, _∙_}
-use mathlib.Core.Logic.{_≢_, _⊎_, inl, inr, ⊎-elim}
+use mathlib.Core.Path.{_≡_, refl, sym, ap, subst, _∙_}
+use mathlib.Core.Logic.{_≢_}
 use mathlib.Core.Bool.{cond}
 use mathlib.Core.List.{List, [], _∷_, _++_}
-use lib.ListN.{length}
 use lib.Dec.{eqb}
 use Rattle.base.specs.Cond.{by-eq, eqb-diff}
 use Rattle.base.specs.Loop.{After}
 use Rattle.base.specs.LoopLaws.{by-test}
+use Rattle.base.specs.Pool.{All, nil, All-map, All-app, All-one}
 use Rattle.plan.specs.declared.Plan.{Plan}
 use Rattle.plan.specs.Accepted.{Accepted}
 use Rattle.node.specs.declared.Node.{Node}
@@ -24,15 +24,13 @@ use Rattle.fieldlaws.specs.Keeps.{Sound, step-keeps}
 use Rattle.roundlaws.specs.Steady.{steady-wake}
 use Rattle.roundlaws.specs.Progress.{awake-now, other-after}
 
-pub record Awake (p : Plan) (s : State) : Type 0 where
-  pub who : ℕ
-  pub within : who < p .modules
-  pub awake : nodeAt s who .status ≢ ASLEEP
+pub record Awake (p : Plan) (s : State) (v : ℕ) : Type 0 where
+  pub within : v < p .modules
+  pub awake : nodeAt s v .status ≢ ASLEEP
 
 -- v responded: it is awake, and the others are as they were
 pub record Responded (p : Plan) (v : ℕ) (s s′ : State) : Type 0 where
-  pub within : v < p .modules
-  pub awake : nodeAt s′ v .status ≢ ASLEEP
+  pub now : Awake p s′ v
   pub other : (u : ℕ) → u ≢ v → nodeAt s′ u ≡ nodeAt s u
 
 module _ (p : Plan) (a : Accepted p) (s s′ : State) (i : Sound p s) where
@@ -41,24 +39,26 @@ module _ (p : Plan) (a : Accepted p) (s s′ : State) (i : Sound p s) where
       let w = wakeWork p v s in
       let here = ap (λ t. nodeAt t v) (h .responds .is) ∙ node-same (s .cells) v (w .node) (omega (arith, i .sized .cells, h .within)) in
       record {
-        within = h .within;
-        awake = λ e. steady-wake (ownOf p v) (start (nodeAt s v) (markAt p s v)) (λ q. omega arith) .awake (sym (ap (λ (n : Node). n .status) here) ∙ e);
+        now = record {
+          within = h .within;
+          awake = λ e. steady-wake (ownOf p v) (start (nodeAt s v) (markAt p s v)) (λ q. omega arith) .awake (sym (ap (λ (n : Node). n .status) here) ∙ e);
+        };
         other = λ u n. ap (λ t. nodeAt t u) (h .responds .is) ∙ node-other (s .cells) v (w .node) u n;
       }
 
   served-responds : (v : ℕ) → Served p v s s′ → Responded p v s s′
-  served-responds v h = record { within = h .within; awake = awake-now p a s s′ v i h; other = other-after p a s s′ v i h }
+  served-responds v h = record { now = record { within = h .within; awake = awake-now p a s s′ v i h }; other = other-after p a s s′ v i h }
 
-  stays : (v : ℕ) → Responded p v s s′ → Awake p s → Awake p s′
-  stays v r k = by-eq (k .who) v
-      (λ e. record { who = v; within = r .within; awake = r .awake })
-      (λ n. record { who = k .who; within = k .within; awake = λ e. k .awake (sym (ap (λ (m : Node). m .status) (r .other (k .who) n)) ∙ e) })
+  stays : (v : ℕ) → Responded p v s s′ → (u : ℕ) → Awake p s u → Awake p s′ u
+  stays v r u k = by-eq u v
+      (λ e. subst (Awake p s′) (sym e) (r .now))
+      (λ n. record { within = k .within; awake = λ e. k .awake (sym (ap (λ (m : Node). m .status) (r .other u n)) ∙ e) })
 
 -- from x the steps l were taken and left y
 pub record Wakes (p : Plan) (x : State) (l : List Taken) (y : State) : Type 0 where
   pub sound : Sound p y
-  pub woken : wokenIn p l ≢ [] → Awake p y
-  pub stays : Awake p x → Awake p y
+  pub woken : All (Awake p y) (wokenIn p l)
+  pub stays : (v : ℕ) → Awake p x v → Awake p y v
 
 woken-app : (p : Plan) (l m : List Taken) → wokenIn p (l ++ m) ≡ wokenIn p l ++ wokenIn p m
 unfolding wokenIn
@@ -66,15 +66,10 @@ woken-app p [] m = refl
 woken-app p (t ∷ l) m = by-test (wakesOne p t) (λ b. cond b (t .number ∷ wokenIn p (l ++ m)) (wokenIn p (l ++ m)) ≡ cond b (t .number ∷ wokenIn p l) (wokenIn p l) ++ wokenIn p m)
     (ap (λ r. t .number ∷ r) (woken-app p l m)) (woken-app p l m)
 
--- one of two lists is not empty
-either-list : (l m : List ℕ) → l ++ m ≢ [] → (l ≢ []) ⊎ (m ≢ [])
-either-list [] m n = inr n
-either-list (x ∷ l) m n = inl (λ e. omega (arith, ap length e))
-
 module _ (p : Plan) (a : Accepted p) where
   pub wakes-none : (x : State) → Sound p x → Wakes p x [] x
   unfolding wokenIn
-  wakes-none x i = record { sound = i; woken = λ n. absurd (n refl); stays = λ k. k }
+  wakes-none x i = record { sound = i; woken = nil; stays = λ v k. k }
 
   pub wakes-more : (x y z : State) (l m : List Taken) → (Sound p x → Wakes p x l y) → (Sound p y → Wakes p y m z) → Sound p x → Wakes p x (l ++ m) z
   wakes-more x y z l m f g i =
@@ -82,20 +77,20 @@ module _ (p : Plan) (a : Accepted p) where
       let c = g (b .sound) in
       record {
         sound = c .sound;
-        woken = λ n. ⊎-elim (λ u. c .stays (b .woken u)) (λ u. c .woken u) (either-list (wokenIn p l) (wokenIn p m) (λ e. n (woken-app p l m ∙ e)));
-        stays = λ k. c .stays (b .stays k);
+        woken = subst (All (Awake p z)) (sym (woken-app p l m)) (All-app (All-map (c .stays) (b .woken)) (c .woken));
+        stays = λ v k. c .stays v (b .stays v k);
       }
 
   took-wakes : (s : State) (kind number : ℕ) (s′ : State) → Sound p s → Sound p s′ → Step p s kind number s′ → Wakes p s (record { kind = kind; number = number; at = s } ∷ []) s′
   unfolding wokenIn wakesOne
   took-wakes s _ _ s′ i j (wake-step {v} h) =
       let r = woke-responds p a s s′ i v h in
-      record { sound = j; woken = λ n. record { who = v; within = r .within; awake = r .awake }; stays = stays p a s s′ i v r }
+      record { sound = j; woken = All-one (r .now); stays = stays p a s s′ i v r }
   took-wakes s _ _ s′ i j (hand-step h) =
-      record { sound = j; woken = λ n. absurd (n refl); stays = λ k. record { who = k .who; within = k .within; awake = λ e. k .awake (sym (ap (λ t. nodeAt t (k .who) .status) (h .is)) ∙ e) } }
+      record { sound = j; woken = nil; stays = λ v k. record { within = k .within; awake = λ e. k .awake (sym (ap (λ t. nodeAt t v .status) (h .is)) ∙ e) } }
   took-wakes s _ _ s′ i j (serve-step {v} h) =
       let r = served-responds p a s s′ i v h in
-      record { sound = j; woken = λ n. record { who = v; within = r .within; awake = r .awake }; stays = stays p a s s′ i v r }
+      record { sound = j; woken = by-test (wakesOne p (record { kind = 3; number = v; at = s })) (λ b. All (Awake p s′) (cond b (v ∷ []) [])) (All-one (r .now)) nil; stays = stays p a s s′ i v r }
 
   pub step-wakes : (kind number : ℕ) (s : State) → Sound p s → Wakes p s (ifTaken p kind number s) (step p kind number s .state)
   unfolding ifTaken

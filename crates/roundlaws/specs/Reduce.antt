@@ -47,8 +47,8 @@ pub record Protocol (p : Plan) (Good : State → Type 0) : Type 0 where
   pub stuck : (s : State) → Sound p s → Good s → All (Blocked p s) (s .words) → s .words ≡ []
   -- branches are tree links
   pub branches : (s : State) → Sound p s → Good s → (v k : ℕ) → markAt p s v k ≡ BRANCH → TreeLink p k
-  -- at rest, with a module awake, all agree
-  pub agreed : (s : State) → Sound p s → Good s → Awake p s → s .words ≡ [] → Agreed p s
+  -- at rest, with module v awake, all agree
+  pub agreed : (s : State) → Sound p s → Good s → (v : ℕ) → Awake p s v → s .words ≡ [] → Agreed p s
 
 -- ---- refusals
 
@@ -82,6 +82,11 @@ usual-step (kept r (inl e)) x y = absurd (x e)
 usual-step (kept r (inr (inl e))) x y = absurd (y e)
 usual-step (kept r (inr (inr (inl h)))) x y = inr (inl h)
 usual-step (kept r (inr (inr (inr e)))) x y = inr (inr (omega arith, omega arith))
+
+-- a list that is not empty has a member
+one-of : {P : ℕ → Type 0} {l : List ℕ} → l ≢ [] → All P l → (v : ℕ) × P v
+one-of n nil = absurd (n refl)
+one-of n (con {x} h t) = (x, h)
 
 module _ (p : Plan) (a : Accepted p) (Good : State → Type 0) (proto : Protocol p Good) where
   calm : Calm p Good
@@ -150,7 +155,7 @@ module _ (p : Plan) (a : Accepted p) (Good : State → Type 0) (proto : Protocol
         exact = c .sent ∙ omega (arith, z);
         ceiling = s′ .fits .ceiling;
         refusals = allowed cs h i e g;
-        agreed = λ n r. proto .agreed (stateOf h′) s′ g′ (w .woken n) r;
+        agreed = λ n r. let k = one-of n (w .woken) in proto .agreed (stateOf h′) s′ g′ (k .0) (k .1) r;
         settles = settling h′ i′ e′ g′;
       }
 
