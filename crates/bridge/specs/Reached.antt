@@ -6,7 +6,7 @@ use mathlib.Core.Path.{_≡_, subst}
 use mathlib.Core.Logic.{_⊎_, inl, inr, ⊎-elim}
 use mathlib.Core.List.{List, _∷_, _++_}
 use lib.ListN.{length}
-use Rattle.base.specs.Log.{log2}
+use Rattle.base.specs.Ceiling.{ceiling}
 use Rattle.message.specs.Msg.{Msg}
 use Rattle.node.specs.Work.{Work}
 use Rattle.node.specs.Rules.{wakes}
@@ -35,7 +35,7 @@ ends-at {p} {n = n} {w = w} h f =
     record { to = f.to; reach = subst (λ x. Reach p f.to (n + x)) e (reach-steps f.steps h); idle = f.idle; answer = f.answer; is = f.at.is }
 
 -- not 33: the messages of the response are within M
-pub after-fits : {p : Plan} {r : Real} {v c n : ℕ} {w : Work} → After p r v c n w → n + length (w .sends) ≤ 5 * p.N * log2 p.N + 2 * p.g.L
+pub after-fits : {p : Plan} {r : Real} {v c n : ℕ} {w : Work} → After p r v c n w → n + length (w .sends) ≤ ceiling p.N p.g.L
 after-fits a = reach-ceiling a.reach
 
 module _ {p : Plan} {s : State} {n : ℕ} (h : Reach p s n) (idle : Idle s) where

@@ -2,8 +2,7 @@
 use Rattle.protocol.specs.Prelude.{ℕ, suc, _+_, _*_, _≤_, _<_, arith, _≡_, refl, sym, ap, _∙_, _≢_, _⊎_, inl, inr, by-eq, sum-le, sum-add, none}
 use Rattle.protocol.specs.Prelude.{Plan, end-lt, flip, State, Step, setup, GL, DK, Inf, Inv, sends, half-of, told-of, root-of, edge-some}
 use Rattle.base.specs.Log.{log2, level-le}
-use mathlib.Core.Logic.{by-cases}
-use native.Mathlib.Decide.{decLe}
+use Rattle.base.specs.Ceiling.{ceiling, within-ceiling}
 use Rattle.base.specs.Sum.{sum-const}
 use Rattle.graph.specs.Size.{level-one, level-two}
 use Rattle.budget.specs.Paid.{Paid}
@@ -53,8 +52,8 @@ module _ {p : Plan} {s : State} (i : Inv p s) where
           five : (x : ℕ) → x ≤ 4 → x ≢ 0 → x ≢ 1 → x ≢ 2 → x ≢ 3 → x ≢ 4 → ⊥
           five x l a b c d f = omega arith
 
-  pub ceiling : {n : ℕ} → Paid p (log2 p.N) s n → n + 2 * p.N ≤ p.N * (5 * log2 p.N) + 2 * p.g.L
-  ceiling {n} h = omega (
+  pub paid-low : {n : ℕ} → Paid p (log2 p.N) s n → n + 2 * p.N ≤ p.N * (5 * log2 p.N) + 2 * p.g.L
+  paid-low {n} h = omega (
     arith,
     h.bal,
     sum-le p.N (λ v. 5 * h.tb v + 3) (λ v. 5 * log2 p.N + (h.ts v + h.rt v)) each,
@@ -108,13 +107,8 @@ sent-step i t h = record { many = λ l. paid-step i t (h.many l); few = λ l. om
 
 -- the lower ceiling of N ≥ 2
 pub sent-low : {p : Plan} {s : State} {n : ℕ} → Inv p s → Sent p s n → 2 ≤ p.N → n + 2 * p.N ≤ p.N * (5 * log2 p.N) + 2 * p.g.L
-sent-low i h l = ceiling i (h.many l)
+sent-low i h l = paid-low i (h.many l)
 
 -- NO MORE THAN M
-pub sent-ceiling : {p : Plan} {s : State} {n : ℕ} → Inv p s → Sent p s n → n ≤ 5 * p.N * log2 p.N + 2 * p.g.L
-sent-ceiling {p} {n = n} i h = by-cases (decLe 2 p.N)
-    (λ l. omega (arith, sent-low i h l, mul p.N (log2 p.N)))
-    (λ f. omega (arith, h.few (omega arith)))
-  where
-    mul : (a b : ℕ) → a * (5 * b) ≡ 5 * a * b
-    mul a b = omega arith
+pub sent-ceiling : {p : Plan} {s : State} {n : ℕ} → Inv p s → Sent p s n → n ≤ ceiling p.N p.g.L
+sent-ceiling {p} i h = within-ceiling p.N p.g.L (λ l. sent-low i h l) h.few

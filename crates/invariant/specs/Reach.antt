@@ -2,6 +2,7 @@
 use Rattle.protocol.specs.Prelude.{ℕ, _+_, _*_, _≤_, arith, _≡_, subst, Plan, Tree, State, setup, Inv, sends, Steps, done, then}
 use Rattle.protocol.specs.Setup.{inv-setup}
 use Rattle.base.specs.Log.{log2}
+use Rattle.base.specs.Ceiling.{ceiling}
 use Rattle.budget.specs.Ceiling.{Sent, sent-setup, sent-step, sent-ceiling, sent-low}
 use Rattle.invariant.specs.Step.{inv-step}
 use Rattle.invariant.specs.Within.{Within, Carried, Unrefused, only-tree, within, carried, unrefused}
@@ -23,8 +24,8 @@ reach-steps {p} {n = n} (then {s″ = z} {n = m} t w) h =
     assoc : (a b c : ℕ) → (a + b) + c ≡ a + (b + c)
     assoc a b c = omega arith
 
--- NO MORE THAN M = 5 N ⌊log2 N⌋ + 2 L
-pub reach-ceiling : {p : Plan} {s : State} {n : ℕ} → Reach p s n → n ≤ 5 * p.N * log2 p.N + 2 * p.g.L
+-- NO MORE THAN M
+pub reach-ceiling : {p : Plan} {s : State} {n : ℕ} → Reach p s n → n ≤ ceiling p.N p.g.L
 reach-ceiling h = sent-ceiling (h.inv) (h.sent)
 
 -- the lower one, for two nodes or more

@@ -1,17 +1,15 @@
 -- Laws that the functions' proofs cite, over plain numbers.
-use Prim.Native.Nat.{ℕ, zero, suc, _*_, _-_, _^_, _≤_, _<_}
+use Prim.Native.Nat.{ℕ, zero, suc, _-_, _^_, _≤_, _<_}
 use native.Mathlib.Omega.{arith}
-use native.Mathlib.Nat.{mul-le-mul}
-use mathlib.Core.Path.{_≡_, refl, ap, _∙_}
+use mathlib.Core.Path.{_≡_, refl, sym, ap, _∙_}
 use mathlib.Core.Logic.{_≢_}
 use mathlib.Core.Bool.{Bool, true, false}
 use mathlib.Core.List.{List}
 use lib.Dec.{ltb}
 use lib.Count.{leadingZeros, leading-top}
-use borrow.Author.Tests.{le-ltb, eq-eqb, ne-eqb}
-use Rattle.base.specs.Cond.{bool-cases}
 use Rattle.base.specs.Log.{log2, log2-lt, level-le}
 use Rattle.base.specs.Test.{every}
+use Rattle.plan.specs.Keys.{key-same, key-other}
 use Rattle.plan.specs.Weights.{costIn, earlierIn}
 
 -- THE ORDER OF THE LINKS, as it is tested
@@ -19,11 +17,11 @@ use Rattle.plan.specs.Weights.{costIn, earlierIn}
 module _ (near far : List ℕ) (a b x y : ℕ) (p : x ≡ costIn near far a) (q : y ≡ costIn near far b) where
   pub same-cost : x ≡ y → ltb a b ≡ earlierIn near far a b
   unfolding earlierIn
-  same-cost e = rw (← p, ← q, le-ltb x y (omega arith), eq-eqb x y e)
+  same-cost e = sym (key-same (costIn near far) ltb a b (sym p ∙ e ∙ q))
 
   pub other-cost : x ≢ y → ltb x y ≡ earlierIn near far a b
   unfolding earlierIn
-  other-cost d = rw (← p, ← q, ne-eqb x y d) (bool-cases (ltb x y) (λ e. rw e) (λ e. rw e))
+  other-cost d = rw (p, q) (sym (key-other (costIn near far) ltb a b (λ e. d (p ∙ e ∙ sym q))))
 
 -- THE LOGARITHM
 
@@ -37,19 +35,6 @@ leading n d h =
     let t = leading-top 32 n (omega arith) h in
     let e : log2 n ≡ t .0 = log2-is (t .0) n (t .2) (t .3) in
     (omega (arith, t .1), omega (arith, t .1))
-
--- a logarithm of 16 bits
-log2-fits : (n : ℕ) → n < 2 ^ 16 → log2 n ≤ 15
-unfolding log2
-log2-fits zero h = omega arith
-log2-fits (suc n) h = omega (arith, log2-lt 16 (suc n) (omega arith) h)
-
--- the first term of the ceiling, for any 16 bits
-pub term-fits : (n t : ℕ) → n < 2 ^ 16 → t ≡ log2 n → 5 * n * t ≤ 4915125
-term-fits n t h e =
-    let first : 5 * n ≤ 327675 = omega arith in
-    let second : t ≤ 15 = omega (arith, log2-fits n h) in
-    mul-le-mul first second
 
 -- A TEST OF ALL, from the last down
 

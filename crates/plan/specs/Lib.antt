@@ -1,4 +1,5 @@
 pub mod Links
+pub mod Keys
 pub mod Weights
 pub mod Refusal
 pub mod Accepted

@@ -4,8 +4,8 @@ ghost use mathlib.Core.Path.{_≡_};
 ghost use mathlib.Core.Logic.{_⊎_};
 ghost use Prim.Native.Nat.{_<_, _≤_};
 ghost use Rattle.base.specs.Log.{log2};
+ghost use Rattle.base.specs.Ceiling.{firstTerm, ceiling};
 ghost use Rattle.base.specs.None.{none};
-ghost use Rattle.plan.specs.Ceiling.{ceiling};
 ghost use Rattle.plan.specs.Links.{planOf};
 ghost use Rattle.plan.specs.Refusal.{ascends, inOrder, linkVerdict, linksRefusal, planRefusal};
 ghost use Rattle.plan.specs.Weights.{costOf, earlierIn, beforeIn};
@@ -32,11 +32,18 @@ pub fn floor_log2(n: u16) -> u16
     (31 - u32::leading_zeros(n as u32)) as u16
 }
 
+// The ceiling's first term.
+fn first_term(n: u16) -> u32
+    ensures { λ r. ⌜ r ≡ firstTerm n ⌝ }
+{
+    5 * (n as u32) * (floor_log2(n) as u32)
+}
+
 // The ceiling of the sent count, for N modules and L links.
 pub fn ceiling(n: u16, l: u16) -> u32
     ensures { λ r. ⌜ r ≡ ceiling n l ⌝ }
 {
-    5 * (n as u32) * (floor_log2(n) as u32) + 2 * (l as u32)
+    first_term(n) + 2 * (l as u32)
 }
 
 // A link's cost.
