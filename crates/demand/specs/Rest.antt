@@ -27,8 +27,7 @@ use Rattle.graph.specs.Ways.{flip}
 use Rattle.protocol.specs.Plan.{Ends, end-lt}
 use Rattle.protocol.specs.Chan.{In, first, in-nil, in-cons, in-app, in-right}
 use Rattle.protocol.specs.Step as protocol
-use Rattle.stuck.specs.Informed.{Stuck}
-use Rattle.stuck.specs.Finished.{nothing}
+use Rattle.stuck.specs.Parts.{AllFinished, stuck-finished, rest-finished}
 use Rattle.bridge.specs.Real.{Real, ownP}
 use Rattle.demand_view.specs.Net.{net, ends-own, ends-of, dest-is}
 use Rattle.demand_view.specs.Chans.{chans-own}
@@ -73,16 +72,17 @@ module _ (p : Plan) (a : Accepted p) (s : State) (g : Good p a s) where
   chan-is : {k u v : ℕ} → Ends (net p a) k u v → g.at.ch u k ≡ chan (over p u k) (s .words)
   chan-is {k} {u} e = ap (λ (r : Real). r.ch u k) (g.is) ∙ chans-own p (s .words) u k (ends-own p a e)
 
-  -- no message in the protocol's channels: no word
-  none-waits : All (λ x. wordFits p x ≡ true) (s .words) → ((k u v : ℕ) (m : Msg) → Ends (net p a) k u v → ¬ In m (g.at.ch u k)) → s .words ≡ []
-  none-waits i f = go (s .words) i (λ k u v m e n. f k u v m e (subst (In m) (sym (chan-is e)) n))
+  -- the protocol's channels are empty: no word
+  none-waits : All (λ x. wordFits p x ≡ true) (s .words) → ((k u v : ℕ) → Ends (net p a) k u v → g.at.ch u k ≡ []) → s .words ≡ []
+  none-waits i f = go (s .words) i (λ k u v e. sym (chan-is e) ∙ f k u v e)
     where
-      go : (l : List ℕ) → All (λ x. wordFits p x ≡ true) l → ((k u v : ℕ) (m : Msg) → Ends (net p a) k u v → ¬ In m (chan (over p u k) l)) → l ≡ []
+      go : (l : List ℕ) → All (λ x. wordFits p x ≡ true) l → ((k u v : ℕ) → Ends (net p a) k u v → chan (over p u k) l ≡ []) → l ≡ []
       go [] h n = refl
       go (x ∷ l) (con h t) n =
           let d = linkIn x in
           let b = word-link p x h in
-          absurd (n (linkOf d) (from p d) (dest p d) (msgIn x) (ends-of p a d b) (subst (λ y. In (msgIn x) (chan y (x ∷ l))) (sym (over-from p a d b)) (first-in x l)))
+          let e : chan d (x ∷ l) ≡ [] = ap (λ y. chan y (x ∷ l)) (sym (over-from p a d b)) ∙ n (linkOf d) (from p d) (dest p d) (ends-of p a d b) in
+          absurd (in-nil (subst (In (msgIn x)) e (first-in x l)))
 
   -- a word that its node would put back is a message that is blocked
   blocked : {k u v : ℕ} (e : Ends (net p a) k u v) (x : ℕ) → linkIn x ≡ over p u k → Blocked p s x → (g.at.st v ≢ 0) × protocol.Blocked (g.at) v k (msgIn x)
@@ -99,13 +99,13 @@ module _ (p : Plan) (a : Accepted p) (s : State) (g : Good p a s) where
 
   -- NOTHING WAITS where every waiting message is blocked
   pub stuck-none : Sound p s → All (Blocked p s) (s .words) → s .words ≡ []
-  stuck-none i h = none-waits (i .fits .words) (nothing (g.reach.inv) (record { idle = g.idle; back = back }))
+  stuck-none i h = none-waits (i .fits .words) (stuck-finished (g.reach.inv) (record { idle = g.idle; back = back }) .silent)
     where
       back : (k u v : ℕ) (m : Msg) → Ends (net p a) k u v → In m (g.at.ch u k) → (g.at.st v ≢ 0) × protocol.Blocked (g.at) v k m
       back k u v m e n =
           let x = word-of (over p u k) h (subst (In m) (chan-is e) n) in
           subst (λ y. (g.at.st v ≢ 0) × protocol.Blocked (g.at) v k y) (x .msg) (blocked e (x .word) (x .link) (x .holds))
 
-  -- where no word waits the protocol is stuck too
-  pub at-rest : s .words ≡ [] → Stuck (net p a) (g.at)
-  at-rest z = record { idle = g.idle; back = λ k u v m e n. absurd (in-nil (subst (In m) (chan-is e ∙ ap (chan (over p u k)) z ∙ sym (chans-own p [] u k (ends-own p a e)) ∙ chans-none p a u k) n)) }
+  -- AT REST the protocol is finished
+  pub at-rest : s .words ≡ [] → AllFinished (net p a) (g.at)
+  at-rest z = rest-finished (g.reach.inv) (g.idle) (λ k u v e. chan-is e ∙ ap (chan (over p u k)) z ∙ sym (chans-own p [] u k (ends-own p a e)) ∙ chans-none p a u k)

@@ -1,10 +1,15 @@
 -- At rest: the branches are the tree, the other edges are Rejected at both ends, and just the core ends have halted. For each part with an awake node.
 use Rattle.protocol.specs.Prelude.{ℕ, _≤_, arith, _≡_, refl, sym, ap, subst, _∙_, _≢_, _⊎_, inl, inr, ⊎-elim, by-eq}
-use Rattle.protocol.specs.Prelude.{none, report, Plan, Ends, Tree, joins-lt, up, flip, hop, Way, stop, go, State, GL, GC, Jn, Joined, Inv, joined-both}
+use Rattle.protocol.specs.Prelude.{none, report, Plan, Ends, Tree, Graph, Joins, joins-lt, up, flip, hop, Way, stop, go, State, GL, GC, Jn, Joined, Inv, joined-both}
 use Rattle.graph.specs.Cycle.{needed}
 use Rattle.graph.specs.Ways.{against}
 use Rattle.stuck.specs.Informed.{Stuck}
 use Rattle.stuck.specs.Finished.{finished, part-awake, nothing}
+
+-- a way to another node begins with an edge
+pub leaves : {g : Graph} {S : ℕ → Type 0} {v w : ℕ} → Way g S v w → v ≢ w → (k : ℕ) × (u : ℕ) × Joins g k v u
+leaves stop d = absurd (d refl)
+leaves (go {v = u} k j h w) d = (k, u, j)
 
 module _ {p : Plan} {s : State} (i : Inv p s) (t : Stuck p s) where
   -- MARKS: Branch at both ends, or Rejected at both
@@ -54,9 +59,5 @@ module _ {p : Plan} {s : State} (i : Inv p s) (t : Stuck p s) where
       (λ z.
       let k = GC s v in
       let e : Ends p k (p.g.lo k) (p.g.hi k) = up (i.G5.g5r v (omega arith)) refl refl in
-      absurd (alone (i.M1.m4 v (p.g.lo k) (sym (i.G5.g5 v (p.g.lo k) (p.g.hi k) (omega arith) e .1))) (λ q. n k (p.g.hi k) (subst (λ x. Ends p k x (p.g.hi k)) (sym q) e))))
-    where
-      -- no way leads from v to another
-      alone : {w : ℕ} → Way p.g (Joined p s.mark) v w → v ≢ w → ⊥
-      alone stop d = d refl
-      alone (go {v = b} k e o w) d = n k b e
+      let w = leaves (i.M1.m4 v (p.g.lo k) (sym (i.G5.g5 v (p.g.lo k) (p.g.hi k) (omega arith) e .1))) (λ q. n k (p.g.hi k) (subst (λ x. Ends p k x (p.g.hi k)) (sym q) e)) in
+      absurd (n (w .0) (w .1) (w .2)))
