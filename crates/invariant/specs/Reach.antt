@@ -24,6 +24,10 @@ reach-steps {p} {n = n} (then {s″ = z} {n = m} t w) h =
     assoc : (a b c : ℕ) → (a + b) + c ≡ a + (b + c)
     assoc a b c = omega arith
 
+-- EVERY SEQUENCE OF EVENTS FROM SETUP: s after n messages
+pub from-setup : {p : Plan} {s : State} {n : ℕ} → Steps p setup s n → Reach p s n
+from-setup {p} {s} {n} w = let e : 0 + n ≡ n = omega arith in subst (λ x. Reach p s x) e (reach-steps w (reach-setup p))
+
 -- NO MORE THAN M
 pub reach-ceiling : {p : Plan} {s : State} {n : ℕ} → Reach p s n → n ≤ ceiling p.N p.g.L
 reach-ceiling h = sent-ceiling (h.inv) (h.sent)
@@ -31,6 +35,10 @@ reach-ceiling h = sent-ceiling (h.inv) (h.sent)
 -- the lower one, for two nodes or more
 pub reach-low : {p : Plan} {s : State} {n : ℕ} → Reach p s n → 2 ≤ p.N → n + 2 * p.N ≤ p.N * (5 * log2 p.N) + 2 * p.g.L
 reach-low h l = sent-low (h.inv) (h.sent) l
+
+-- none for fewer
+pub reach-none : {p : Plan} {s : State} {n : ℕ} → Reach p s n → p.N ≤ 1 → n ≡ 0
+reach-none h l = h.sent.few l
 
 -- ONLY TREE EDGES ARE BRANCH
 pub reach-tree : {p : Plan} {s : State} {n : ℕ} → Reach p s n → (v k : ℕ) → s.mark v k ≡ 1 → Tree p k

@@ -1,4 +1,5 @@
--- The state of the protocol: one table for each variable of the nodes, the marks and channels, and the ghost tables of the proof.
+-- The state of the protocol: one table for each variable of the nodes, the marks and channels, the ghost tables of the proof, and what the
+-- response in progress still has to do.
 -- An edge that may be missing is a number, 65535 (`none`) for none.
 use Prim.Native.Nat.{ℕ}
 use mathlib.Core.List.{List, []}
@@ -27,7 +28,7 @@ pub record State : Type 0 where
   pub mark : ℕ → ℕ → ℕ
   -- channel: what node v has sent over edge k and is not consumed, the oldest first
   pub ch : ℕ → ℕ → List Msg
-  -- the rest is ghost: carried along by the proof, never read by a step's real part
+  -- ghost, from here to `owe`: carried along by the proof, never read by a step's real part
   -- label of the node's fragment
   pub fr : ℕ → ℕ
   -- of a label: the fragment's level
@@ -50,6 +51,7 @@ pub record State : Type 0 where
   pub ub : ℕ → ℕ
   -- 1 where node v waits for a Report over edge k
   pub owe : ℕ → ℕ → ℕ
+  -- control: what the response in progress still has to do. The guards read it; between responses all three are 0
   -- suc v while procedure test is to be executed at v, else 0
   pub ot : ℕ
   -- suc v while procedure report is to be executed at v, else 0

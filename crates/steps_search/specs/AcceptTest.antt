@@ -45,7 +45,7 @@ module _ {p : Plan} {s : State} (i : Inv p s) {u v k l f : ℕ} {r : List Msg} (
       (λ n. let o : s.mark u k ≡ 1 = omega (arith, i.W0.mark-le u k, t .1) in absurd (apart (i.M1.m3 k u v ends (o, t .2 o)))))
       (λ t. absurd (apart (t .3))) (i.E1.e1w k u v l f ends head)
 
-  -- the Test was the one of three
+  -- of u's Test, an answer to it and a Test of v that crossed it just one is under way (E2): this Test
   one : 1 ≤ sumL isT (s.ch u k)
   one = in-sum isT head
 

@@ -64,7 +64,7 @@ module _ {p : Plan} {s : State} (i : Inv p s) {u v k l f c : ℕ} {r : List Msg}
   basic z = ⊎-elim (λ t. t .1)
       (λ t. absurd (omega (arith, branch-v i ends head low same (omega (arith, i.W0.mark-le v k, open-v, t .0))))) strike
 
-  -- the Test was the one of three, and v has sent none over k
+  -- of u's Test, an answer to it and a Test of v that crossed it just one is under way (E2): this Test; v has sent none over k
   pub no-own : sumL isT (s.ch v k) ≡ 0
   no-own = no-tests (s.ch v k) (λ a b h. ⊎-elim (λ t. other (t .0 .0)) (λ t. open-v (t .1)) (i.E1.e1w k v u a b (flip ends) h))
 

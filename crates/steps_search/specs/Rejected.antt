@@ -19,7 +19,7 @@ module _ {p : Plan} {s : State} (i : Inv p s) {u v k c : ℕ} {r : List Msg} (id
       (λ y. i.E2.e2i k v u (flip ends) (said .j1w) (o, y) .1 z)
       (λ y. i.D1.d1 k v u (flip ends) (i.D1.m2 k v u (flip ends) o y) .d1o (said .j1f)))
 
-  -- so the Reject was the one of three
+  -- so of v's Test, an answer to it and a Test of u that crossed it just one was under way (E2): this Reject
   pub alone : sumL isT (s.ch v k) + sumL isA (s.ch u k) + sumL isT (s.ch u k) ≡ 1
   alone = i.E1.e2c k v u (flip ends) (said .j1w) (inl not-theirs)
 

@@ -85,7 +85,7 @@ module _ {p : Plan} {s : State} (i : Inv p s) {u v k l f x a b d e : ℕ} {r : L
   pub core-find : (j y : ℕ) → Ends p j v y → GC s v ≡ j → x ≡ 1
   core-find j y g c = ok.i1d (core-full j y g c) ∙ core-low j y g c .t4d
 
-  -- ---- the copies: c other-end another branch j of v is below v, and told by v
+  -- ---- the copies: c, beyond another branch j of v, is below v, and told by v
 
   module _ (j c : ℕ) (g : Ends p j v c) (n : k ≢ j) (m : s.mark v j ≡ 1) where
     pub kid-joined : Jn s j v c

@@ -189,7 +189,7 @@ module _ {p : Plan} {s : State} (i : Inv p s) {u v k l f x a b d e : ℕ} {r : L
         record { t4d = t.t4d; t4l = ap (λ m. m + 1) (F.lev-else i act w o) ∙ t.t4l; t4b = t.t4b; t4i = λ z. t.t4i (sym (F.ib-else i act w o) ∙ z) };
   }
     where
-      -- other-end a branch of an informed node that is not its in-branch v has that branch inbound
+      -- beyond a branch of an informed node that is not its in-branch, v has that branch inbound
       told : (j w : ℕ) → Ends p j w v → Jn s j w v → Inf s w → s.ib w ≢ j → s.ub v ≡ j
       told j w g h m n = i.I1.i1 j w v (GL s w) (GC s w) (s.due v) g (i.T4.t2i j w v g h m n (F.low i act)) .i1u
 
