@@ -1,6 +1,6 @@
 -- THE CEILING: at most N × (5 ⌊log2 N⌋ − 2) + 2 L messages for N ≥ 2, none for N ≤ 1; so at most 5 N ⌊log2 N⌋ + 2 L.
 use Rattle.protocol.specs.Prelude.{ℕ, suc, _+_, _*_, _≤_, _<_, arith, _≡_, refl, sym, ap, _∙_, _≢_, _⊎_, inl, inr, by-eq, sum-le, sum-add, none}
-use Rattle.protocol.specs.Prelude.{Plan, end-lt, flip, State, Step, setup, GL, DK, Inf, Inv, sends, half-of, told-of, root-of, edge-some}
+use Rattle.protocol.specs.Prelude.{Plan, end-lt, flip, State, Step, setup, GL, DK, Inf, Inv, sends, half-of, changing-of, root-of, edge-some}
 use Rattle.base.specs.Log.{log2, level-le}
 use Rattle.base.specs.Ceiling.{ceiling, within-ceiling}
 use Rattle.base.specs.Sum.{sum-const}
@@ -34,9 +34,9 @@ module _ {p : Plan} {s : State} (i : Inv p s) where
           let o = i.D1.d1 (h .1) (h .0) (h .2) (h .3) (h .4) in
           omega (arith, two (h .0) (h .2) (end-lt p (h .3)) (end-lt p (flip (h .3))) (λ q. o.d1o (sym q)) (omega (arith, o.d1g, i.G2.g2 (h .2))), ap s.gl (h .5), e)
 
-      told : DK s v ≢ 2
-      told d =
-          let h = told-of i v d in
+      changing : DK s v ≢ 2
+      changing d =
+          let h = changing-of i v d in
           let o = i.D2.d2 (h .1) (h .0) (h .2) (h .3) (h .4) in
           omega (arith, way-out (h .2) (o.d2x) (o.d2w), ap s.gl (i.M1.m3 (h .1) (h .0) (h .2) (h .3) (o.d2j)), ap s.gl (h .5), e)
 
@@ -47,7 +47,7 @@ module _ {p : Plan} {s : State} (i : Inv p s) where
           omega (arith, way-out (h .0) (o.d3i) (o.d3w), ap s.gl (h .2), e)
 
       rest : DK s v ≢ 0 → DK s v ≢ 4 → ⊥
-      rest n0 n4 = five (DK s v) (i.W0.dk-le (s.fr v)) n0 root told half n4
+      rest n0 n4 = five (DK s v) (i.W0.dk-le (s.fr v)) n0 root changing half n4
         where
           five : (x : ℕ) → x ≤ 4 → x ≢ 0 → x ≢ 1 → x ≢ 2 → x ≢ 3 → x ≢ 4 → ⊥
           five x l a b c d f = omega arith

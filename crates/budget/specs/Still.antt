@@ -57,12 +57,12 @@ module _ {p : Plan} {z n : ℕ} {s : State} (i : Inv p s) (h : Paid p z s n) whe
 
   pub paid-change-root : {u v k : ℕ} {r : List Msg} → Ends p k u v → s.ch u k ≡ change ∷ r → Paid p z (rooted (pop s u k r) v) n
   paid-change-root {u} {v} {k} {r} e q =
-      let told = i.Dc.k1 k u v e (pop-head s.ch u k q) in
-      let o = i.D2.d2 k u v e told in
+      let changing = i.Dc.k1 k u v e (pop-head s.ch u k q) in
+      let o = i.D2.d2 k u v e changing in
       let same = i.M1.m3 k u v e (o.d2j) in
       let deep = i.T1.t1p k v u (flip e) (o.d2x) (o.d2b) (λ y. o.d2g (ap s.gc same ∙ y)) .1 in
-      let d : DK s v ≡ 2 = ap s.dk (sym same) ∙ told .0 in
-      let dn : s.dn (s.fr v) ≡ u = ap s.dn (sym same) ∙ told .1 in
+      let d : DK s v ≡ 2 = ap s.dk (sym same) ∙ changing .0 in
+      let dn : s.dn (s.fr v) ≡ u = ap s.dn (sym same) ∙ changing .1 in
       keep h (rooted (pop s u k r) v) (heights-pop s.ch u k q refl (h.H))
       (dues-decide (h.D) (s.fr v) 1 v
       (λ w a b c. absurd (⊎-elim one-not one-not4 c))

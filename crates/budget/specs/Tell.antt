@@ -2,7 +2,7 @@
 use Rattle.protocol.specs.Prelude.{ℕ, _+_, _*_, eqb, bit, cond, Bool, true, false, _≤_, _<_, arith, _≡_, refl, sym, ap, subst, _∙_, _≢_, inl, inr, ⊎-elim, by-eq, bool-cases}
 use Rattle.protocol.specs.Prelude.{List, [], _∷_, _++_, sum, sum-le, sum-add, sumL, upd-same, upd-other, upd2, Msg, initiate}
 use Rattle.protocol.specs.Prelude.{Plan, Ends, end-lt, flip, ends-same, other-end, ends-two, ends-irr, edge-some, State, Idle, Mode, Place, pop, informed}
-use Rattle.protocol.specs.Prelude.{isT, isY, top, top-app, In, fan, fan-elim, fan-sum, fan-else, copy, copy-yes, pop-head, pop-sum, else-same, here-new, at2, no-tests, GL, DK, Waits, Inv, no-root, low-find, told-of}
+use Rattle.protocol.specs.Prelude.{isT, isY, top, top-app, In, fan, fan-elim, fan-sum, fan-else, copy, copy-yes, pop-head, pop-sum, else-same, here-new, at2, no-tests, GL, DK, Waits, Inv, no-root, low-find, changing-of}
 use Rattle.protocol.specs.Traffic.{InitOk}
 use Rattle.budget.specs.Paid.{LT, Heights, Dues, Tries, Links, Paid, lt-none, lt-same}
 use Rattle.budget.specs.Height.{tb-le, tb-init}
@@ -174,7 +174,7 @@ module _ {p : Plan} {z n : ℕ} {s : State} (i : Inv p s) (h : Paid p z s n) {u 
       -- who has sent the Change-root is informed
       teller : (w : ℕ) → DK s w ≡ 2 → v ≢ s.dn (s.fr w)
       teller w c t =
-          let o = told-of i w c in
+          let o = changing-of i w c in
           let g = i.D2.d2 (o .1) (o .0) (o .2) (o .3) (o .4) .d2i in
           omega (arith, below, g .1, ap s.lev (t ∙ ap s.dn (sym (o .5)) ∙ o .4 .1), ap (GL s) (t ∙ ap s.dn (sym (o .5)) ∙ o .4 .1))
 

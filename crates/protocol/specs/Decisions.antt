@@ -29,7 +29,7 @@ pub record Halves (p : Plan) (dk dn de fr gl lev ub : ℕ → ℕ) (mark : ℕ �
   pub d1 : (k z y : ℕ) → Ends p k z y → Decision 3 dk dn de fr z k → HalfOk p fr gl lev ub mark k z y
 
 -- D2: dk 2, node u has sent Change-root over k to x
-pub record ToldOk (p : Plan) (fr gl gc lev ib ub bw : ℕ → ℕ) (mark : ℕ → ℕ → ℕ) (k u x : ℕ) : Type 0 where
+pub record ChangingOk (p : Plan) (fr gl gc lev ib ub bw : ℕ → ℕ) (mark : ℕ → ℕ → ℕ) (k u x : ℕ) : Type 0 where
   -- the edge is joined, and not the core
   pub d2j : Both mark k u x
   pub d2g : gc (fr u) ≢ k
@@ -43,10 +43,10 @@ pub record ToldOk (p : Plan) (fr gl gc lev ib ub bw : ℕ → ℕ) (mark : ℕ �
   pub d2w : bw x ≢ none
   pub d2n : Bounding p fr mark (key p (bw x)) x
 
-pub record Tellings (p : Plan) (dk dn de fr gl gc lev ib ub bw : ℕ → ℕ) (mark : ℕ → ℕ → ℕ) : Type 0 where
+pub record ChangeRoots (p : Plan) (dk dn de fr gl gc lev ib ub bw : ℕ → ℕ) (mark : ℕ → ℕ → ℕ) : Type 0 where
   pub d2f : (v : ℕ) → dk (fr v) ≡ 2 → fr (dn (fr v)) ≡ fr v
   pub d2e : (v : ℕ) → dk (fr v) ≡ 2 → (x : ℕ) × Ends p (de (fr v)) (dn (fr v)) x
-  pub d2 : (k u x : ℕ) → Ends p k u x → Decision 2 dk dn de fr u k → ToldOk p fr gl gc lev ib ub bw mark k u x
+  pub d2 : (k u x : ℕ) → Ends p k u x → Decision 2 dk dn de fr u k → ChangingOk p fr gl gc lev ib ub bw mark k u x
 
 -- D3: dk 1, node x is about to execute procedure change-root
 pub record RootOk (p : Plan) (fr gl lev ib ub bw : ℕ → ℕ) (mark : ℕ → ℕ → ℕ) (x : ℕ) : Type 0 where

@@ -13,7 +13,7 @@ use Rattle.protocol.specs.State.{State}
 use Rattle.protocol.specs.Kind.{isC, isA, Fits}
 use Rattle.protocol.specs.Chan.{In, Bef, heads, sum-none}
 use Rattle.protocol.specs.Lemmas.{no-answers, none-in}
-use Rattle.protocol.specs.Notion.{GL, GC, DK, Inf, Jn, Half, Told, Root, Waits, Spent}
+use Rattle.protocol.specs.Notion.{GL, GC, DK, Inf, Jn, Half, Changing, Root, Waits, Spent}
 use Rattle.protocol.specs.Inv.{Inv}
 
 module _ {p : Plan} {s : State} (i : Inv p s) where
@@ -100,8 +100,8 @@ module _ {p : Plan} {s : State} (i : Inv p s) where
       let e = i.D1.d1e v d in
       (s.dn (s.fr v), s.de (s.fr v), e .0, e .1, (ap s.dk f ∙ d, ap s.dn f, ap s.de f), f)
 
-  pub told-of : (v : ℕ) → DK s v ≡ 2 → (u : ℕ) × (k : ℕ) × (x : ℕ) × Ends p k u x × Told s u k × (s.fr u ≡ s.fr v)
-  told-of v d =
+  pub changing-of : (v : ℕ) → DK s v ≡ 2 → (u : ℕ) × (k : ℕ) × (x : ℕ) × Ends p k u x × Changing s u k × (s.fr u ≡ s.fr v)
+  changing-of v d =
       let f = i.D2.d2f v d in
       let e = i.D2.d2e v d in
       (s.dn (s.fr v), s.de (s.fr v), e .0, e .1, (ap s.dk f ∙ d, ap s.dn f, ap s.de f), f)

@@ -2,7 +2,7 @@
 use Rattle.protocol.specs.Plan.{Plan}
 use Rattle.protocol.specs.State.{State}
 use Rattle.protocol.specs.Fragments.{Ranges, Values, Levels, Sizes, Cores, Sleepers, Marks, Inbounds}
-use Rattle.protocol.specs.Decisions.{Halves, Tellings, Rootings, Finishes}
+use Rattle.protocol.specs.Decisions.{Halves, ChangeRoots, Rootings, Finishes}
 use Rattle.protocol.specs.Search.{Parents, Kids, Finds, Pending, Counts, Tests, Weights}
 use Rattle.protocol.specs.Traffic.{Hush, Tokens, Connects, Initiates, Telling, Testing, Answers, Reports, Owing, Bests, Ordered}
 
@@ -17,7 +17,7 @@ pub record Inv (p : Plan) (s : State) : Type 0 where
   pub M1 : Marks p s.fr s.mark
   pub U1 : Inbounds p s.ub s.ib s.mark
   pub D1 : Halves p s.dk s.dn s.de s.fr s.gl s.lev s.ub s.mark
-  pub D2 : Tellings p s.dk s.dn s.de s.fr s.gl s.gc s.lev s.ib s.ub s.bw s.mark
+  pub D2 : ChangeRoots p s.dk s.dn s.de s.fr s.gl s.gc s.lev s.ib s.ub s.bw s.mark
   pub D3 : Rootings p s.dk s.dn s.fr s.gl s.lev s.ib s.ub s.bw s.mark s.oo
   pub D4 : Finishes p s.dk s.fr s.gl s.gc s.lev s.bw s.halt s.due s.mark
   pub T1 : Parents p s.lev s.fr s.gl s.gc s.ib s.ub s.dep s.side s.dk

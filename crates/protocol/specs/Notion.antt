@@ -69,8 +69,8 @@ abbrev pub Half : State → ℕ → ℕ → Type 0
 Half s z k = Decision 3 s.dk s.dn s.de s.fr z k
 
 -- u has sent Change-root over k
-abbrev pub Told : State → ℕ → ℕ → Type 0
-Told s u k = Decision 2 s.dk s.dn s.de s.fr u k
+abbrev pub Changing : State → ℕ → ℕ → Type 0
+Changing s u k = Decision 2 s.dk s.dn s.de s.fr u k
 
 abbrev pub Root : State → ℕ → Type 0
 Root s x = Rooting s.dk s.dn s.fr x

@@ -38,11 +38,11 @@ pub use Rattle.protocol.specs.Lemmas.{top-app, pop-top, snoc-top, rot-to
 pub use Rattle.protocol.specs.Lemmas.{some-connect, some-test, some-report, some-change, some-answer, some-call}
 pub use Rattle.protocol.specs.Lemmas.{no-connects, no-tests, no-reports, no-answers, no-calls, none-in}
 pub use Rattle.protocol.specs.Notion.{Informed, Both, Joined, Bounding, Decision, Rooting, Awaits, members, GL, GC, DK, Inf, Jn, Bounds}
-pub use Rattle.protocol.specs.Notion.{Half, Told, Root, Waits, Outst, Live, Covered, Child, CoreEnds, Spent}
+pub use Rattle.protocol.specs.Notion.{Half, Changing, Root, Waits, Outst, Live, Covered, Child, CoreEnds, Spent}
 pub use Rattle.protocol.specs.Inv.{Inv}
 pub use Rattle.protocol.specs.Facts.{sleep-lev, sleep-id, sleep-te, sleep-fc, sleep-halt, sleep-ib, sleep-ub, mark-awake}
 pub use Rattle.protocol.specs.Facts.{inf-cases, inf-awake, inf-found, te-find, fc-find, waits-find, low-find, decided-find, no-waits, no-answer}
-pub use Rattle.protocol.specs.Facts.{joined-level, out-joined, half-of, told-of, root-of, no-root, half-at, up-other, down-core, core-informed}
+pub use Rattle.protocol.specs.Facts.{joined-level, out-joined, half-of, changing-of, root-of, no-root, half-at, up-other, down-core, core-informed}
 pub use Rattle.protocol.specs.Facts.{no-initiate, no-connect, no-connect-decided, decided-initiate, decided-report, decided-test, rest-none}
 pub use Rattle.protocol.specs.Same.{outst-ch, live-ch, last, live-to, covered-to, owing-same, bests-same, connects-same, initiates-same, init-ok, answers-same, testing-same}
 pub use Rattle.protocol.specs.Same.{Around, around-same, Alike, core-same, reports-same}

@@ -9,7 +9,7 @@ use Rattle.protocol.specs.Plan.{Plan, Ends, key, rank}
 use Rattle.protocol.specs.State.{State}
 use Rattle.protocol.specs.Kind.{isC, isT, isA, isR, Only, Rouse, Fits, top}
 use Rattle.protocol.specs.Chan.{In, Bef}
-use Rattle.protocol.specs.Notion.{Informed, Both, Awaits, GL, GC, DK, Inf, Jn, Half, Told, Root, Waits, Outst, Covered, Child, CoreEnds, Spent}
+use Rattle.protocol.specs.Notion.{Informed, Both, Awaits, GL, GC, DK, Inf, Jn, Half, Changing, Root, Waits, Outst, Covered, Child, CoreEnds, Spent}
 
 -- G6: a sleeper has sent nothing, and only Connect and Test are on their way to it
 pub record Hush (p : Plan) (s : State) : Type 0 where
@@ -21,9 +21,9 @@ pub record Tokens (p : Plan) (s : State) : Type 0 where
   -- half: besides answers the channel holds just that Connect of the fragment's level
   pub d1c : (k z y : ℕ) → Ends p k z y → Half s z k → In (connect (GL s z)) (s.ch z k)
   pub d1a : (k z y : ℕ) → Ends p k z y → Half s z k → All (Only (GL s z)) (s.ch z k)
-  -- told: the Change-root is there, and a Change-root is the fragment's decision
-  pub d2c : (k u x : ℕ) → Ends p k u x → Told s u k → In change (s.ch u k)
-  pub k1 : (k u x : ℕ) → Ends p k u x → In change (s.ch u k) → Told s u k
+  -- changing: the Change-root is there, and a Change-root is the fragment's decision
+  pub d2c : (k u x : ℕ) → Ends p k u x → Changing s u k → In change (s.ch u k)
+  pub k1 : (k u x : ℕ) → Ends p k u x → In change (s.ch u k) → Changing s u k
   -- root: no Report is on its way to it by its in-branch
   pub d3r : (k x y : ℕ) → Ends p k x y → Root s x → s.ib x ≡ k → sumL isR (s.ch y k) ≡ 0
   -- finished: a core end has halted, or its partner's Report of none waits, and not both

@@ -4,7 +4,7 @@ use Rattle.protocol.specs.Prelude.{List, upd, upd-elim, upd-same, upd-ot
 use Rattle.protocol.specs.Prelude.{Plan, Ends, key, joins-lt, edge-some, key-none, key-edge, rank-lt, State, Better, set-bw, set-be, set-te, set-fc, set-owe, set-op, set-ch, isR}
 use Rattle.protocol.specs.Prelude.{GL, DK, Inf, Jn, Live, Covered, Inv, Flow, decided-find, no-root}
 use Rattle.protocol.specs.Fragments.{Values, Sleepers}
-use Rattle.protocol.specs.Decisions.{Tellings, Rootings, Finishes}
+use Rattle.protocol.specs.Decisions.{ChangeRoots, Rootings, Finishes}
 use Rattle.protocol.specs.Search.{Pending, Counts, Tests, Weights}
 use Rattle.protocol.specs.Traffic.{Testing, Answers, Bests}
 
@@ -71,7 +71,7 @@ module _ {p : Plan} {s : State} (i : Inv p s) {u v w k b e : ℕ} (calm : s.oo �
     g7n = i.G6.g7n;
   }
 
-  D2′ : Tellings p s.dk s.dn s.de s.fr s.gl s.gc s.lev s.ib s.ub bw′ s.mark
+  D2′ : ChangeRoots p s.dk s.dn s.de s.fr s.gl s.gc s.lev s.ib s.ub bw′ s.mark
   D2′ = record {
     d2f = i.D2.d2f;
     d2e = i.D2.d2e;

@@ -2,24 +2,24 @@
 use Rattle.protocol.specs.Prelude.{ℕ, arith, _≡_, refl, sym, ap, subst, _∙_, _≢_}
 use Rattle.protocol.specs.Prelude.{List, _∷_, upd2, sumL, Msg, change, Plan, Ends, State, Idle, pop, rooted}
 use Rattle.protocol.specs.Prelude.{isR, isK, In, at2, here-new, pop-head, pop-in, pop-le, none-in, no-reports, rest-none}
-use Rattle.protocol.specs.Prelude.{DK, Told, Inv, decided-find, decided-report}
-use Rattle.protocol.specs.Decisions.{ToldOk}
+use Rattle.protocol.specs.Prelude.{DK, Changing, Inv, decided-find, decided-report}
+use Rattle.protocol.specs.Decisions.{ChangingOk}
 use Rattle.steps_core.specs.Late.{late-change}
 use Rattle.steps_core.specs.Rooted.{Ready, inv-rooted}
 
 module _ {p : Plan} {s : State} (i : Inv p s) {u v k : ℕ} {r : List Msg} (idle : Idle s) (ends : Ends p k u v) (q : s.ch u k ≡ change ∷ r) where
   -- it is the fragment's decision
-  pub told : Told s u k
-  told = i.Dc.k1 k u v ends (pop-head s.ch u k q)
+  pub changing : Changing s u k
+  changing = i.Dc.k1 k u v ends (pop-head s.ch u k q)
 
-  pub told-ok : ToldOk p s.fr s.gl s.gc s.lev s.ib s.ub s.bw s.mark k u v
-  told-ok = i.D2.d2 k u v ends told
+  pub changing-ok : ChangingOk p s.fr s.gl s.gc s.lev s.ib s.ub s.bw s.mark k u v
+  changing-ok = i.D2.d2 k u v ends changing
 
   pub inside : s.fr u ≡ s.fr v
-  inside = i.M1.m3 k u v ends (told-ok .d2j)
+  inside = i.M1.m3 k u v ends (changing-ok .d2j)
 
   pub dk : DK s v ≡ 2
-  dk = sym (ap s.dk inside) ∙ told .0
+  dk = sym (ap s.dk inside) ∙ changing .0
 
   dk-of : (x : ℕ) → s.fr x ≡ s.fr v → DK s x ≢ 0
   dk-of x e z = omega (arith, ap s.dk e, dk)
@@ -27,26 +27,26 @@ module _ {p : Plan} {s : State} (i : Inv p s) {u v k : ℕ} {r : List Msg} (idle
   -- no Report is on its way to v over k: it would be spent, so k the core
   silent : sumL isR (s.ch u k) ≡ 0
   silent = no-reports (s.ch u k) (λ w o. let t = decided-report i k u v w ends (dk-of v refl) o in
-      told-ok .d2g (ap s.gc inside ∙ sym (i.G2.g2i v (told-ok .d2x)) ∙ t .1))
+      changing-ok .d2g (ap s.gc inside ∙ sym (i.G2.g2i v (changing-ok .d2x)) ∙ t .1))
 
   -- it was the only Change-root of the fragment
   no-token : (j x y : ℕ) → Ends p j x y → s.fr x ≡ s.fr v → ¬ In change (upd2 s.ch u k r x j)
   no-token j x y e f o =
       let t = i.Dc.k1 j x y e (pop-in s.ch u k q x j o) in
-      let a : x ≡ u = sym (t .1) ∙ ap s.dn (f ∙ sym inside) ∙ told .1 in
-      let b : j ≡ k = sym (t .2) ∙ ap s.de (f ∙ sym inside) ∙ told .2 in
+      let a : x ≡ u = sym (t .1) ∙ ap s.dn (f ∙ sym inside) ∙ changing .1 in
+      let b : j ≡ k = sym (t .2) ∙ ap s.de (f ∙ sym inside) ∙ changing .2 in
       omega (arith, none-in isK (rest-none i isK ends q (λ n z. z)) (subst (λ l. In change l) (at2 (upd2 s.ch u k r) a b ∙ here-new s.ch u k r) o))
 
   ready : Ready p s u v k r
   ready = record {
     ends = ends;
     inside = inside;
-    inf = told-ok .d2x;
-    ib = told-ok .d2b;
-    ub-v = told-ok .d2v;
-    ub-u = told-ok .d2u;
-    some = told-ok .d2w;
-    bounds = told-ok .d2n;
+    inf = changing-ok .d2x;
+    ib = changing-ok .d2b;
+    ub-v = changing-ok .d2v;
+    ub-u = changing-ok .d2u;
+    some = changing-ok .d2w;
+    bounds = changing-ok .d2n;
     fresh = λ z. omega (arith, dk);
     unfinished = λ z. omega (arith, dk);
     no-find = λ x e. decided-find i x (dk-of x e);

@@ -12,7 +12,7 @@ use Rattle.steps_core.specs.Rule.{Done, Ruling, inv-rule}
 record Ending (p : Plan) (s : State) (u v k : ℕ) (c′ : ℕ → ℕ → List Msg) (S′ : State) : Type 0 where
   core : GC s v ≡ k
   fresh : DK s v ≢ 3
-  told : DK s v ≢ 2
+  changing : DK s v ≢ 2
   -- nobody is Find or due, nothing is Basic, both ends are informed and found nothing
   no-find : (x : ℕ) → s.fr x ≡ s.fr v → s.st x ≢ 1
   no-due : (x : ℕ) → s.fr x ≡ s.fr v → s.due x ≡ 0
@@ -55,7 +55,7 @@ module _ {p : Plan} {s : State} (i : Inv p s) {u v k w : ℕ} {r : List Msg} (id
   ending-core c = record {
     core = C.core-v i ends q idle found c;
     fresh = λ z. omega (arith, C.undec i ends q idle found c);
-    told = λ z. omega (arith, C.undec i ends q idle found c);
+    changing = λ z. omega (arith, C.undec i ends q idle found c);
     no-find = C.none-find i ends q idle found c;
     no-due = C.none-due i ends q idle found c;
     tight = λ j x y e f m. let t = C.bound i ends q idle found c x j y f e m in t .2 (⊎-elim (λ z. ap s.bw z ∙ bu) (λ z. ap s.bw z ∙ bn) (t .1));
@@ -90,7 +90,7 @@ module _ {p : Plan} {s : State} (i : Inv p s) {u v k w : ℕ} {r : List Msg} (id
   ending-spent t = record {
     core = over .1;
     fresh = λ z. omega (arith, over .0);
-    told = λ z. omega (arith, over .0);
+    changing = λ z. omega (arith, over .0);
     no-find = λ x e. decided-find i x (dk-of x e);
     no-due = λ x e. i.D4.d5 x (dk-of x e);
     tight = λ j x y e f. i.D4.d4 j x y e (ap s.dk f ∙ over .0);
@@ -172,7 +172,7 @@ module _ {p : Plan} {s : State} (i : Inv p s) {u v k w : ℕ} {r : List Msg} (id
       d3 = λ x t. absurd (no-root-left x (t .0));
     };
     no-report = λ j x y e t z. absurd (no-root-left x (t .0));
-    no-token = λ j x y e f o. ending .told (sym (ap s.dk f) ∙ i.Dc.k1 j x y e (pop-in s.ch u k q x j o) .0);
+    no-token = λ j x y e f o. ending .changing (sym (ap s.dk f) ∙ i.Dc.k1 j x y e (pop-in s.ch u k q x j o) .0);
     spent = ending .spent;
   }
 

@@ -6,7 +6,7 @@ use Rattle.protocol.specs.Prelude.{Plan, Ends, flip, State, pop, set-ch, set-ha
 use Rattle.protocol.specs.Prelude.{isR, All, Only, le-sum, joins-lt, In, else-same, pop-in, pop-le}
 use Rattle.protocol.specs.Prelude.{Decision, GL, GC, DK, Inf, Outst, Live, Root, Child, CoreEnds, Spent, Inv, fc-find, outst-ch, live-ch, last, reports-same, take-alike}
 use Rattle.protocol.specs.Fragments.{Ranges, Sleepers}
-use Rattle.protocol.specs.Decisions.{Halves, Tellings, Rootings, Finishes}
+use Rattle.protocol.specs.Decisions.{Halves, ChangeRoots, Rootings, Finishes}
 use Rattle.protocol.specs.Search.{Parents, Finds}
 use Rattle.protocol.specs.Traffic.{Tokens, Reports, Owing, Bests}
 use Rattle.steps_core.specs.Late.{Late, Kept, kept}
@@ -125,7 +125,7 @@ module _ {p : Plan} {s : State} (i : Inv p s) {u v k d : ℕ} {m : Msg} {r : Lis
     d1 = λ j z y e a. i.D1.d1 j z y e (decision-old 3 z j not3 a .1);
   }
 
-  D2′ : Tellings p S′.dk dn s.de s.fr s.gl s.gc s.lev s.ib s.ub s.bw s.mark
+  D2′ : ChangeRoots p S′.dk dn s.de s.fr s.gl s.gc s.lev s.ib s.ub s.bw s.mark
   D2′ = record {
     d2f = λ x z. let o = dk-old 2 x not2 z in ap s.fr (h.dn-off x (o .0)) ∙ i.D2.d2f x (o .1);
     d2e = λ x z. let o = dk-old 2 x not2 z in subst (λ n. (y : ℕ) × Ends p (s.de (s.fr x)) n y) (sym (h.dn-off x (o .0))) (i.D2.d2e x (o .1));

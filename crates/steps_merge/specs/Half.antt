@@ -14,7 +14,7 @@ module _ {p : Plan} {s : State} (i : Inv p s) {v k y l : ℕ} (t : Turn p s v) (
     joins = inr half;
     tree = leave-tree i t h;
     half = λ n. refl;
-    told = λ z. absurd (omega arith);
+    changing = λ z. absurd (omega arith);
     half-ok = λ z. record {
       d1m = M.mark-new i t (leave-move i t h l);
       d1y = M.mark-off i t (leave-move i t h l) y k (M.y≢v i t (leave-move i t h l)) ∙ basic;
@@ -26,8 +26,8 @@ module _ {p : Plan} {s : State} (i : Inv p s) {v k y l : ℕ} (t : Turn p s v) (
     };
     half-in = λ z. subst (λ n. In (connect n) (M.c′ i t (leave-move i t h l) v k)) level (in-new s.ch v k (connect l));
     half-all = λ z. snoc-all s.ch v k (connect l) v k (λ a b. level) (in-all (s.ch v k) (leave-only i t h (GL s v)));
-    told-ok = λ z. absurd (omega arith);
-    told-in = λ z. absurd (omega arith);
+    changing-ok = λ z. absurd (omega arith);
+    changing-in = λ z. absurd (omega arith);
   }
     where
       basic : s.mark y k ≡ 0

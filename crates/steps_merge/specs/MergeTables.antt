@@ -5,7 +5,7 @@ use Rattle.protocol.specs.Prelude.{Plan, Ends, Tree, key, rank, Way, go, join, 
 use Rattle.protocol.specs.Prelude.{Both, Decision, GL, GC, DK, Half, waits-find}
 use Rattle.graph.specs.Size.{size, size-mono, level-merge}
 use Rattle.protocol.specs.Fragments.{Ranges, Levels, Sizes, Cores, Sleepers, Marks, Inbounds}
-use Rattle.protocol.specs.Decisions.{Halves, Tellings, Rootings, Finishes}
+use Rattle.protocol.specs.Decisions.{Halves, ChangeRoots, Rootings, Finishes}
 use Rattle.protocol.specs.Search.{Parents, LowOk, Kids, Finds, Tests, Weights}
 use Rattle.steps_merge.specs.Move as M
 use Rattle.steps_merge.specs.Unite as U
@@ -175,7 +175,7 @@ module _ {p : Plan} {s : State} {v k y l : ℕ} (r : Ready p s v k y l) where
         };
   }
 
-  pub D2′ : Tellings p S′.dk S′.dn S′.de S′.fr S′.gl S′.gc s.lev s.ib S′.ub s.bw S′.mark
+  pub D2′ : ChangeRoots p S′.dk S′.dn S′.de S′.fr S′.gl S′.gc s.lev s.ib S′.ub s.bw S′.mark
   D2′ = record {
     d2f = λ w z. let o = U.dk-old r 2 w (λ q. omega arith) z in decision-node w (o .0) (r.inv.D2.d2f w (o .1));
     d2e = λ w z. let o = U.dk-old r 2 w (λ q. omega arith) z in decision-edge w (o .0) (r.inv.D2.d2e w (o .1));

@@ -7,7 +7,7 @@ use Rattle.protocol.specs.Prelude.{Plan, Ends, Tree, flip, State, set-st, set-o
 use Rattle.protocol.specs.Prelude.{isC, isI, isT, isA, isR, isK, Only, In, snoc, snoc-in, snoc-all}
 use Rattle.protocol.specs.Prelude.{Both, Decision, GL, DK, Inf, Jn, Outst, Live, CoreEnds, Spent, Inv, joined-level}
 use Rattle.protocol.specs.Fragments.{Ranges, Cores, Sleepers, Marks, Inbounds}
-use Rattle.protocol.specs.Decisions.{HalfOk, Halves, ToldOk, Tellings, Rootings, Finishes}
+use Rattle.protocol.specs.Decisions.{HalfOk, Halves, ChangingOk, ChangeRoots, Rootings, Finishes}
 use Rattle.protocol.specs.Search.{Parents, Kids, Finds, Tests}
 use Rattle.protocol.specs.Traffic.{Tokens, Connects, Initiates, Telling, Testing, Answers, Reports, Owing, Bests}
 use Rattle.steps_merge.specs.Turn.{Turn}
@@ -22,12 +22,12 @@ pub record Own (p : Plan) (s : State) (v y k d : ℕ) (m : Msg) : Type 0 where
   pub tree : Tree p k
   -- the kind of the decision, and what it says of v, y, k
   pub half : s.mark y k ≢ 1 → d ≡ 3
-  pub told : isK m ≡ 1 → d ≡ 2
+  pub changing : isK m ≡ 1 → d ≡ 2
   pub half-ok : d ≡ 3 → HalfOk p s.fr s.gl s.lev (upd s.ub v k) (upd2 s.mark v k 1) k v y
   pub half-in : d ≡ 3 → In (connect (GL s v)) (snoc s.ch v k m v k)
   pub half-all : d ≡ 3 → All (Only (GL s v)) (snoc s.ch v k m v k)
-  pub told-ok : d ≡ 2 → ToldOk p s.fr s.gl s.gc s.lev s.ib (upd s.ub v k) s.bw (upd2 s.mark v k 1) k v y
-  pub told-in : d ≡ 2 → In change (snoc s.ch v k m v k)
+  pub changing-ok : d ≡ 2 → ChangingOk p s.fr s.gl s.gc s.lev s.ib (upd s.ub v k) s.bw (upd2 s.mark v k 1) k v y
+  pub changing-in : d ≡ 2 → In change (snoc s.ch v k m v k)
 
 module _ {p : Plan} {s : State} (i : Inv p s) {v y k d : ℕ} {m : Msg} (t : Turn p s v) (h : Move p s v y k m) (o : Own p s v y k d m) where
   abbrev pub S′ : State
@@ -213,12 +213,12 @@ module _ {p : Plan} {s : State} (i : Inv p s) {v y k d : ℕ} {m : Msg} (t : Tur
         });
   }
 
-  D2′ : Tellings p S′.dk S′.dn S′.de s.fr s.gl s.gc s.lev s.ib S′.ub s.bw S′.mark
+  D2′ : ChangeRoots p S′.dk S′.dn S′.de s.fr s.gl s.gc s.lev s.ib S′.ub s.bw S′.mark
   D2′ = record {
     d2f = λ w z. decision-node w (λ q. i.D2.d2f w (q ∙ z));
     d2e = λ w z. decision-edge w (λ q. i.D2.d2e w (q ∙ z));
     d2 = λ j u x e a. by-eq (s.fr v) (s.fr u)
-        (λ q. let b = own-decision 2 u j q a in at-own (λ j u x. ToldOk p s.fr s.gl s.gc s.lev s.ib S′.ub s.bw S′.mark j u x) j u x e (b .1) (b .2) (o.told-ok (b .0)))
+        (λ q. let b = own-decision 2 u j q a in at-own (λ j u x. ChangingOk p s.fr s.gl s.gc s.lev s.ib S′.ub s.bw S′.mark j u x) j u x e (b .1) (b .2) (o.changing-ok (b .0)))
         (λ n. let b = i.D2.d2 j u x e (old-decision 2 u j n a) in
         record {
           d2j = M.both-up i t h j u x (b.d2j);
@@ -291,10 +291,10 @@ module _ {p : Plan} {s : State} (i : Inv p s) {v y k d : ℕ} {m : Msg} (t : Tur
         (λ q. let b = own-decision 3 z j q a in at-own (λ j z x. All (Only (GL s z)) (S′.ch z j)) j z x e (b .1) (b .2) (o.half-all (b .0)))
         (λ n. snoc-all s.ch v k m z j (λ q r. absurd (away z n q)) (i.Dc.d1a j z x e (old-decision 3 z j n a)));
     d2c = λ j u x e a. by-eq (s.fr v) (s.fr u)
-        (λ q. let b = own-decision 2 u j q a in at-own (λ j u x. In change (S′.ch u j)) j u x e (b .1) (b .2) (o.told-in (b .0)))
+        (λ q. let b = own-decision 2 u j q a in at-own (λ j u x. In change (S′.ch u j)) j u x e (b .1) (b .2) (o.changing-in (b .0)))
         (λ n. M.new i t h u j (i.Dc.d2c j u x e (old-decision 2 u j n a)));
     k1 = λ j u x e n. ⊎-elim (λ a. new-decision 2 u j (omega arith) (i.Dc.k1 j u x e a))
-        (λ a. let q = ap s.fr (a .0) in (dk-in u q ∙ o.told (sym (ap isK (a .2))), dn-in u q ∙ a .0, de-in u q ∙ a .1))
+        (λ a. let q = ap s.fr (a .0) in (dk-in u q ∙ o.changing (sym (ap isK (a .2))), dn-in u q ∙ a .0, de-in u q ∙ a .1))
         (snoc-in s.ch v k m u j n);
     d3r = λ j a b e z. absurd (no-root a (z .0));
     d4h = λ j a b e g z l f n. i.Dc.d4h j a b e g (finished a z) l f (M.old i t h isR (h.not-r) (omega arith) b j n);

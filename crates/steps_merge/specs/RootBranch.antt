@@ -63,11 +63,11 @@ module _ {p : Plan} {s : State} (i : Inv p s) {v k c : ℕ} (ot : s.ot ≡ 0) (o
     joins = inl branch;
     tree = i.M1.m5 k v c ends branch;
     half = λ n. absurd (n (joined .1));
-    told = λ z. refl;
+    changing = λ z. refl;
     half-ok = λ z. absurd (omega arith);
     half-in = λ z. absurd (omega arith);
     half-all = λ z. absurd (omega arith);
-    told-ok = λ z. record {
+    changing-ok = λ z. record {
       d2j = M.both-up i turn move k v c joined;
       d2g = λ g. child .0 (i.T1.t1e k v c ends (root-ok i oo .d3i) g);
       d2i = root-ok i oo .d3i;
@@ -82,7 +82,7 @@ module _ {p : Plan} {s : State} (i : Inv p s) {v k c : ℕ} (ot : s.ot ≡ 0) (o
         ap (key p) (child .3),
       );
     };
-    told-in = λ z. in-new s.ch v k change;
+    changing-in = λ z. in-new s.ch v k change;
   }
 
   -- v is Found already, and k its branch

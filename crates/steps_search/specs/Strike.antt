@@ -3,7 +3,7 @@ use Rattle.protocol.specs.Prelude.{ℕ, _≤_, arith, _≡_, refl, sym, ap, sub
 use Rattle.protocol.specs.Prelude.{upd2, upd2-elim, by-eq, Plan, Ends, key, rank, flip, other-end, wider, State, Strike, set-mark, set-ch, set-ot, List, Msg}
 use Rattle.protocol.specs.Prelude.{Both, Bounding, Inv, Flow, init-ok, at2}
 use Rattle.protocol.specs.Fragments.{Ranges, Cores, Sleepers, Marks, Inbounds}
-use Rattle.protocol.specs.Decisions.{Halves, Tellings, Rootings, Finishes}
+use Rattle.protocol.specs.Decisions.{Halves, ChangeRoots, Rootings, Finishes}
 use Rattle.protocol.specs.Search.{Kids, Pending, Tests}
 use Rattle.protocol.specs.Traffic.{Connects, Initiates, Telling, Testing, Answers, Reports, Owing, Bests}
 
@@ -161,8 +161,8 @@ module _ {p : Plan} {s : State} (i : Inv p s) {u v k c : ℕ} (ends : Ends p k v
       out : (j z y : ℕ) → Ends p j z y → v ≡ y → k ≡ j → s.fr y ≡ s.fr z
       out j z y e q b = ap s.fr (sym q) ∙ inside ∙ ap s.fr (other-end ends (flip e) q b)
 
-  tellings-strike : Tellings p s.dk s.dn s.de s.fr s.gl s.gc s.lev s.ib s.ub s.bw m′
-  tellings-strike = record {
+  change-roots-strike : ChangeRoots p s.dk s.dn s.de s.fr s.gl s.gc s.lev s.ib s.ub s.bw m′
+  change-roots-strike = record {
     d2f = i.D2.d2f;
     d2e = i.D2.d2e;
     d2 = λ j w x e h. let t = i.D2.d2 j w x e h in
@@ -214,7 +214,7 @@ module _ {p : Plan} {s : State} (i : Inv p s) {u v k c : ℕ} (ends : Ends p k v
       M1 = marks-strike;
       U1 = inbounds-strike;
       D1 = halves-strike;
-      D2 = tellings-strike;
+      D2 = change-roots-strike;
       D3 = rootings-strike;
       D4 = finishes-strike;
       T1 = i.T1;

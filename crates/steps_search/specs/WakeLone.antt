@@ -4,7 +4,7 @@ use Rattle.protocol.specs.Prelude.{upd, upd-elim, upd-same, upd-other, by-eq}
 use Rattle.protocol.specs.Prelude.{Plan, Ends, flip, State, Idle, set-st, set-dk, set-halt, woken, woken-same}
 use Rattle.protocol.specs.Prelude.{GL, DK, Inf, CoreEnds, Inv, sleep-te, sleep-fc, last}
 use Rattle.protocol.specs.Fragments.{Ranges, Sleepers}
-use Rattle.protocol.specs.Decisions.{Halves, Tellings, Rootings, Finishes}
+use Rattle.protocol.specs.Decisions.{Halves, ChangeRoots, Rootings, Finishes}
 use Rattle.protocol.specs.Search.{Finds, Pending}
 use Rattle.protocol.specs.Traffic.{Tokens, Reports, Owing, Bests}
 
@@ -76,7 +76,7 @@ module _ {p : Plan} {s : State} (i : Inv p s) {v : ℕ} (idle : Idle s) (below :
     d1 = λ k z y e h. i.D1.d1 k z y e (dk-old 3 z (λ z. omega arith) (h .0) .1, h .1, h .2);
   }
 
-  D2′ : Tellings p S″.dk s.dn s.de s.fr s.gl s.gc s.lev s.ib s.ub s.bw s.mark
+  D2′ : ChangeRoots p S″.dk s.dn s.de s.fr s.gl s.gc s.lev s.ib s.ub s.bw s.mark
   D2′ = record {
     d2f = λ w h. i.D2.d2f w (dk-old 2 w (λ z. omega arith) h .1);
     d2e = λ w h. i.D2.d2e w (dk-old 2 w (λ z. omega arith) h .1);

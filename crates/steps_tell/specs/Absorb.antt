@@ -40,7 +40,7 @@ module _ {p : Plan} {s : State} (i : Inv p s) {u v k l x : ℕ} {r : List Msg} (
         let n = F.half-out i act z j h in
         Y.every i act.ends act.q (s.lev v) (s.id v) x z j (λ a b. omega (arith, F.mark-v i act, at2 s.mark a b, i.D1.d1 j z y e (F.half-old i act z j h) .d1m))
         (subst (λ a. All (Only (s.gl a)) (s.ch z j)) (sym (F.fr-out i act z n)) (i.Dc.d1a j z y e (F.half-old i act z j h)));
-    d2c = λ j w y e h. kept isK refl (omega arith) w j (i.Dc.d2c j w y e (F.told-old i act w j h));
+    d2c = λ j w y e h. kept isK refl (omega arith) w j (i.Dc.d2c j w y e (F.changing-old i act w j h));
     k1 = λ j w y e h. let t = i.Dc.k1 j w y e (old isK refl (omega arith) w j h) in F.dec-new i act 2 w j (F.dk-out i act w (λ d. omega (arith, t .0))) t;
     d3r = λ j a b e h. absurd (F.no-roots i act a (h .0));
     d4h = λ j a b e g d n h m.

@@ -8,7 +8,7 @@ use Rattle.protocol.specs.Prelude.{at2}
 use Rattle.protocol.specs.Prelude.{Both, Joined, members, GL, Inv}
 use Rattle.protocol.specs.Prelude.{waits-find, no-waits}
 use Rattle.protocol.specs.Fragments.{Ranges, Levels, Sizes, Cores, Sleepers, Marks, Inbounds}
-use Rattle.protocol.specs.Decisions.{Halves, Tellings, Rootings, Finishes}
+use Rattle.protocol.specs.Decisions.{Halves, ChangeRoots, Rootings, Finishes}
 use Rattle.protocol.specs.Search.{Parents, Kids, Finds, Pending, Counts, Tests, Weights}
 use Rattle.steps_tell.specs.Sunk.{Absorbs}
 use Rattle.steps_tell.specs.Sunk as F
@@ -134,13 +134,13 @@ module _ {p : Plan} {s : State} (i : Inv p s) {u v k l x : ℕ} {r : List Msg} (
         };
   }
 
-  pub D2′ : Tellings p s.dk s.dn s.de S′.fr s.gl s.gc s.lev s.ib s.ub s.bw S′.mark
+  pub D2′ : ChangeRoots p s.dk s.dn s.de S′.fr s.gl s.gc s.lev s.ib s.ub s.bw S′.mark
   D2′ = record {
     d2f = λ w. F.lab i act (λ a. s.dk a ≡ 2 → S′.fr (s.dn a) ≡ a) w (λ z n h. F.fr-out i act (s.dn (s.fr z)) (λ y. n (sym (i.D2.d2f z h) ∙ y)) ∙ i.D2.d2f z h);
     d2e = λ w. F.lab i act (λ a. s.dk a ≡ 2 → (y : ℕ) × Ends p (s.de a) (s.dn a) y) w (λ z n. i.D2.d2e z);
     d2 = λ j a y e h.
-        let n = F.told-out i act a j h in
-        let t = i.D2.d2 j a y e (F.told-old i act a j h) in
+        let n = F.changing-out i act a j h in
+        let t = i.D2.d2 j a y e (F.changing-old i act a j h) in
         let m : s.fr y ≢ s.fr u = λ d. n (i.M1.m3 j a y e (t.d2j) ∙ d) in
         record {
           d2j = F.up-both i act j a y (t.d2j);

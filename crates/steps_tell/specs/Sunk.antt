@@ -5,7 +5,7 @@ use Rattle.protocol.specs.Prelude.{Msg, connect, initiate}
 use Rattle.protocol.specs.Prelude.{Plan, Ends, flip, same-edge, ends-irr, State, Idle, Flag, absorbed, pop}
 use Rattle.protocol.specs.Prelude.{bulk-elim, bulk-in, bulk-out, relabel-keep, relabel-cases}
 use Rattle.protocol.specs.Prelude.{In, at2, here-new, else-same, all-in, pop-head}
-use Rattle.protocol.specs.Prelude.{Bounding, Decision, GL, GC, DK, Inf, Jn, Half, Told, Inv}
+use Rattle.protocol.specs.Prelude.{Bounding, Decision, GL, GC, DK, Inf, Jn, Half, Changing, Inv}
 use Rattle.protocol.specs.Prelude.{half-at, no-root, no-connect-decided}
 use Rattle.protocol.specs.Decisions.{HalfOk}
 
@@ -176,11 +176,11 @@ module _ {p : Plan} {s : State} (i : Inv p s) {u v k l x : ℕ} {r : List Msg} (
   pub half-old : (z j : ℕ) → Half S′ z j → Half s z j
   half-old z j h = dec-old 3 z j (half-out z j h) h
 
-  pub told-out : (z j : ℕ) → Told S′ z j → s.fr z ≢ s.fr u
-  told-out z j h = dec-out 2 z j (i.D2.d2f v) h
+  pub changing-out : (z j : ℕ) → Changing S′ z j → s.fr z ≢ s.fr u
+  changing-out z j h = dec-out 2 z j (i.D2.d2f v) h
 
-  pub told-old : (z j : ℕ) → Told S′ z j → Told s z j
-  told-old z j h = dec-old 2 z j (told-out z j h) h
+  pub changing-old : (z j : ℕ) → Changing S′ z j → Changing s z j
+  changing-old z j h = dec-old 2 z j (changing-out z j h) h
 
   pub no-roots : (w : ℕ) → DK S′ w ≢ 1
   no-roots w = lab (λ a. s.dk a ≢ 1) w (λ z n. no-root i z (act.idle .2))

@@ -3,7 +3,7 @@ use Rattle.protocol.specs.Prelude.{ℕ, suc, _+_, _*_, _≤_, _<_, arith, _≡_
 use Rattle.protocol.specs.Prelude.{upd-other, upd-elim, by-eq, bit, sum, sum-eq, Msg, none, Plan, Ends, key, flip, other-end, ends-irr, edge-some, State, informed, pop}
 use Rattle.protocol.specs.Prelude.{copy, fill-elim, fill-else, sum-fill, Bounding, GL, GC, Inf, Jn, Inv, no-root}
 use Rattle.protocol.specs.Fragments.{Ranges, Values, Levels, Sleepers, Inbounds}
-use Rattle.protocol.specs.Decisions.{Halves, Tellings, Rootings, Finishes}
+use Rattle.protocol.specs.Decisions.{Halves, ChangeRoots, Rootings, Finishes}
 use Rattle.protocol.specs.Search.{Parents, Kids, FindOk, Finds, Pending, Counts, Tests, Weights}
 use Rattle.protocol.specs.Traffic.{InitOk}
 use Rattle.steps_tell.specs.Laws.{three}
@@ -99,7 +99,7 @@ module _ {p : Plan} {s : State} (i : Inv p s) {u v k l f x a b d e : ℕ} {r : L
         };
   }
 
-  pub D2′ : Tellings p s.dk s.dn s.de s.fr s.gl s.gc S′.lev S′.ib s.ub S′.bw s.mark
+  pub D2′ : ChangeRoots p s.dk s.dn s.de s.fr s.gl s.gc S′.lev S′.ib s.ub S′.bw s.mark
   D2′ = record {
     d2f = i.D2.d2f;
     d2e = i.D2.d2e;

@@ -5,7 +5,7 @@ use Rattle.protocol.specs.Prelude.{In, Blocked, GL, DK, Inv, waits-find}
 use native.Mathlib.Decide.{ℕ-discrete}
 use Rattle.base.specs.Search.{least, Least}
 use Rattle.graph.specs.Ways.{Any, back}
-use Rattle.stuck.specs.Informed.{Stuck, no-told, no-rooting, all-inf}
+use Rattle.stuck.specs.Informed.{Stuck, no-changing, no-rooting, all-inf}
 use Rattle.stuck.specs.Waiting.{lower, meets, earlier}
 
 -- a node has an edge, or none
@@ -47,7 +47,7 @@ module _ {p : Plan} {s : State} (i : Inv p s) (t : Stuck p s) where
   settle v a low half = by-eq (DK s v) 4 (λ z. (v, stop, a, z))
       (λ n4. by-eq (DK s v) 3 half
       (λ n3.
-      let d : DK s v ≡ 0 = zero-of (DK s v) (i.W0.dk-le (s.fr v)) n4 n3 (no-told i t v) (no-rooting i t v) in
+      let d : DK s v ≡ 0 = zero-of (DK s v) (i.W0.dk-le (s.fr v)) n4 n3 (no-changing i t v) (no-rooting i t v) in
       let g : 1 ≤ GL s v = by-eq (GL s v) 0 (λ z. absurd (single v a z d)) (λ n. omega arith) in
       let r = lower i t v d (all-inf i t v g) in
       far (join (mates v (r .0) (sym (r .3))) (hop (r .4) tt)) (low (r .2) (r .5) (omega (arith, r .6, ap s.gl (r .3))))))

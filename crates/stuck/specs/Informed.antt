@@ -1,7 +1,7 @@
 -- A stuck state: no response is under way, and every message would be put back by an awake receiver. Then every node has its fragment's level.
 use Rattle.protocol.specs.Prelude.{ℕ, _≤_, _<_, arith, _≡_, refl, sym, ap, _∙_, _≢_, ⊎-elim, by-eq, sumL}
 use Rattle.protocol.specs.Prelude.{Msg, connect, initiate, accept, reject, change, Plan, Ends, Way, stop, go, up, flip, State, Idle, Blocked}
-use Rattle.protocol.specs.Prelude.{In, some-connect, isA, no-answers, joined-both, GL, GC, DK, Inf, Jn, Joined, Inv, inf-cases, told-of, no-root}
+use Rattle.protocol.specs.Prelude.{In, some-connect, isA, no-answers, joined-both, GL, GC, DK, Inf, Jn, Joined, Inv, inf-cases, changing-of, no-root}
 
 -- every message has an awake receiver that would put it back
 pub record Stuck (p : Plan) (s : State) : Type 0 where
@@ -16,8 +16,8 @@ module _ {p : Plan} {s : State} (i : Inv p s) (t : Stuck p s) where
   no-ans k u v e = no-answers (s.ch u k) (λ n. t.back k u v accept e n .1) (λ n. t.back k u v reject e n .1)
 
   -- no Change-root, nobody executes change-root: undecided, half or finished
-  pub no-told : (v : ℕ) → DK s v ≢ 2
-  no-told v d = let h = told-of i v d in t.back (h .1) (h .0) (h .2) change (h .3) (i.Dc.d2c (h .1) (h .0) (h .2) (h .3) (h .4)) .1
+  pub no-changing : (v : ℕ) → DK s v ≢ 2
+  no-changing v d = let h = changing-of i v d in t.back (h .1) (h .0) (h .2) change (h .3) (i.Dc.d2c (h .1) (h .0) (h .2) (h .3) (h .4)) .1
 
   pub no-rooting : (v : ℕ) → DK s v ≢ 1
   no-rooting v = no-root i v (t.idle .2)
