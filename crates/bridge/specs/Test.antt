@@ -69,6 +69,10 @@ module _ {p : Plan} (keeps : Keeps p) {s : State} {r : Real} {u v k l f : ℕ} {
     answered-fin : Fin p r v 0 (length (w .sends)) (onTest o l f k w) s
     answered-fin = by-eq (s.id v) f (λ e. by-eq (s.te v) k (crossed-fin e) (own-fin e)) other-fin
 
+  -- from above: put back
+  waits : s.lev v < l → onTest o l f k w ≡ putBack w
+  waits b = test-waits o l f k w (omega (arith, lev-is sv.at))
+
   pub asked-fin : Fin p r v 0 (length (w .sends)) (onTest o l f k w) s ⊎ ((onTest o l f k w ≡ putBack w) × Blocked s v k (test l f))
   asked-fin = by-cases (decLe l (s.lev v)) (λ le. inl (answered-fin le))
-      (λ n. let b : s.lev v < l = omega arith in inr (test-waits o l f k w (omega (arith, lev-is sv.at)), b))
+      (λ n. let b : s.lev v < l = omega arith in inr (waits b, b))
