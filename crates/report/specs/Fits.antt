@@ -108,6 +108,6 @@ zeros-front zero n l = refl
 zeros-front (suc m) zero l = absurd (omega arith)
 zeros-front (suc m) (suc n) l = ap (λ (t : List ℕ). 0 ∷ t) (zeros-front m n (omega arith))
 
--- a buffer of n zeros
-pub reported-fits : (n : ℕ) → 46202 ≤ n → (s : List ℕ) → length (reported s) ≤ length {A = ℕ} (replicate n 0)
-reported-fits n l s = rw (length-replicate {A = ℕ} n 0) (omega (arith, reported-length s))
+-- the buffer, before anything is put
+pub reported-fits : (s : List ℕ) → length (reported s) ≤ length {A = ℕ} (replicate 65536 0)
+reported-fits s = rw (length-replicate {A = ℕ} 65536 0) (omega (arith, reported-length s))

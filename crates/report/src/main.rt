@@ -1,7 +1,7 @@
 // The reporting program: reads a plan on standard input, wakes module 0, runs rounds to rest and prints the tree that the
 // field has come to. A refused plan prints one line, as "refused 19".
 ghost use mathlib.Core.Path.{_≡_};
-ghost use lib.ListN.{length};
+ghost use lib.ListN.{replicate};
 ghost use Rattle.text.specs.Put.{page, put};
 ghost use Rattle.settle.specs.Settled.{settled as Settled·settled};
 ghost use Rattle.report.specs.Reported.{refusedText, settledText, reported};
@@ -44,10 +44,17 @@ fn report(s: &[u8], out: &mut [u8]) -> usize
 }
 
 // What it asks is what the program owes: the text is the report of the bytes read.
-fn show(given: &[u8], text: &[u8])
+fn write(given: &[u8], text: &[u8])
     requires { ⌜ now text ≡ reported (now given) ⌝ }
 {
     let _done = io::write_all(STDOUT_FILENO, text);
+}
+
+// What was put into the buffer, written.
+fn show(given: &[u8], out: &[u8], end: usize)
+    requires { ⌜ page end (now out) ≡ put (page 0 (replicate 65536 0)) (reported (now given)) ⌝ }
+{
+    write(given, text::front(out, end));
 }
 
 fn main() {
@@ -55,7 +62,8 @@ fn main() {
     // taken has 4807 bytes; a longer one whose length fits is refused by 14 or 15 and not by 13.)
     let mut space = [0u8; 65539];
     let n = io::read_full(STDIN_FILENO, &mut space);
+    let given = text::front(&space, n);
     let mut out = [0u8; 65536];
-    let end = report(&space[..n], &mut out);
-    show(&space[..n], &out[..end]);
+    let end = report(given, &mut out);
+    show(given, &out, end);
 }

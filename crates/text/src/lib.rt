@@ -2,6 +2,7 @@
 // the buffer's end (specs/Put).
 ghost use mathlib.Core.Path.{_≡_};
 ghost use mathlib.Core.List.{_++_};
+ghost use lib.ListN.{take};
 ghost use Rattle.text.specs.Ascii.{ascii};
 ghost use Rattle.text.specs.Put.{page};
 ghost use Rattle.text.specs.Put.{put as Put·put};
@@ -46,4 +47,14 @@ pub fn put_line(out: &mut [u8], at: usize, s: &[u8], x: u64) -> usize
 {
     let a = put_named(out, at, s, x);
     put(out, a, b"\n")
+}
+
+// The front of a buffer: the bytes that were read into it, or the text that was put.
+pub fn front<'a>(buffer: &'a [u8], end: usize) -> &'a [u8]
+    ensures { λ r. ⌜ now r ≡ take end (now (buffer .entry)) ⌝ }
+{
+    if buffer.len() < end {
+        return buffer;
+    }
+    &buffer[..end]
 }

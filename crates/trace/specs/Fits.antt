@@ -1,4 +1,4 @@
--- Every text has at most 298095 bytes: 7920 words wait at most, and the own links of all modules are 1200 at most.
+-- Every text has at most 400000 bytes: 7920 words wait at most, and the own links of all modules are 1200 at most.
 use Prim.Native.Nat.{ℕ, zero, suc, _+_, _*_, _≤_, _<_, zero-le}
 use native.Mathlib.Omega.{arith}
 use mathlib.Core.Path.{_≡_, refl, sym, subst, _∙_}
@@ -28,7 +28,7 @@ use Rattle.field.specs.Held.{Held, fresh}
 use Rattle.calls.specs.Call.{run, runBytes, does}
 use Rattle.fieldlaws.specs.Laid.{Live, live-sound, does-live, plan-of-does}
 use Rattle.fieldlaws.specs.After.{begun-live}
-use Rattle.trace.specs.Text.{item, linkItem, valuesText, markText, marksText, moduleText, modulesText, wordsText, refusalText, headText, ranText}
+use Rattle.trace.specs.Text.{item, linkItem, firstText, otherText, valuesText, markText, marksText, moduleText, modulesText, wordsText, refusalText, headText, ranText}
 use Rattle.trace.specs.Traced.{refusedText, start, planPart, traced}
 
 -- ---- own links of all modules
@@ -87,55 +87,56 @@ link-length : (x : ℕ) → length (linkItem x) ≤ 21
 unfolding linkItem
 link-length x = by-test (eqb x none) (λ b. length (cond b (ascii " -") (item x)) ≤ 21) (omega arith) (named-length " " x)
 
-values-length : (n : Node) → length (valuesText n) ≤ 189
-values-length n =
+-- limits with room: one value more in a record stays within them
+first-length : (n : Node) → length (firstText n) ≤ 150
+first-length n =
     let a = item (n .status) ++ item (n .level) in
     let b = a ++ linkItem (n .identity) in
-    let c = b ++ linkItem (n .weight) in
-    let d = c ++ linkItem (n .best) in
-    let e = d ++ linkItem (n .test) in
-    let f = e ++ linkItem (n .branch) in
-    let g = f ++ item (n .count) in
-    both g (item (n .halted))
-    (both f (item (n .count))
-    (both e (linkItem (n .branch))
-    (both d (linkItem (n .test))
-    (both c (linkItem (n .best))
-    (both b (linkItem (n .weight))
+    let most = both b (linkItem (n .weight))
     (both a (linkItem (n .identity))
     (both (item (n .status)) (item (n .level)) (named-length " " (n .status)) (named-length " " (n .level)))
     (link-length (n .identity)))
-    (link-length (n .weight)))
-    (link-length (n .best)))
-    (link-length (n .test)))
+    (link-length (n .weight)) in
+    omega (arith, most)
+
+other-length : (n : Node) → length (otherText n) ≤ 150
+other-length n =
+    let a = linkItem (n .best) ++ linkItem (n .test) in
+    let b = a ++ linkItem (n .branch) in
+    let c = b ++ item (n .count) in
+    let most = both c (item (n .halted))
+    (both b (item (n .count))
+    (both a (linkItem (n .branch))
+    (both (linkItem (n .best)) (linkItem (n .test)) (link-length (n .best)) (link-length (n .test)))
     (link-length (n .branch)))
     (named-length " " (n .count)))
-    (named-length " " (n .halted))
+    (named-length " " (n .halted)) in
+    omega (arith, most)
 
-module _ (p : Plan) (cells marks : List ℕ) where
+module _ (links : ℕ) (lower higher cells marks : List ℕ) where
   abbrev own : ℕ → ℕ
-  own v = sum (p .links) (owns (p .links) (p .lower) (p .higher) v)
+  own v = sum links (owns links lower higher v)
 
-  module-length : (v : ℕ) → length (moduleText p cells marks v) ≤ 217 + 42 * own v
+  module-length : (v : ℕ) → length (moduleText links lower higher cells marks v) ≤ 400 + 42 * own v
   module-length v =
       let n = nodeIn cells (v * 9) in
-      let m = marksText (p .links) (p .lower) (p .higher) marks v (p .links) in
-      let k : length (moduleText p cells marks v) ≤ 27 + 189 + 42 * own v + 1 =
+      let m = marksText links lower higher marks v links in
+      let most : length (moduleText links lower higher cells marks v) ≤ 27 + (150 + 150) + 42 * own v + 1 =
       both (named "module " v ++ valuesText n ++ m) (ascii "\n")
       (both (named "module " v ++ valuesText n) m
-      (both (named "module " v) (valuesText n) (named-length "module " v) (values-length n))
-      (marks-length (p .links) (p .lower) (p .higher) marks v (p .links)))
+      (both (named "module " v) (valuesText n) (named-length "module " v) (both (firstText n) (otherText n) (first-length n) (other-length n)))
+      (marks-length links lower higher marks v links))
       (omega arith) in
       omega arith
 
-  modules-length : (n : ℕ) → length (modulesText p cells marks n) ≤ 217 * n + 42 * sum n own
+  modules-length : (n : ℕ) → length (modulesText links lower higher cells marks n) ≤ 400 * n + 42 * sum n own
   unfolding modulesText
   modules-length zero = omega arith
   modules-length (suc v) =
-      rw (length-append (modulesText p cells marks v) (moduleText p cells marks v)) (omega (arith, modules-length v, module-length v))
+      rw (length-append (modulesText links lower higher cells marks v) (moduleText links lower higher cells marks v)) (omega (arith, modules-length v, module-length v))
 
-  all-modules : Accepted p → length (modulesText p cells marks (p .modules)) ≤ 92064
-  all-modules a = omega (arith, modules-length (p .modules), own-total (p .links) (p .lower) (p .higher) (p .modules) (p .links), a .modulesOk, a .linksOk)
+  all-modules : (n : ℕ) → n ≤ 192 → links ≤ 600 → length (modulesText links lower higher cells marks n) ≤ 130000
+  all-modules n h k = omega (arith, modules-length n, own-total links lower higher n links)
 
 -- ---- the other lines
 
@@ -158,19 +159,19 @@ head-length d r s w =
 
 -- ---- the whole
 
-ran-length : (p : Plan) (r : Ran Held) → Accepted p → length (waitingIn (r .state .words)) ≤ 7920 → length (ranText p r) ≤ 298095
+ran-length : (p : Plan) (r : Ran Held) → Accepted p → length (waitingIn (r .state .words)) ≤ 7920 → length (ranText p r) ≤ 400000
 unfolding ranText
 ran-length p r a l =
     let f = r .state .field in
     let ws = waitingIn (r .state .words) in
     let h = headText (r .done) (r .answer) (f .sent) (length ws) in
-    let m = modulesText p (f .cells) (f .marks) (p .modules) in
+    let m = modulesText (p .links) (p .lower) (p .higher) (f .cells) (f .marks) (p .modules) in
     omega (
       arith,
       length-append (h ++ m) (wordsText ws),
       length-append h m,
       head-length (r .done) (r .answer) (f .sent) (length ws),
-      all-modules p (f .cells) (f .marks) a,
+      all-modules (p .links) (p .lower) (p .higher) (f .cells) (f .marks) (p .modules) (a .modulesOk) (a .linksOk),
       words-length ws,
     )
 
@@ -189,17 +190,17 @@ module _ (p : Plan) (a : planRefusal p ≡ 0) where
       let most : ceilingOf (h .field .plan) ≤ 7920 = rw (plan-of-does (start p) begun (run schedule)) (ceiling-small p a) in
       omega (arith, left .waiting, left .ceiling)
 
-pub traced-length : (s : List ℕ) → length (traced s) ≤ 298095
+pub traced-length : (s : List ℕ) → length (traced s) ≤ 400000
 unfolding traced
 traced-length s =
     let g = readPlan (take (planPart s) s) in
     let r = runBytes (drop (planPart s) s) (start (g .plan)) in
-    eqb-cases (g .refusal) 0 (λ b. length (cond b (ranText (g .plan) r) (refusedText (g .refusal))) ≤ 298095)
+    eqb-cases (g .refusal) 0 (λ b. length (cond b (ranText (g .plan) r) (refusedText (g .refusal))) ≤ 400000)
     (λ z.
     let a = read-taken (take (planPart s) s) g refl z in
     ran-length (g .plan) r (accepted (g .plan) a) (waiting-small (g .plan) a (drop (planPart s) s)))
     (λ n. omega (arith, line-length "refused " (g .refusal)))
 
--- a buffer of n zeros
-pub traced-fits : (n : ℕ) → 298095 ≤ n → (s : List ℕ) → length (traced s) ≤ length {A = ℕ} (replicate n 0)
-traced-fits n l s = rw (length-replicate {A = ℕ} n 0) (omega (arith, traced-length s))
+-- the buffer, before anything is put
+pub traced-fits : (s : List ℕ) → length (traced s) ≤ length {A = ℕ} (replicate 400000 0)
+traced-fits s = rw (length-replicate {A = ℕ} 400000 0) (omega (arith, traced-length s))

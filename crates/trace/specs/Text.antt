@@ -29,11 +29,15 @@ item x = named " " x
 unfoldable pub linkItem : ℕ → List ℕ
 linkItem x = cond (eqb x none) (ascii " -") (item x)
 
--- "its nine values in document 01's order"
+-- "its nine values in document 01's order": status, level, identity, best weight; then best edge, test edge, in-branch, find-count, halted
+abbrev pub firstText : Node → List ℕ
+firstText n = item (n .status) ++ item (n .level) ++ linkItem (n .identity) ++ linkItem (n .weight)
+
+abbrev pub otherText : Node → List ℕ
+otherText n = linkItem (n .best) ++ linkItem (n .test) ++ linkItem (n .branch) ++ item (n .count) ++ item (n .halted)
+
 abbrev pub valuesText : Node → List ℕ
-valuesText n =
-    item (n .status) ++ item (n .level) ++ linkItem (n .identity) ++ linkItem (n .weight) ++ linkItem (n .best) ++ linkItem (n .test)
-    ++ linkItem (n .branch) ++ item (n .count) ++ item (n .halted)
+valuesText n = firstText n ++ otherText n
 
 -- "`K:MARK`", where link k is one of module v
 unfoldable pub markText : ℕ → List ℕ → List ℕ → List ℕ → ℕ → ℕ → List ℕ
@@ -47,14 +51,14 @@ marksText links lower higher marks v (suc k) =
     marksText links lower higher marks v k ++ markText links lower higher marks v k
 
 -- "`module V` and its nine values .., then for each own link .."
-abbrev pub moduleText : Plan → List ℕ → List ℕ → ℕ → List ℕ
-moduleText p cells marks v =
-    named "module " v ++ valuesText (nodeIn cells (v * 9)) ++ marksText (p .links) (p .lower) (p .higher) marks v (p .links) ++ ascii "\n"
+abbrev pub moduleText : ℕ → List ℕ → List ℕ → List ℕ → List ℕ → ℕ → List ℕ
+moduleText links lower higher cells marks v =
+    named "module " v ++ valuesText (nodeIn cells (v * 9)) ++ marksText links lower higher marks v links ++ ascii "\n"
 
 -- "for each module in order": of the modules below v
-unfoldable pub modulesText : Plan → List ℕ → List ℕ → ℕ → List ℕ
-modulesText p cells marks zero = []
-modulesText p cells marks (suc v) = modulesText p cells marks v ++ moduleText p cells marks v
+unfoldable pub modulesText : ℕ → List ℕ → List ℕ → List ℕ → List ℕ → ℕ → List ℕ
+modulesText links lower higher cells marks zero = []
+modulesText links lower higher cells marks (suc v) = modulesText links lower higher cells marks v ++ moduleText links lower higher cells marks v
 
 -- "for each waiting word in order `word X`, X in decimal"
 unfoldable pub wordsText : List ℕ → List ℕ
@@ -74,7 +78,9 @@ unfoldable pub ranText : Plan → Ran Held → List ℕ
 ranText p r =
     let f = r .state .field in
     let words = waitingIn (r .state .words) in
-    headText (r .done) (r .answer) (f .sent) (length words) ++ modulesText p (f .cells) (f .marks) (p .modules) ++ wordsText words
+    headText (r .done) (r .answer) (f .sent) (length words)
+    ++ modulesText (p .links) (p .lower) (p .higher) (f .cells) (f .marks) (p .modules)
+    ++ wordsText words
 
 -- For code: which text, one turn more.
 module _ (x : ℕ) where
@@ -112,12 +118,12 @@ module _ (links : ℕ) (lower higher marks : List ℕ) (v : ℕ) where
   unfolding marksText
   marks-turn k = rw (add-one k) refl
 
-module _ (p : Plan) (cells marks : List ℕ) where
-  pub modules-none : modulesText p cells marks 0 ≡ []
+module _ (links : ℕ) (lower higher cells marks : List ℕ) where
+  pub modules-none : modulesText links lower higher cells marks 0 ≡ []
   unfolding modulesText
   modules-none = refl
 
-  pub modules-turn : (v : ℕ) → modulesText p cells marks v ++ moduleText p cells marks v ≡ modulesText p cells marks (v + 1)
+  pub modules-turn : (v : ℕ) → modulesText links lower higher cells marks v ++ moduleText links lower higher cells marks v ≡ modulesText links lower higher cells marks (v + 1)
   unfolding modulesText
   modules-turn v = rw (add-one v) refl
 
@@ -134,14 +140,14 @@ module _ (q : Page) (ws : List ℕ) (i : ℕ) where
   unfolding wordsText
   words-over l = ap (λ t. put q (wordsText t)) (drop-of-length-le ws l) ∙ put-none q
 
--- the three parts of the whole, each put on what the part before left
-pub ran-parts : (p : Plan) (r : Ran Held) (q : Page) {q₁ q₂ q₃ : Page}
+-- the three parts of the whole, each put on what the part before left, for what a run is known to answer and leave
+pub ran-parts : (p : Plan) {r x : Ran Held} → r ≡ x → (q : Page) {q₁ q₂ q₃ : Page}
     → q₁ ≡ put q (headText (r .done) (r .answer) (r .state .field .sent) (length (waitingIn (r .state .words))))
-    → q₂ ≡ put q₁ (modulesText p (r .state .field .cells) (r .state .field .marks) (p .modules))
+    → q₂ ≡ put q₁ (modulesText (p .links) (p .lower) (p .higher) (r .state .field .cells) (r .state .field .marks) (p .modules))
     → q₃ ≡ put q₂ (wordsText (waitingIn (r .state .words)))
-    → q₃ ≡ put q (ranText p r)
+    → q₃ ≡ put q (ranText p x)
 unfolding ranText
-ran-parts p r q e₁ e₂ e₃ =
+ran-parts p {r} e q e₁ e₂ e₃ =
     let h = headText (r .done) (r .answer) (r .state .field .sent) (length (waitingIn (r .state .words))) in
-    let m = modulesText p (r .state .field .cells) (r .state .field .marks) (p .modules) in
-    put-on q (h ++ m) _ (put-on q h m e₁ e₂) e₃
+    let m = modulesText (p .links) (p .lower) (p .higher) (r .state .field .cells) (r .state .field .marks) (p .modules) in
+    put-on q (h ++ m) _ (put-on q h m e₁ e₂) e₃ ∙ ap (λ (y : Ran Held). put q (ranText p y)) e

@@ -2,7 +2,7 @@
 // and prints what that led to: the run's answer, every module with its marks, every waiting word.
 // A refused plan prints one line, as "refused 19".
 ghost use mathlib.Core.Path.{_≡_};
-ghost use lib.ListN.{length};
+ghost use lib.ListN.{length, replicate};
 ghost use Rattle.text.specs.Put.{page, put};
 ghost use Rattle.plan.specs.Refusal.{planRefusal};
 ghost use Rattle.field.specs.Edges.{ceilingOf};
@@ -32,7 +32,20 @@ fn follow(p: Plan, lent: &mut [u64], schedule: &[u8], out: &mut [u8]) -> usize
     ensures { λ r. ⌜ page r (now (out .exit)) ≡ put (page 0 (now (out .entry))) (ranText p (runBytes (now (schedule .entry)) (start p))) ⌝ }
 {
     let r = set_up_and_run(p, lent, schedule);
-    render::render(p, r, lent, out)
+    let f = r.field;
+    let n = fieldcheck::waiting(lent);
+    let a = render::head(out, r.steps, r.refusal, f.sent, n);
+    let b = render::modules(
+        p.modules,
+        p.links,
+        &p.lower,
+        &p.higher,
+        &f.cells,
+        &f.marks,
+        out,
+        a,
+    );
+    render::words(&lent[..n], out, b)
 }
 
 // How many bytes are the plan's: the first 3 and as many more as its length says, or all there is.
@@ -66,17 +79,25 @@ fn trace(input: &[u8], out: &mut [u8]) -> usize
 }
 
 // What it asks is what the program owes: the text is what the bytes read lead to.
-fn show(given: &[u8], text: &[u8])
+fn write(given: &[u8], text: &[u8])
     requires { ⌜ now text ≡ traced (now given) ⌝ }
 {
     let _done = io::write_all(STDOUT_FILENO, text);
+}
+
+// What was put into the buffer, written.
+fn show(given: &[u8], out: &[u8], end: usize)
+    requires { ⌜ page end (now out) ≡ put (page 0 (replicate 400000 0)) (traced (now given)) ⌝ }
+{
+    write(given, text::front(out, end));
 }
 
 fn main() {
     // the longest plan, the longest schedule and one byte more, so that bytes behind a schedule are seen
     let mut space = [0u8; 70346];
     let n = io::read_full(STDIN_FILENO, &mut space);
-    let mut out = [0u8; 300000];
-    let end = trace(&space[..n], &mut out);
-    show(&space[..n], &out[..end]);
+    let given = text::front(&space, n);
+    let mut out = [0u8; 400000];
+    let end = trace(given, &mut out);
+    show(given, &out, end);
 }

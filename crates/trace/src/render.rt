@@ -3,11 +3,9 @@ ghost use Prim.Native.Nat.{_<_, _≤_};
 ghost use mathlib.Core.Path.{_≡_};
 ghost use Rattle.text.specs.Put.{page, put};
 ghost use Rattle.trace.specs.Text.{item as Text·item};
-ghost use Rattle.trace.specs.Text.{linkItem, valuesText, markText, marksText, moduleText, modulesText, wordsText, refusalText, headText, ranText};
+ghost use Rattle.trace.specs.Text.{linkItem, firstText, otherText, valuesText, markText, marksText, moduleText, modulesText, wordsText, refusalText, headText};
 use base::NONE;
 use node::Node;
-use plan::Plan;
-use run::Ran;
 
 // A blank and a number.
 fn item(out: &mut [u8], at: usize, x: u16) -> usize
@@ -26,19 +24,32 @@ fn link_or_none(out: &mut [u8], at: usize, x: u16) -> usize
     item(out, at, x)
 }
 
-// A module's nine values, in document 01's order.
-fn values(out: &mut [u8], at: usize, n: Node) -> usize
-    ensures { λ r. ⌜ page r (now (out .exit)) ≡ put (page at (now (out .entry))) (valuesText n) ⌝ }
+// A module's values in document 01's order, the first four.
+fn first_values(out: &mut [u8], at: usize, n: Node) -> usize
+    ensures { λ r. ⌜ page r (now (out .exit)) ≡ put (page at (now (out .entry))) (firstText n) ⌝ }
 {
     let a = item(out, at, n.status);
     let b = item(out, a, n.level);
     let c = link_or_none(out, b, n.identity);
-    let d = link_or_none(out, c, n.weight);
-    let e = link_or_none(out, d, n.best);
-    let f = link_or_none(out, e, n.test);
-    let g = link_or_none(out, f, n.branch);
-    let h = item(out, g, n.count);
-    item(out, h, n.halted)
+    link_or_none(out, c, n.weight)
+}
+
+// The others.
+fn other_values(out: &mut [u8], at: usize, n: Node) -> usize
+    ensures { λ r. ⌜ page r (now (out .exit)) ≡ put (page at (now (out .entry))) (otherText n) ⌝ }
+{
+    let a = link_or_none(out, at, n.best);
+    let b = link_or_none(out, a, n.test);
+    let c = link_or_none(out, b, n.branch);
+    let d = item(out, c, n.count);
+    item(out, d, n.halted)
+}
+
+fn values(out: &mut [u8], at: usize, n: Node) -> usize
+    ensures { λ r. ⌜ page r (now (out .exit)) ≡ put (page at (now (out .entry))) (valuesText n) ⌝ }
+{
+    let a = first_values(out, at, n);
+    other_values(out, a, n)
 }
 
 // Module v's mark for link k, if k is a link of v.
@@ -88,40 +99,53 @@ fn own_marks<'a>(
 }
 
 // Module v's line.
-fn module_line(
-    p: Plan,
-    cells: [u16; 1728],
-    marks: [u8; 1200],
+fn module_line<'a>(
+    links: u16,
+    lower: &'a [u16; 600],
+    higher: &'a [u16; 600],
+    cells: &'a [u16; 1728],
+    marks: &'a [u8; 1200],
     out: &mut [u8],
     at: usize,
     v: u16,
 ) -> usize
-    requires { ⌜ (v < 192) × (p .links ≤ 600) ⌝ }
-    ensures { λ r. ⌜ page r (now (out .exit)) ≡ put (page at (now (out .entry))) (moduleText p cells marks v) ⌝ }
+    requires { ⌜ (links ≤ 600) × (v < 192) ⌝ }
+    ensures { λ r. ⌜ page r (now (out .exit)) ≡ put (page at (now (out .entry)))
+        (moduleText links (now (lower .entry)) (now (higher .entry)) (now (cells .entry)) (now (marks .entry)) v) ⌝ }
 {
-    let n = cells::load(&cells, v);
+    let n = cells::load(cells, v);
     let a = text::put_named(out, at, b"module ", v as u64);
     let b = values(out, a, n);
-    let c = own_marks(p.links, &p.lower, &p.higher, &marks, out, b, v);
+    let c = own_marks(links, lower, higher, marks, out, b, v);
     text::put(out, c, b"\n")
 }
 
-// A line for each of a plan's modules.
-fn modules(p: Plan, cells: [u16; 1728], marks: [u8; 1200], out: &mut [u8], at: usize) -> usize
-    requires { ⌜ (p .modules ≤ 192) × (p .links ≤ 600) ⌝ }
-    ensures { λ r. ⌜ page r (now (out .exit)) ≡ put (page at (now (out .entry))) (modulesText p cells marks (p .modules)) ⌝ }
+// A line for each of the modules.
+pub fn modules<'a>(
+    n: u16,
+    links: u16,
+    lower: &'a [u16; 600],
+    higher: &'a [u16; 600],
+    cells: &'a [u16; 1728],
+    marks: &'a [u8; 1200],
+    out: &mut [u8],
+    at: usize,
+) -> usize
+    requires { ⌜ (n ≤ 192) × (links ≤ 600) ⌝ }
+    ensures { λ r. ⌜ page r (now (out .exit)) ≡ put (page at (now (out .entry)))
+        (modulesText links (now (lower .entry)) (now (higher .entry)) (now (cells .entry)) (now (marks .entry)) n) ⌝ }
 {
     let mut a = at;
     let mut v: u16 = 0;
-    while v < p.modules {
-        a = module_line(p, cells, marks, out, a, v);
+    while v < n {
+        a = module_line(links, lower, higher, cells, marks, out, a, v);
         v += 1;
     }
     a
 }
 
 // A line for each word.
-fn words(waiting: &[u64], out: &mut [u8], at: usize) -> usize
+pub fn words(waiting: &[u64], out: &mut [u8], at: usize) -> usize
     ensures { λ r. ⌜ page r (now (out .exit)) ≡ put (page at (now (out .entry))) (wordsText (now (waiting .entry))) ⌝ }
 {
     let mut a = at;
@@ -143,26 +167,11 @@ fn refusal(out: &mut [u8], at: usize, number: u32) -> usize
     text::put_line(out, at, b"refusal ", number as u64)
 }
 
-fn head(out: &mut [u8], steps: usize, number: u32, sent: u32, waiting: usize) -> usize
+pub fn head(out: &mut [u8], steps: usize, number: u32, sent: u32, waiting: usize) -> usize
     ensures { λ r. ⌜ page r (now (out .exit)) ≡ put (page 0 (now (out .entry))) (headText steps number sent waiting) ⌝ }
 {
     let a = text::put_line(out, 0, b"steps ", steps as u64);
     let b = refusal(out, a, number);
     let c = text::put_line(out, b, b"sent ", sent as u64);
     text::put_line(out, c, b"waiting ", waiting as u64)
-}
-
-// What a run on a plan's field answered and left.
-pub fn render(p: Plan, r: Ran, lent: &[u64], out: &mut [u8]) -> usize
-    requires { ⌜ (p .modules ≤ 192) × (p .links ≤ 600) ⌝ }
-    ensures { λ e. ⌜ page e (now (out .exit)) ≡ put (page 0 (now (out .entry)))
-        (ranText p (record { done = r .steps; answer = r .refusal; state = record { field = r .field; words = now (lent .entry) } })) ⌝ }
-{
-    let n = fieldcheck::waiting(lent);
-    let f = r.field;
-    let cells = f.cells;
-    let marks = f.marks;
-    let a = head(out, r.steps, r.refusal, f.sent, n);
-    let b = modules(p, cells, marks, out, a);
-    words(&lent[..n], out, b)
 }

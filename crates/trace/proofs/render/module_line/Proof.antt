@@ -36,7 +36,7 @@ returns : tie.Need-returns
 returns c =
     let fourth = c .before .before in
     let third = fourth .before .before .before .before .before in
-    let second = third .before .before .before .before .before .before .before .before in
+    let second = third .before .before .before .before in
     let first = second .before .before .before .before in
     let node = first .before .before .before in
     put-on _ (named "module " _ ++ valuesText _ ++ marksText _ _ _ _ _ _) (ascii "\n")

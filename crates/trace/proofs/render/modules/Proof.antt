@@ -9,15 +9,15 @@ use Rattle.trace.proofs.render.modules.Statement.{statement}
 use Rattle.trace.proofs.render.modules.Tie as tie
 
 abbrev Inv-loop : tie.InvT-loop
-Inv-loop p cells marks out₀ at a₀ v₀ out a v =
-    (v ≤ p .modules) × (length out ≡ length out₀) × (page a out ≡ put (page at out₀) (modulesText p cells marks v))
+Inv-loop n links lower higher cells marks out₀ at a₀ v₀ out a v =
+    (v ≤ n) × (length out ≡ length out₀) × (page a out ≡ put (page at out₀) (modulesText links lower higher cells marks v))
 
 abbrev μ-loop : tie.MeasureT-loop
-μ-loop p cells marks out₀ at a₀ v₀ out a v = p .modules - v
+μ-loop n links lower higher cells marks out₀ at a₀ v₀ out a v = n - v
 
 loop-holds : tie.Need-loop-holds Inv-loop μ-loop
 loop-holds c =
-    (omega arith, refl, sym (ap (put _) (modules-none _ _ _) ∙ put-none _))
+    (omega arith, refl, sym (ap (put _) (modules-none _ _ _ _ _) ∙ put-none _))
 
 module-line-requires : tie.Need-module-line-requires Inv-loop μ-loop
 module-line-requires c κs = search needs
@@ -31,11 +31,11 @@ loop-less c = search needs
 loop-again : tie.Need-loop-again Inv-loop μ-loop
 loop-again c =
     let call = c .before .before in
-    let at = call .before .before .before .before in (
+    let at = call .before .before .before in (
       omega arith,
       search needs,
-      put-on _ (modulesText _ _ _ _) _ (at .loop .inv .2) (call .module-line .ensures)
-          ∙ ap (put _) (modules-turn _ _ _ _),
+      put-on _ (modulesText _ _ _ _ _ _) _ (at .loop .inv .2) (call .module-line .ensures)
+          ∙ ap (put _) (modules-turn _ _ _ _ _ _),
     )
 
 same-length : tie.Need-same-length Inv-loop μ-loop
@@ -43,9 +43,9 @@ same-length c = search needs
 
 returns : tie.Need-returns Inv-loop μ-loop
 returns c =
-    let at = c .before .before in
-    let end : at .loop .v ≡ at .before .before .args .p .modules = omega arith in
-    at .loop .inv .2 ∙ ap (put _) (ap (modulesText _ _ _) end)
+    let at = c .before in
+    let end : at .loop .v ≡ at .before .before .args .n = omega arith in
+    at .loop .inv .2 ∙ ap (put _) (ap (modulesText _ _ _ _ _) end)
 
 pub modules-spec : {M : Type 1} → statement M
 modules-spec =
