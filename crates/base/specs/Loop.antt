@@ -43,13 +43,16 @@ module _ {S : Type 0} where
       let r = runs rest n g x in
       cond (eqb (r .answer) 0 && not (rest (r .state))) (counted (r .done) (g n (r .state))) r
 
-  -- What each turn tells of itself (t), put together over the turns that were come to: of a loop, and of turns that may rest.
-  unfoldable pub tale : {E : Type 0} → ℕ → (ℕ → S → After S) → (ℕ → S → List E) → S → List E
-  tale zero g t x = []
-  tale (suc n) g t x = tale n g t x ++ cond (eqb (loop n g x .answer) 0) (t n (loop n g x .state)) []
+  -- Turn k tells the list `t k x` of what it does from state x (for example, the steps that it takes).
 
-  unfoldable pub tales : {E : Type 0} → (S → Bool) → ℕ → (ℕ → S → After S) → (ℕ → S → List E) → S → List E
-  tales rest zero g t x = []
-  tales rest (suc n) g t x =
+  -- all that the turns of `loop n g x` tell, in order, up to the one that is refused
+  unfoldable pub loopTrace : {E : Type 0} → ℕ → (ℕ → S → After S) → (ℕ → S → List E) → S → List E
+  loopTrace zero g t x = []
+  loopTrace (suc n) g t x = loopTrace n g t x ++ cond (eqb (loop n g x .answer) 0) (t n (loop n g x .state)) []
+
+  -- the same for the turns of `runs rest n g x`
+  unfoldable pub runsTrace : {E : Type 0} → (S → Bool) → ℕ → (ℕ → S → After S) → (ℕ → S → List E) → S → List E
+  runsTrace rest zero g t x = []
+  runsTrace rest (suc n) g t x =
       let r = runs rest n g x in
-      tales rest n g t x ++ cond (eqb (r .answer) 0 && not (rest (r .state))) (t n (r .state)) []
+      runsTrace rest n g t x ++ cond (eqb (r .answer) 0 && not (rest (r .state))) (t n (r .state)) []

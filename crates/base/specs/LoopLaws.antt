@@ -10,7 +10,7 @@ use mathlib.Core.List.{List, [], _++_}
 use lib.Dec.{eqb}
 use Rattle.base.specs.Cond.{eqb-cases, eqb-diff, by-eq}
 use Rattle.base.specs.Search.{lt-suc-cases}
-use Rattle.base.specs.Loop.{After, Ran, taken, then, loop, counted, runs, tale, tales}
+use Rattle.base.specs.Loop.{After, Ran, taken, then, loop, counted, runs, loopTrace, runsTrace}
 
 -- both answers of a test, in a goal P
 pub by-test {κ} : (b : Bool) (P : Bool → Type κ) → P true → P false → P b
@@ -87,26 +87,26 @@ module _ {S : Type 0} where
   module _ {E : Type 0} (R : S → List E → S → Type 0) (none : (x : S) → R x [] x)
       (more : (x y z : S) (l m : List E) → R x l y → R y m z → R x (l ++ m) z)
       (g : ℕ → S → After S) (t : ℕ → S → List E) where
-    pub loop-tells : (n : ℕ) (x : S) → ((k : ℕ) (y : S) → k < n → R y (t k y) (g k y .state)) → R x (tale n g t x) (loop n g x .state)
-    unfolding loop tale then
+    pub loop-tells : (n : ℕ) (x : S) → ((k : ℕ) (y : S) → k < n → R y (t k y) (g k y .state)) → R x (loopTrace n g t x) (loop n g x .state)
+    unfolding loop loopTrace then
     loop-tells zero x turn = none x
     loop-tells (suc n) x turn =
         let y = loop n g x .state in
         let i = loop-tells n x (λ k z l. turn k z (omega arith)) in
-        by-test (eqb (loop n g x .answer) 0) (λ b. R x (tale n g t x ++ cond b (t n y) []) (cond b (g n y) (loop n g x) .state))
-        (more x y (g n y .state) (tale n g t x) (t n y) i (turn n y (omega arith)))
-        (more x y y (tale n g t x) [] i (none y))
+        by-test (eqb (loop n g x .answer) 0) (λ b. R x (loopTrace n g t x ++ cond b (t n y) []) (cond b (g n y) (loop n g x) .state))
+        (more x y (g n y .state) (loopTrace n g t x) (t n y) i (turn n y (omega arith)))
+        (more x y y (loopTrace n g t x) [] i (none y))
 
-    pub runs-tell : (rest : S → Bool) (n : ℕ) (x : S) → ((k : ℕ) (y : S) → k < n → R y (t k y) (g k y .state)) → R x (tales rest n g t x) (runs rest n g x .state)
-    unfolding runs tales
+    pub runs-tell : (rest : S → Bool) (n : ℕ) (x : S) → ((k : ℕ) (y : S) → k < n → R y (t k y) (g k y .state)) → R x (runsTrace rest n g t x) (runs rest n g x .state)
+    unfolding runs runsTrace
     runs-tell rest zero x turn = none x
     runs-tell rest (suc n) x turn =
         let r = runs rest n g x in
         let y = r .state in
         let i = runs-tell rest n x (λ k z l. turn k z (omega arith)) in
-        by-test (eqb (r .answer) 0 && not (rest y)) (λ b. R x (tales rest n g t x ++ cond b (t n y) []) (cond b (counted (r .done) (g n y)) r .state))
-        (more x y (g n y .state) (tales rest n g t x) (t n y) i (turn n y (omega arith)))
-        (more x y y (tales rest n g t x) [] i (none y))
+        by-test (eqb (r .answer) 0 && not (rest y)) (λ b. R x (runsTrace rest n g t x ++ cond b (t n y) []) (cond b (counted (r .done) (g n y)) r .state))
+        (more x y (g n y .state) (runsTrace rest n g t x) (t n y) i (turn n y (omega arith)))
+        (more x y y (runsTrace rest n g t x) [] i (none y))
 
   -- what every turn keeps, refused or not
   pub runs-keep : (P : S → Type 0) (rest : S → Bool) (n : ℕ) (g : ℕ → S → After S) (x : S) → P x → ((k : ℕ) (y : S) → k < n → P y → P (g k y .state))

@@ -9,7 +9,7 @@ use lib.ListN.{length}
 use Rattle.base.specs.Cond.{by-eq}
 use Rattle.base.specs.Log.{log2}
 use Rattle.message.specs.Msg.{Msg, none, connect, initiate, test, accept, reject, report, change}
-use Rattle.node.specs.Work.{Own, Work, start, putBack, earliest, every}
+use Rattle.node.specs.Work.{Own, Work, start, putBack, earliest, anyEdge}
 use Rattle.node.specs.Rules.{wakeup, wakes, respond, respondTo, onConnect, onInitiate, onTest, onAccept, onReject, onReport, onChange}
 use Rattle.node.specs.Laws.{wake-alone, wake-edge, awake-wakes, awake-is, asleep-not}
 use Rattle.protocol.specs.Prelude.{Plan, Ends, flip, end-lt, ends-irr, State, Idle, Blocked, Inv, Rouse, pop, pop-head}
@@ -59,7 +59,7 @@ module _ (o : Own) (limit j : ℕ) (w : Work) where
 
 -- who has woken is awake
 woken-awake : (o : Own) (w : Work) → wakeup o w .node .status ≢ 0
-woken-awake o w e = let m = earliest o every (o.edges) in by-eq m none
+woken-awake o w e = let m = earliest o anyEdge (o.edges) in by-eq m none
     (λ q. let z = ap (λ (x : Work). x .node .status) (wake-alone m w q) in omega arith)
     (λ n. let z = ap (λ (x : Work). x .node .status) (wake-edge m w n) in omega arith)
 

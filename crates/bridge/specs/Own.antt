@@ -12,7 +12,7 @@ use Rattle.graph.specs.Graph.{up, down}
 use Rattle.graph.specs.Ways.{joins-lt}
 use Rattle.graph.specs.Rank as R
 use Rattle.message.specs.Msg.{none}
-use Rattle.node.specs.Work.{before, earliest, number, every, degree}
+use Rattle.node.specs.Work.{before, earliest, number, anyEdge, degree}
 use Rattle.node.specs.First.{first, before-none, before-edges, none-before}
 use Rattle.protocol.specs.Plan.{Plan, Ends, key, rank, key-none, key-edge, rank-lt}
 use Rattle.protocol.specs.State.{State}
@@ -92,4 +92,4 @@ module _ (p : Plan) (v : ℕ) where
 
   -- the find-count is at most the number of own edges
   pub count-le : {s : State} → Inv p s → s.fc v ≤ degree (ownP p v)
-  count-le i = omega (arith, number-sum every p.g.L, S.count-le i v (λ k. ownP p v .own k && true) (λ k u e. rw (ends-own e)))
+  count-le i = omega (arith, number-sum anyEdge p.g.L, S.count-le i v (λ k. ownP p v .own k && true) (λ k u e. rw (ends-own e)))

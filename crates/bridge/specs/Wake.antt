@@ -6,7 +6,7 @@ use mathlib.Core.Logic.{⊎-elim}
 use lib.ListN.{length}
 use Rattle.base.specs.Cond.{by-eq}
 use Rattle.message.specs.Msg.{connect}
-use Rattle.node.specs.Work.{Work, BRANCH, every, earliest}
+use Rattle.node.specs.Work.{Work, BRANCH, anyEdge, earliest}
 use Rattle.node.specs.Rules.{wakeup}
 use Rattle.node.specs.Laws.{wake-alone, wake-edge}
 use Rattle.protocol.specs.Plan.{Plan, edge-some}
@@ -18,12 +18,12 @@ use Rattle.bridge.specs.Fin.{At, Fin, last, same, one-more, at-halted, a
 
 module _ (p : Plan) (s : State) {r : Real} {v : ℕ} {w : Work} (a : At r v w (real s)) (z : w .answer ≡ 0) (idle : Idle s) (lt : v < p.N) (asleep : s.st v ≡ 0) where
   abbrev edge : ℕ
-  edge = earliest (ownP p v) every p.g.L
+  edge = earliest (ownP p v) anyEdge p.g.L
 
-  alone : Lacks p v every edge → Fin p r v 0 (length (w .sends)) (wakeup (ownP p v) w) s
+  alone : Lacks p v anyEdge edge → Fin p r v 0 (length (w .sends)) (wakeup (ownP p v) w) s
   alone h = same (wake-alone edge w (h .is)) (last (wake-lone idle lt asleep (λ k u e. h .nothing k u e refl)) (omega arith) idle z (at-halted (at-woken a) 1))
 
-  connects : Finds p v every edge → Fin p r v 0 (length (w .sends)) (wakeup (ownP p v) w) s
+  connects : Finds p v anyEdge edge → Fin p r v 0 (length (w .sends)) (wakeup (ownP p v) w) s
   connects h =
       let y = h .other in
       let m = connect 0 in
@@ -33,4 +33,4 @@ module _ (p : Plan) (s : State) {r : Real} {v : ℕ} {w : Work} (a : At r v w (r
       (λ b. last (wake-half idle (h .ends) asleep (λ j u e. h .least j u e refl) b) (one-more w edge m) idle z a′))
 
   pub wake-fin : Fin p r v 0 (length (w .sends)) (wakeup (ownP p v) w) s
-  wake-fin = ⊎-elim alone connects (searched p v every)
+  wake-fin = ⊎-elim alone connects (searched p v anyEdge)

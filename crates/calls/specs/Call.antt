@@ -23,20 +23,20 @@ abbrev pub refusedRun : ℕ → Held → Ran Held
 refusedRun number h = record { done = 0; answer = number; state = h }
 
 -- a run's end, with the words laid out again
-abbrev pub putBack : Held → Ran State → Ran Held
-putBack h r = record { done = r .done; answer = r .answer; state = heldOf h (r .state) }
+abbrev pub laidBack : Held → Ran State → Ran Held
+laidBack h r = record { done = r .done; answer = r .answer; state = heldOf h (r .state) }
 
 -- a run of a schedule: 31, then 51 to 54, then the steps
 unfoldable pub runBytes : List ℕ → Held → Ran Held
 runBytes bytes h =
     cond (not (valid h)) (refusedRun 31 h)
     (cond (not (eqb (scheduleRefusal bytes) 0)) (refusedRun (scheduleRefusal bytes) h)
-    (putBack h (scheduleRun (h .field .plan) bytes (stateOf h))))
+    (laidBack h (scheduleRun (h .field .plan) bytes (stateOf h))))
 
 -- a run of rounds: 31, then the rounds
 unfoldable pub runRounds : ℕ → Held → Ran Held
 runRounds limit h =
-    cond (not (valid h)) (refusedRun 31 h) (putBack h (roundsRun (h .field .plan) limit (stateOf h)))
+    cond (not (valid h)) (refusedRun 31 h) (laidBack h (roundsRun (h .field .plan) limit (stateOf h)))
 
 -- what a call does (of a step alone the refusal is all that is answered)
 unfoldable pub does : Call → Held → Ran Held

@@ -4,7 +4,7 @@ use mathlib.Core.Bool.{Bool, cond, _&&_, _||_}
 use mathlib.Core.List.{List, [], _∷_, _++_}
 use lib.ListN.{length, getD}
 use lib.Dec.{eqb}
-use Rattle.base.specs.Loop.{tale, tales}
+use Rattle.base.specs.Loop.{loopTrace, runsTrace}
 use Rattle.base.specs.Pool.{sumL}
 use Rattle.message.specs.Header.{kindAt}
 use Rattle.word.specs.Word.{headerIn}
@@ -30,24 +30,24 @@ ifTaken p kind number s =
 
 -- the steps of a round, in the shape of `round`
 unfoldable pub handTurnSteps : Plan → ℕ → State → List Taken
-handTurnSteps p d s = tale (many (inAir d) (s .words)) (λ j. hand p d) (λ j. ifTaken p 2 d) s
+handTurnSteps p d s = loopTrace (many (inAir d) (s .words)) (λ j. hand p d) (λ j. ifTaken p 2 d) s
 
 unfoldable pub serveTurnSteps : Plan → ℕ → State → List Taken
-serveTurnSteps p v s = tale (many (inQueue p v) (s .words)) (λ j. serve p v) (λ j. ifTaken p 3 v) s
+serveTurnSteps p v s = loopTrace (many (inQueue p v) (s .words)) (λ j. serve p v) (λ j. ifTaken p 3 v) s
 
 unfoldable pub roundSteps : Plan → State → List Taken
 roundSteps p s =
-    tale (2 * p .links) (handTurn p) (handTurnSteps p) s
-    ++ cond (eqb (handPhase p s .answer) 0) (tale (p .modules) (serveTurn p) (serveTurnSteps p) (handPhase p s .state)) []
+    loopTrace (2 * p .links) (handTurn p) (handTurnSteps p) s
+    ++ cond (eqb (handPhase p s .answer) 0) (loopTrace (p .modules) (serveTurn p) (serveTurnSteps p) (handPhase p s .state)) []
 
 -- the steps that a call takes in a field that 31 does not refuse
 unfoldable pub stepsOf : Plan → Call → State → List Taken
 stepsOf p (one kind number) s = ifTaken p kind number s
 stepsOf p (run bytes) s =
     cond (eqb (scheduleRefusal bytes) 0)
-    (tales never (stepsIn bytes) (stepAt p bytes) (λ i. ifTaken p (kindOf bytes i) (numberOf bytes i)) s)
+    (runsTrace never (stepsIn bytes) (stepAt p bytes) (λ i. ifTaken p (kindOf bytes i) (numberOf bytes i)) s)
     []
-stepsOf p (rounds limit) s = tales atRest limit (λ i. round p) (λ i. roundSteps p) s
+stepsOf p (rounds limit) s = runsTrace atRest limit (λ i. round p) (λ i. roundSteps p) s
 
 -- the steps that a list of calls takes, in order
 unfoldable pub trail : List Call → Held → List Taken

@@ -10,11 +10,14 @@ use Rattle.search.specs.Own as O
 use Rattle.search.specs.Own.{endIn}
 pub use Rattle.search.specs.Own.{ownOf}
 
--- module v's own links, the same as the rules of one node see them, and v's directed link over its own link k: "Directed link 2 × k runs from
--- lower to higher over link k, 2 × k + 1 back." v's mark for k has the same place.
+-- `ownOf p v`: the links of module v and their order, as the rules of one node take them.
+
+-- link k ends at module v
 abbrev pub isOwn : Plan → ℕ → ℕ → Bool
 isOwn p v k = O.isOwn (p .links) (p .lower) (p .higher) v k
 
+-- the directed link from v over its link k: "Directed link 2 × k runs from lower to higher over link k, 2 × k + 1 back." v's mark for k stands at
+-- the same number.
 abbrev pub over : Plan → ℕ → ℕ → ℕ
 over p v k = endIn (p .lower) v k
 

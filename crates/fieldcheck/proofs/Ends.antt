@@ -9,7 +9,7 @@ use lib.ListN.{length, getD, set, length-set}
 use lib.Seq.{getD-set-same, getD-set-other}
 use borrow.Author.Tests.{eq-eqb, ne-eqb}
 use Rattle.base.specs.Cond.{bit-le, by-eq}
-use Rattle.node.specs.Work.{Own, number, every}
+use Rattle.node.specs.Work.{Own, number, anyEdge}
 use Rattle.search.specs.Own.{ownIn}
 use Rattle.search.specs.Laws.{own-lower, own-higher}
 
@@ -21,20 +21,20 @@ number-le o f (suc n) = omega (arith, number-le o f n, bit-le (o.own n && f n))
 -- the counts over the first k links
 abbrev pub Counted : ℕ → List ℕ → List ℕ → ℕ → List ℕ → Type 0
 Counted links lower higher k ends =
-    (near far : List ℕ) (v : ℕ) → v < 192 → getD ends v 0 ≡ number (ownIn links lower higher near far v) every k
+    (near far : List ℕ) (v : ℕ) → v < 192 → getD ends v 0 ≡ number (ownIn links lower higher near far v) anyEdge k
 
-number-hit : (o : Own) (k : ℕ) → o.own k ≡ true → number o every (k + 1) ≡ number o every k + 1
+number-hit : (o : Own) (k : ℕ) → o.own k ≡ true → number o anyEdge (k + 1) ≡ number o anyEdge k + 1
 unfolding number
 number-hit o k h = rw (add-one k, h)
 
-number-miss : (o : Own) (k : ℕ) → o.own k ≡ false → number o every (k + 1) ≡ number o every k
+number-miss : (o : Own) (k : ℕ) → o.own k ≡ false → number o anyEdge (k + 1) ≡ number o anyEdge k
 unfolding number
 number-miss o k h = rw (add-one k, h) (omega arith)
 
 -- each count is small
 pub counted-small : (links : ℕ) (lower higher : List ℕ) (k : ℕ) (ends : List ℕ) → Counted links lower higher k ends → (v : ℕ) → v < 192 → getD ends v 0 ≤ k
 counted-small links lower higher k ends c v h =
-    omega (arith, c [] [] v h, number-le (ownIn links lower higher [] [] v) every k)
+    omega (arith, c [] [] v h, number-le (ownIn links lower higher [] [] v) anyEdge k)
 
 -- link k from a to b
 module _ (links : ℕ) (lower higher : List ℕ) (k : ℕ) (l : k < links) (ends : List ℕ) (sized : length ends ≡ 192)

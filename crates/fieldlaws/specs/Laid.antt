@@ -21,7 +21,7 @@ use Rattle.field.specs.State.{State}
 use Rattle.field.specs.Valid.{allOf, waitingIn, zeroAfter, enough, fits}
 use Rattle.field.specs.Held.{Held, layout, stateOf, heldOf, valid, stepAlone}
 use Rattle.calls.specs.Schedule.{scheduleRefusal, scheduleRun}
-use Rattle.calls.specs.Call.{Call, one, run, rounds, refusedRun, putBack, runBytes, runRounds, does}
+use Rattle.calls.specs.Call.{Call, one, run, rounds, refusedRun, laidBack, runBytes, runRounds, does}
 use Rattle.fieldlaws.specs.Cases.{Outcome, took, kept, Step, steps}
 use Rattle.fieldlaws.specs.Fits.{word-nonzero, fits-facts, facts-fits}
 use Rattle.fieldlaws.specs.Keeps.{Sound, Alike, step-keeps, step-lengths}
@@ -130,12 +130,12 @@ module _ (h : Held) (i : Live h) where
     }
 
   -- THE LAW: a call on a field that passes 31 is the call on its state
-  pub does-state : (c : Call) → does c h ≡ putBack h (onState plan c (stateOf h))
+  pub does-state : (c : Call) → does c h ≡ laidBack h (onState plan c (stateOf h))
   unfolding does stepAlone runBytes runRounds onState
   does-state (one kind number) = rw (i .valid) refl
   does-state (run bytes) = rw (i .valid) (eqb-cases (scheduleRefusal bytes) 0
-      (λ b. cond (not b) (refusedRun (scheduleRefusal bytes) h) (putBack h (scheduleRun plan bytes (stateOf h)))
-      ≡ putBack h (cond b (scheduleRun plan bytes (stateOf h)) (record { done = 0; answer = scheduleRefusal bytes; state = stateOf h })))
+      (λ b. cond (not b) (refusedRun (scheduleRefusal bytes) h) (laidBack h (scheduleRun plan bytes (stateOf h)))
+      ≡ laidBack h (cond b (scheduleRun plan bytes (stateOf h)) (record { done = 0; answer = scheduleRefusal bytes; state = stateOf h })))
       (λ e. refl)
       (λ n. ap (refusedRun (scheduleRefusal bytes)) (sym held-same)))
   does-state (rounds limit) = rw (i .valid) refl

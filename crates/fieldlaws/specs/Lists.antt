@@ -12,7 +12,7 @@ use Rattle.base.specs.LoopLaws.{by-test}
 use Rattle.base.specs.Pool.{All, nil, All-app, All-one}
 use Rattle.message.specs.Msg.{Msg, none, connect, initiate, test, accept, reject, report, change}
 use Rattle.node.specs.declared.Node.{Node}
-use Rattle.node.specs.Work.{Own, Work, Send, ASLEEP, FIND, FOUND, BASIC, BRANCH, REJECTED, before, putBack, refused, send, setMark, withNode, setStatus, setBest, setTest, setCount, setHalted, earliest, number, onEach, every, basic, branches, degree}
+use Rattle.node.specs.Work.{Own, Work, Send, ASLEEP, FIND, FOUND, BASIC, BRANCH, REJECTED, before, putBack, refused, send, setMark, withNode, setStatus, setBest, setTest, setCount, setHalted, earliest, number, onEach, anyEdge, basic, branches, degree}
 use Rattle.node.specs.Rules.{woken, wakeOn, wakeup, awake, doReport, testOn, doTest, changeRoot, countUp, joined, absorb, coreEnd, onConnect, copied, told, seek, onInitiate, strike, onTest, better, onAccept, childReport, coreReport, onReport, unlessAsleep, respondTo}
 
 -- a link number or none; an own link or none
@@ -185,10 +185,10 @@ module _ (o : Own) (limit : ℕ) where
   pub ok-wakeup : (w : Work) → WorkOk o limit w → WorkOk o limit (wakeup o w)
   unfolding wakeOn
   ok-wakeup w i =
-      let m = earliest o every (o.edges) in
+      let m = earliest o anyEdge (o.edges) in
       eqb-cases m none (λ b. WorkOk o limit (cond b (withNode (setHalted 1 (woken (w .node))) w) (send m (connect 0) (setMark m BRANCH (withNode (woken (w .node)) w)))))
       (λ e. ok-node _ w (ok-halted _ (ok-woken _ (i .node))) i)
-      (λ n. ok-send m (connect 0) _ (own-is m (earliest-own every (o.edges)) n) (omega arith) (ok-mark m BRANCH _ (omega arith) (ok-node _ w (ok-woken _ (i .node)) i)))
+      (λ n. ok-send m (connect 0) _ (own-is m (earliest-own anyEdge (o.edges)) n) (omega arith) (ok-mark m BRANCH _ (omega arith) (ok-node _ w (ok-woken _ (i .node)) i)))
 
   ok-awake : (w : Work) → WorkOk o limit w → WorkOk o limit (awake o w)
   unfolding awake

@@ -9,7 +9,7 @@ use lib.ListN.{length, length-append}
 use lib.Dec.{eqb}
 use borrow.Author.Tests.{eq-eqb, ne-eqb}
 use Rattle.base.specs.Cond.{eqb-diff}
-use Rattle.base.specs.Loop.{After, Ran, taken, refused, counted, runs, tales}
+use Rattle.base.specs.Loop.{After, Ran, taken, refused, counted, runs, runsTrace}
 use Rattle.base.specs.LoopLaws.{by-test}
 use Rattle.plan.specs.declared.Plan.{Plan}
 use Rattle.field.specs.State.{State}
@@ -75,12 +75,12 @@ module _ (p : Plan) (bytes : List ℕ) where
       go r (inr h) = rw (ne-eqb (r .answer) 0 (h .some)) (inr (record { some = h .some; below = omega (arith, h .below); at = h .at }))
 
   -- the steps done are the steps taken
-  pub run-done : (n : ℕ) (s : State) → length (tales never n (stepAt p bytes) (λ i. ifTaken p (kindOf bytes i) (numberOf bytes i)) s) ≡ runs never n (stepAt p bytes) s .done
-  unfolding runs tales ifTaken
+  pub run-done : (n : ℕ) (s : State) → length (runsTrace never n (stepAt p bytes) (λ i. ifTaken p (kindOf bytes i) (numberOf bytes i)) s) ≡ runs never n (stepAt p bytes) s .done
+  unfolding runs runsTrace ifTaken
   run-done zero s = refl
   run-done (suc n) s =
       let r = runs never n (stepAt p bytes) s in
-      let t = tales never n (stepAt p bytes) (λ i. ifTaken p (kindOf bytes i) (numberOf bytes i)) s in
+      let t = runsTrace never n (stepAt p bytes) (λ i. ifTaken p (kindOf bytes i) (numberOf bytes i)) s in
       let i = run-done n s in
       by-test (eqb (r .answer) 0 && true)
       (λ b. length (t ++ cond b (ifTaken p (kindOf bytes n) (numberOf bytes n) (r .state)) []) ≡ cond b (counted (r .done) (stepAt p bytes n (r .state))) r .done)

@@ -3,7 +3,7 @@ use Prim.Native.Nat.{ℕ, _+_, _*_}
 use mathlib.Core.Bool.{cond}
 use mathlib.Core.List.{List, [], _++_}
 use lib.Dec.{eqb}
-use Rattle.base.specs.Loop.{Ran, then, counted, tale, tales}
+use Rattle.base.specs.Loop.{Ran, then, counted, loopTrace, runsTrace}
 use Rattle.base.specs.LoopLaws.{by-test, loop-tells, runs-tell}
 use Rattle.plan.specs.declared.Plan.{Plan}
 use Rattle.field.specs.State.{State}
@@ -44,8 +44,8 @@ module _ (p : Plan) (R : State → List Taken → State → Type 0) (none : (x :
   unfolding roundSteps round then
   round-tells s =
       let y = handPhase p s .state in
-      let a = tale (2 * p .links) (handTurn p) (handTurnSteps p) s in
-      let b = tale (p .modules) (serveTurn p) (serveTurnSteps p) y in
+      let a = loopTrace (2 * p .links) (handTurn p) (handTurnSteps p) s in
+      let b = loopTrace (p .modules) (serveTurn p) (serveTurnSteps p) y in
       let i = loop-tells R none more (handTurn p) (handTurnSteps p) (2 * p .links) s (λ k x l. hand-turn-tells k x) in
       by-test (eqb (handPhase p s .answer) 0) (λ t. R s (a ++ cond t b []) (cond t (servePhase p y) (handPhase p s) .state))
       (more s y (servePhase p y .state) a b i (loop-tells R none more (serveTurn p) (serveTurnSteps p) (p .modules) y (λ k x l. serve-turn-tells k x)))
@@ -56,7 +56,7 @@ module _ (p : Plan) (R : State → List Taken → State → Type 0) (none : (x :
   call-tells (one kind number) s = turn kind number s
   call-tells (run bytes) s =
       by-test (eqb (scheduleRefusal bytes) 0)
-      (λ t. R s (cond t (tales never (stepsIn bytes) (stepAt p bytes) (λ i. ifTaken p (kindOf bytes i) (numberOf bytes i)) s) [])
+      (λ t. R s (cond t (runsTrace never (stepsIn bytes) (stepAt p bytes) (λ i. ifTaken p (kindOf bytes i) (numberOf bytes i)) s) [])
       (cond t (scheduleRun p bytes s) (record { done = 0; answer = scheduleRefusal bytes; state = s }) .state))
       (runs-tell R none more (stepAt p bytes) (λ i. ifTaken p (kindOf bytes i) (numberOf bytes i)) never (stepsIn bytes) s (λ k y l. turn (kindOf bytes k) (numberOf bytes k) y))
       (none s)

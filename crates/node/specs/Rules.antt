@@ -5,7 +5,7 @@ use mathlib.Core.List.{List, [], _∷_, _++_}
 use lib.Dec.{eqb, ltb, leb}
 use Rattle.message.specs.Msg.{Msg, none, connect, initiate, test, accept, reject, report, change}
 use Rattle.node.specs.declared.Node.{Node}
-use Rattle.node.specs.Work.{Own, Work, Send, ASLEEP, FIND, FOUND, BASIC, BRANCH, REJECTED, before, start, putBack, refused, send, setMark, withNode, setStatus, setBest, setTest, setCount, setHalted, earliest, number, onEach, every, basic, branches, degree}
+use Rattle.node.specs.Work.{Own, Work, Send, ASLEEP, FIND, FOUND, BASIC, BRANCH, REJECTED, before, start, putBack, refused, send, setMark, withNode, setStatus, setBest, setTest, setCount, setHalted, earliest, number, onEach, anyEdge, basic, branches, degree}
 
 -- (2) procedure wakeup
 --       LN ← 0; SN ← Found; Find-count ← 0;
@@ -14,7 +14,8 @@ abbrev pub woken : Node → Node
 woken n =
     record { status = FOUND; level = 0; identity = none; weight = none; best = none; test = none; branch = none; count = 0; halted = n .halted }
 
---       begin let m be adjacent edge of minimum weight; SE(m) ← Branch; ... send Connect(0) on edge m end
+--       begin let m be adjacent edge of minimum weight; SE(m) ← Branch; .. send Connect(0) on edge m end
+-- Slip: the copy has SE(m) ← Branch before part 1, and the line with `let m` after part 3.
 -- "A module without links wakes Found and halted, and sends nothing."
 unfoldable pub wakeOn : ℕ → Work → Work
 wakeOn m w =
@@ -23,7 +24,7 @@ wakeOn m w =
     (send m (connect 0) (setMark m BRANCH (withNode (woken (w .node)) w)))
 
 abbrev pub wakeup : Own → Work → Work
-wakeup o w = wakeOn (earliest o every (o.edges)) w
+wakeup o w = wakeOn (earliest o anyEdge (o.edges)) w
 
 -- (3) and (6): if SN = Sleeping then execute procedure wakeup
 unfoldable pub awake : Own → Work → Work
@@ -90,11 +91,13 @@ onConnect o limit l j w =
 
 -- (4) Initiate(L, F, S) on edge j
 --       begin LN ← L; FN ← F; SN ← S; in-branch ← j; best-edge ← nil; best-wt ← ∞;
+-- Slip: the copy has in-branch ← i.
 abbrev pub informed : ℕ → ℕ → ℕ → ℕ → Node → Node
 informed l f find j n =
     record { status = cond (eqb find 1) FIND FOUND; level = l; identity = f; weight = none; best = none; test = n .test; branch = j; count = n .count; halted = n .halted }
 
 --       for all i ≠ j such that SE(i) = Branch do begin send Initiate(L, F, S) on edge i; .. end
+-- Slip: the copy lacks this end, which closes the loop before procedure test.
 -- "An Initiate's copies go out by rising link number, before any Test or Report"
 abbrev pub copies : Own → ℕ → Msg → Work → List Send
 copies o j m w = onEach o (branches j w) m (o.edges)
@@ -125,6 +128,7 @@ abbrev pub strike : ℕ → Work → Work
 strike j w = setMark j (cond (eqb (w .mark j) BASIC) REJECTED (w .mark j)) w
 
 -- (6) Response to receipt of Test(L, F) on edge j, awake
+-- Slip: the copy has on edge i.
 --       if L > LN then place received message on end of queue
 --         else if F ≠ FN then send Accept on edge j
 --           else begin strike; if test-edge ≠ j then send Reject on edge j else execute procedure test end
@@ -150,7 +154,8 @@ onAccept o j w = doReport (withNode (better o j j (setTest none (w .node))) w)
 abbrev pub onReject : Own → ℕ → Work → Work
 onReject o j w = doTest o (strike j w)
 
--- (10) Report(x) on edge j ≠ in-branch
+-- (10) Report(x) on edge j ≠ in-branch (the copy's w is x here)
+-- Slip: the copy has i ≠ in-branch, here and in the response below.
 --       begin find-count ← find-count − 1; if x < best-wt then begin best-wt ← x; best-edge ← j end; execute procedure report end
 -- 32: "find-count would leave 0 to the module's links"
 unfoldable pub childReport : Own → ℕ → ℕ → Work → Work

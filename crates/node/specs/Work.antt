@@ -166,7 +166,7 @@ setHalted x n =
       halted = x;
     }
 
--- Over the own edges for which f holds, last edge number outermost: a loop that goes up over k holds the value at k.
+-- Of the own edges that pass test f, those numbered below n. A loop that has looked at edges 0 to n - 1 holds the value at n.
 
 -- the earliest of them, or none
 unfoldable pub earliest : Own → (ℕ → Bool) → ℕ → ℕ
@@ -183,9 +183,9 @@ unfoldable pub onEach : Own → (ℕ → Bool) → Msg → ℕ → List Send
 onEach o f m zero = []
 onEach o f m (suc n) = onEach o f m n ++ cond (o.own n && f n) (record { edge = n; msg = m } ∷ []) []
 
--- every edge
-abbrev pub every : ℕ → Bool
-every k = true
+-- the test that every edge passes
+abbrev pub anyEdge : ℕ → Bool
+anyEdge k = true
 
 -- "adjacent edges in the state Basic"
 abbrev pub basic : Work → ℕ → Bool
@@ -197,4 +197,4 @@ branches j w k = not (eqb k j) && eqb (w .mark k) BRANCH
 
 -- the number of own edges
 abbrev pub degree : Own → ℕ
-degree o = number o every (o.edges)
+degree o = number o anyEdge (o.edges)

@@ -14,7 +14,7 @@ use Rattle.field.specs.Edges.{ceilingOf}
 use Rattle.planfile.specs.Reading.{readPlan}
 use Rattle.planfile.specs.Layout.{decode}
 use Rattle.calls.specs.Rounds.{round, atRest, roundsRun}
-use Rattle.calls.specs.Call.{refusedRun, putBack, runRounds}
+use Rattle.calls.specs.Call.{refusedRun, laidBack, runRounds}
 use Rattle.settle.specs.Agrees.{settled-is}
 use Rattle.report.specs.Reported.{settledText, reported, plan-taken}
 use Rattle.base.specs.Cond as base1
@@ -55,7 +55,7 @@ printed = ascii "modules 2\nlinks 1\nbranch 0 1 7\ntotal 7\ncore 0 1\nmessages 6
 stays : (h : Held) (k n : ℕ) (y : State) → k ≤ n → roundsRun (h .field .plan) k (stateOf h) ≡ went k y → atRest y ≡ true → runRounds n h ≡ runRounds k h
 unfolding runRounds
 stays h k n y l d r =
-    ap (λ x. cond (not (valid h)) (refusedRun 31 h) (putBack h x)) (rests atRest (λ i. round (h .field .plan)) k (stateOf h) y d n l r ∙ sym d)
+    ap (λ x. cond (not (valid h)) (refusedRun 31 h) (laidBack h x)) (rests atRest (λ i. round (h .field .plan)) k (stateOf h) y d n l r ∙ sym d)
 
 abbrev lent : List ℕ
 lent = replicate 12 0

@@ -9,7 +9,7 @@ use Rattle.base.specs.Cond.{eqb-cases, ltb-cases}
 use Rattle.base.specs.LoopLaws.{by-test}
 use Rattle.message.specs.Msg.{Msg, none, connect, initiate, test, accept, reject, report, change}
 use Rattle.node.specs.declared.Node.{Node}
-use Rattle.node.specs.Work.{Own, Work, ASLEEP, FIND, FOUND, BASIC, BRANCH, BACK, REFUSED, before, putBack, refused, send, withNode, setTest, setCount, number, earliest, every, branches, degree}
+use Rattle.node.specs.Work.{Own, Work, ASLEEP, FIND, FOUND, BASIC, BRANCH, BACK, REFUSED, before, putBack, refused, send, withNode, setTest, setCount, number, earliest, anyEdge, branches, degree}
 use Rattle.node.specs.Rules.{wakeOn, wakeup, awake, doReport, testOn, doTest, changeRoot, countUp, absorb, coreEnd, onConnect, told, seek, onInitiate, strike, onTest, childReport, coreReport, onReport, respondTo}
 use Rattle.node.specs.Laws.{awake-wakes, awake-is, asleep-refused, asleep-not}
 
@@ -48,7 +48,7 @@ steady-root w h = either (eqb (w .node .best) none) _ _ (stopped w h)
 -- waking: Found
 pub steady-wake : (o : Own) (w : Work) → w .answer ≢ BACK → Steady (wakeup o w)
 unfolding wakeOn
-steady-wake o w h = either (eqb (earliest o every (o.edges)) none) _ _ (record { answer = h; awake = λ e. omega arith }) (record { answer = h; awake = λ e. omega arith })
+steady-wake o w h = either (eqb (earliest o anyEdge (o.edges)) none) _ _ (record { answer = h; awake = λ e. omega arith }) (record { answer = h; awake = λ e. omega arith })
 
 -- an awake node that is as in w puts m back if it comes over j
 abbrev pub Waits : ℕ → Work → Msg → Type 0

@@ -8,7 +8,7 @@ use Rattle.field.specs.declared.Field.{Field}
 use Rattle.field.specs.Held.{Held, valid}
 use Rattle.field.specs.Held as H
 use Rattle.calls.specs.Rounds.{roundsRun}
-use Rattle.calls.specs.Call.{refusedRun, putBack, runRounds}
+use Rattle.calls.specs.Call.{refusedRun, laidBack, runRounds}
 use Rattle.fieldcheck.specs.declared.Checked.{Checked}
 use Rattle.fieldcheck.specs.Checked.{checkOf}
 use Rattle.store.specs.Laid.{Laid}
@@ -20,7 +20,7 @@ module _ (h : Held) (limit : ℕ) where
   unfolding runRounds
   run-refused e = rw e refl
 
-  run-goes : valid h ≡ true → putBack h (roundsRun (h .field .plan) limit (H.stateOf h)) ≡ runRounds limit h
+  run-goes : valid h ≡ true → laidBack h (roundsRun (h .field .plan) limit (H.stateOf h)) ≡ runRounds limit h
   unfolding runRounds
   run-goes e = rw e refl
 
@@ -38,4 +38,4 @@ module _ (f : Field) (lent : List ℕ) (c : Checked) (e : c ≡ checkOf (record 
         → record { done = done; answer = answer; state = record { field = record { plan = f .plan; cells = cells; marks = marks; sent = sent }; words = words } } ≡ runRounds limit h
     run-done q l k =
         ap (λ (x : Held). record { done = done; answer = answer; state = x }) (again f lent cells marks words n sent l k)
-        ∙ ap (putBack h) (q ∙ ap (roundsRun (f .plan) limit) (starts f lent c e)) ∙ run-goes h limit (passes f lent c e y)
+        ∙ ap (laidBack h) (q ∙ ap (roundsRun (f .plan) limit) (starts f lent c e)) ∙ run-goes h limit (passes f lent c e y)

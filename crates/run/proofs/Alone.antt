@@ -13,7 +13,7 @@ use Rattle.field.specs.Step.{step}
 use Rattle.field.specs.Held.{Held, layout, heldOf, valid, stepAlone}
 use Rattle.field.specs.Held as H
 use Rattle.calls.specs.Schedule.{scheduleRefusal, scheduleRun}
-use Rattle.calls.specs.Call.{refusedRun, putBack, runBytes}
+use Rattle.calls.specs.Call.{refusedRun, laidBack, runBytes}
 use Rattle.fieldcheck.specs.declared.Checked.{Checked}
 use Rattle.fieldcheck.specs.Checked.{checkOf}
 use Rattle.store.specs.Laid.{Laid}
@@ -42,7 +42,7 @@ module _ (h : Held) where
   unfolding runBytes
   run-bad bytes e n = simp (e, ne-eqb (scheduleRefusal bytes) 0 n)
 
-  run-goes : (bytes : List ℕ) → valid h ≡ true → scheduleRefusal bytes ≡ 0 → putBack h (scheduleRun (h .field .plan) bytes (H.stateOf h)) ≡ runBytes bytes h
+  run-goes : (bytes : List ℕ) → valid h ≡ true → scheduleRefusal bytes ≡ 0 → laidBack h (scheduleRun (h .field .plan) bytes (H.stateOf h)) ≡ runBytes bytes h
   unfolding runBytes
   run-goes bytes e z = simp (e, eq-eqb (scheduleRefusal bytes) 0 z)
 
@@ -73,4 +73,4 @@ module _ (f : Field) (lent : List ℕ) (c : Checked) (e : c ≡ checkOf (record 
         → record { done = done; answer = answer; state = record { field = record { plan = f .plan; cells = cells; marks = marks; sent = sent }; words = words } } ≡ runBytes bytes h
     run-done bytes bad b z done answer cells marks words n sent q l k =
         ap (λ (x : Held). record { done = done; answer = answer; state = x }) (again f lent cells marks words n sent l k)
-        ∙ ap (putBack h) (q ∙ ap (scheduleRun (f .plan) bytes) (starts f lent c e)) ∙ run-goes h bytes (passes f lent c e y) (sym b ∙ z)
+        ∙ ap (laidBack h) (q ∙ ap (scheduleRun (f .plan) bytes) (starts f lent c e)) ∙ run-goes h bytes (passes f lent c e y) (sym b ∙ z)

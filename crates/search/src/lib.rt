@@ -10,7 +10,7 @@ ghost use lib.Dec.{eqb};
 ghost use Rattle.base.specs.Cond.{bit};
 ghost use Rattle.base.specs.None.{none};
 ghost use Rattle.plan.specs.Weights.{beforeIn};
-ghost use Rattle.node.specs.Work.{earliest, number, every, degree};
+ghost use Rattle.node.specs.Work.{earliest, number, anyEdge, degree};
 ghost use Rattle.search.specs.Own.{isOwn, ownIn, endIn, marksIn, marked, looked, counted};
 
 // Whether edge k ends at node v.
@@ -161,7 +161,7 @@ pub fn earliest_own<'a>(
     v: u16,
 ) -> u16
     requires { ⌜ links ≤ 600 ⌝ }
-    ensures { λ r. ⌜ r ≡ earliest (ownIn links (now (lower .entry)) (now (higher .entry)) (now (near .entry)) (now (far .entry)) v) every links ⌝ }
+    ensures { λ r. ⌜ r ≡ earliest (ownIn links (now (lower .entry)) (now (higher .entry)) (now (near .entry)) (now (far .entry)) v) anyEdge links ⌝ }
 {
     find(links, lower, higher, near, far, marks, v, NONE, 0, true)
 }

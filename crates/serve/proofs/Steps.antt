@@ -19,7 +19,7 @@ use Rattle.message.proofs.Listed.{Means, means}
 use Rattle.word.specs.Word.{headerIn, carriedIn, linkIn, laidOut, shaped}
 use Rattle.plan.specs.declared.Plan.{Plan}
 use Rattle.node.specs.declared.Node.{Node}
-use Rattle.node.specs.Work.{Own, Work, Send, BACK, ASLEEP, TAKEN, earliest, every}
+use Rattle.node.specs.Work.{Own, Work, Send, BACK, ASLEEP, TAKEN, earliest, anyEdge}
 use Rattle.node.specs.Rules.{wakeOn, wakes}
 use Rattle.act.specs.declared.Act.{Act}
 use Rattle.act.specs.Act.{workOf, Formed}
@@ -67,7 +67,7 @@ module _ (p : Plan) (v : ℕ) (s : State) where
 -- a wakeup is taken
 wake-taken : (o : Own) (n : Node) (m : ℕ → ℕ) → wakes o n m .answer ≡ TAKEN
 unfolding wakeOn
-wake-taken o n m = bool-cases (eqb (earliest o every (o.edges)) none) (λ e. rw e refl) (λ e. rw e refl)
+wake-taken o n m = bool-cases (eqb (earliest o anyEdge (o.edges)) none) (λ e. rw e refl) (λ e. rw e refl)
 
 not-put-back : (w : Work) (x : ℕ) → w .answer ≡ TAKEN → backOf w x ≡ []
 unfolding backOf

@@ -5,7 +5,7 @@ use lib.Seq.{getD-set-other}
 use lib.ListN.{length, getD, length-set}
 use borrow.Author.Needs.{needs}
 use Rattle.search.specs.Own.{ownIn}
-use Rattle.node.specs.Work.{every, number}
+use Rattle.node.specs.Work.{anyEdge, number}
 use Rattle.fieldcheck.proofs.Ends.{Counted, counted-small, counted-on}
 use Rattle.fieldcheck.proofs.count_ends.Statement.{statement}
 use Rattle.fieldcheck.proofs.count_ends.Tie as tie
@@ -95,7 +95,7 @@ returns : tie.Need-returns Inv-loop μ-loop
 returns c = λ near far v h.
     let e : c .before .loop .k ≡ c .before .before .args .links = omega arith in
     let a = c .before .before .args in
-    c .before .loop .inv .2 near far v h ∙ ap (number (ownIn (a .links) (a .lower .now) (a .higher .now) near far v) every) e
+    c .before .loop .inv .2 near far v h ∙ ap (number (ownIn (a .links) (a .lower .now) (a .higher .now) near far v) anyEdge) e
 
 pub count-ends-spec : {M : Type 1} → statement M
 count-ends-spec =
