@@ -4,6 +4,7 @@
 
 mod items;
 mod library;
+mod tally;
 
 use items::{broken, WAYS};
 use library::Record;
@@ -13,33 +14,13 @@ use oracle::rng::Rng;
 use oracle::schedule::{encode, Answer, Step};
 use oracle::{plans, rounds, schedule};
 use std::collections::BTreeMap;
+use tally::{list, Tally};
 
 const VALID: usize = 6000;
 const STEPS: usize = 5;
 const SPOILT: usize = 6000;
 const RUNS: usize = 2000;
 const ALONE: usize = 60;
-
-/// How often each answer, each kind of step taken and each kind of message served came up.
-#[derive(Default)]
-struct Tally {
-    answers: BTreeMap<u32, usize>,
-    kinds: BTreeMap<u8, usize>,
-    served: BTreeMap<u8, usize>,
-    put_backs: usize,
-    ends: BTreeMap<u32, usize>,
-}
-
-impl Tally {
-    fn answered(&self, number: u32) -> usize {
-        self.answers.get(&number).copied().unwrap_or(0)
-    }
-}
-
-fn list<K: std::fmt::Display>(counts: &BTreeMap<K, usize>) -> String {
-    let each: Vec<String> = counts.iter().map(|(key, times)| format!("{key}:{times}")).collect();
-    each.join(" ")
-}
 
 /// A field and its words before and after a call of the oracle.
 struct Case<'a> {
@@ -81,16 +62,32 @@ fn compare_step(rng: &mut Rng, tally: &mut Tally, field: &mut Field, words: &mut
     assert!(answer == 0 || field_after == *field && words_after == *words, "a refusal changes nothing");
     let case = Case { field, words, field_after: &field_after, words_after: &words_after };
     same(rng, case, answer, |record, words| record.step(words, step.kind, step.number));
-    *tally.answers.entry(answer).or_default() += 1;
-    if let Ok(done) = outcome {
-        *tally.kinds.entry(step.kind).or_default() += 1;
-        if let Some(word) = done.served {
-            *tally.served.entry(word.message.kind).or_default() += 1;
-            tally.put_backs += done.put_back as usize;
-        }
-    }
+    tally.step(field, words, step, outcome);
     (*field, *words) = (field_after, words_after);
     answer
+}
+
+/// A run of a schedule, or of rounds with a limit.
+enum Run {
+    Schedule(Vec<u8>),
+    Rounds(u16),
+}
+
+/// One run on both sides; its refusal, or 0.
+fn compare_run(rng: &mut Rng, tally: &mut Tally, field: &Field, words: &[u64], run: Run) -> u32 {
+    let (mut field_after, mut words_after) = (field.clone(), words.to_vec());
+    let (name, Answer { done, refusal }) = match &run {
+        Run::Schedule(bytes) => ("schedule", schedule::run(&mut field_after, &mut words_after, bytes)),
+        Run::Rounds(limit) => ("rounds", rounds::run(&mut field_after, &mut words_after, *limit)),
+    };
+    let refusal = refusal.unwrap_or(0);
+    let case = Case { field, words, field_after: &field_after, words_after: &words_after };
+    same(rng, case, (done as usize, refusal), |record, words| match &run {
+        Run::Schedule(bytes) => record.run(words, bytes),
+        Run::Rounds(limit) => record.rounds(words, *limit),
+    });
+    tally.count(format!("{name} ends with {refusal}"));
+    refusal
 }
 
 /// A step; most of the time one for which there is a word or a module.
@@ -150,7 +147,7 @@ fn good_step(rng: &mut Rng, field: &Field, words: &[u64]) -> Step {
 }
 
 /// Each way to break an item of 31: records in which this item alone is broken, each with a step that the sound field
-/// took. All are refused by 31 and left as they were.
+/// took, given alone and as a schedule, and with a round. All are refused by 31 and left as they were.
 fn items_alone(rng: &mut Rng, tally: &mut Tally) -> BTreeMap<&'static str, usize> {
     let mut counts = BTreeMap::new();
     for (item, way, damage) in WAYS {
@@ -162,8 +159,10 @@ fn items_alone(rng: &mut Rng, tally: &mut Tally) -> BTreeMap<&'static str, usize
             let step = good_step(rng, &field, &words);
             damage(rng, &mut field, &mut words);
             if broken(&field, &words) == [item] {
-                let answer = compare_step(rng, tally, &mut field, &mut words, step);
-                assert_eq!(answer, 31, "{item}, {way}");
+                let of_schedule = compare_run(rng, tally, &field, &words, Run::Schedule(encode(&[step])));
+                let of_rounds = compare_run(rng, tally, &field, &words, Run::Rounds(1));
+                let of_step = compare_step(rng, tally, &mut field, &mut words, step);
+                assert_eq!([of_step, of_schedule, of_rounds], [31; 3], "{item}, {way}");
                 cases += 1;
             }
         }
@@ -188,25 +187,14 @@ fn some_schedule(rng: &mut Rng, field: &Field, words: &[u64]) -> Vec<u8> {
 fn runs(rng: &mut Rng, tally: &mut Tally) {
     for i in 0..RUNS {
         let (mut field, mut words) = some_field(rng);
-        let bytes = some_schedule(rng, &field, &words);
-        let limit = rng.pick(&[0, 1, 2, 3, 20]);
+        let run = match i % 2 {
+            0 => Run::Rounds(rng.pick(&[0, 1, 2, 3, 20])),
+            _ => Run::Schedule(some_schedule(rng, &field, &words)),
+        };
         if rng.once_in(6) {
             spoil(rng, &mut field, &mut words);
         }
-        let (mut field_after, mut words_after) = (field.clone(), words.clone());
-        let in_rounds = i % 2 == 0;
-        let Answer { done, refusal } = match in_rounds {
-            true => rounds::run(&mut field_after, &mut words_after, limit),
-            false => schedule::run(&mut field_after, &mut words_after, &bytes),
-        };
-        let refusal = refusal.unwrap_or(0);
-        *tally.ends.entry(refusal).or_default() += 1;
-        let case = Case { field: &field, words: &words, field_after: &field_after, words_after: &words_after };
-        let call = |record: &mut Record, words: &mut [u64]| match in_rounds {
-            true => record.rounds(words, limit),
-            false => record.run(words, &bytes),
-        };
-        same(rng, case, (done as usize, refusal), call);
+        compare_run(rng, tally, &field, &words, run);
     }
 }
 
@@ -217,30 +205,9 @@ fn main() {
     let refused = spoilt_fields(&mut rng, &mut tally);
     let alone = items_alone(&mut rng, &mut tally);
     runs(&mut rng, &mut tally);
-
-    for number in [0, 31, 32, 33, 41, 42, 43, 44, 45, 54] {
-        let times = tally.answered(number);
-        assert!(times >= 50, "answer {number} came only {times} times: {:?}", tally.answers);
-    }
-    for number in [0, 31, 32, 33, 41, 42, 43, 44, 45, 51, 52, 53, 54] {
-        assert!(tally.ends.contains_key(&number), "no run ended with {number}: {:?}", tally.ends);
-    }
-    for kind in 1..=3 {
-        assert!(tally.kinds.contains_key(&kind), "no step of kind {kind} was taken");
-    }
-    for kind in 1..=7 {
-        assert!(tally.served.contains_key(&kind), "no message of kind {kind} was served");
-    }
     println!(
-        "fields: {VALID} valid with {STEPS} steps each, {SPOILT} spoilt ({refused} refused by 31) agree; answers {}",
-        list(&tally.answers)
+        "fields: {VALID} valid with {STEPS} steps each, {SPOILT} spoilt ({refused} refused by 31), {RUNS} runs agree"
     );
-    println!(
-        "fields: steps taken, by kind {}; messages served, by kind {}, put back {}",
-        list(&tally.kinds),
-        list(&tally.served),
-        tally.put_backs
-    );
-    println!("fields: 31 by one item alone, all refused and unchanged: {}", list(&alone));
-    println!("fields: {RUNS} runs of rounds and of schedules agree; they end with {}", list(&tally.ends));
+    println!("fields: 31 by one item alone, each in a step, a schedule and a round: {}", list(&alone));
+    tally.report();
 }

@@ -2,7 +2,7 @@
 //! setup can reach, and spoilt ones.
 
 use crate::field::{Field, Word};
-use crate::frame::{Message, CONNECT, INITIATE, TEST};
+use crate::frame::{Message, CONNECT, INITIATE, REPORT, TEST};
 use crate::plan::{Plan, NONE};
 use crate::rng::Rng;
 use crate::rules::Module;
@@ -35,7 +35,7 @@ fn module(rng: &mut Rng, plan: &Plan, v: u16) -> Module {
 }
 
 /// A listed message with a level up to the top one and carried numbers below L, on some directed link.
-fn word(rng: &mut Rng, plan: &Plan) -> u64 {
+fn word(rng: &mut Rng, plan: &Plan) -> Word {
     let (links, top) = (plan.links.len(), plan.top_level() as usize);
     let kind = rng.range(1, 7) as u8;
     let carried = rng.below(links) as u16;
@@ -43,23 +43,52 @@ fn word(rng: &mut Rng, plan: &Plan) -> u64 {
         CONNECT => Message::connect(rng.range(0, top) as u16),
         INITIATE => Message::initiate(rng.range(1, top) as u16, carried, rng.once_in(2)),
         TEST => Message::test(rng.range(1, top) as u16, carried),
-        6 => Message::report(if rng.once_in(3) { NONE } else { carried }),
+        REPORT => Message::report(if rng.once_in(3) { NONE } else { carried }),
         _ => Message::bare(kind),
     };
-    Word { message, directed: rng.below(2 * links) as u16, handed: !rng.once_in(3) }.pack()
+    Word { message, directed: rng.below(2 * links) as u16, handed: !rng.once_in(3) }
 }
 
-/// A valid field over a good plan, with its words.
+/// Lets a message meet what it rarely meets at random: a Test its own fragment and the module's own Test, a Report the
+/// in-branch, or the last one due no in-branch.
+fn meet(rng: &mut Rng, field: &mut Field, word: &mut Word) {
+    let (v, j) = (field.target(word.directed), word.directed / 2);
+    let Some(module) = field.modules.get_mut(v as usize) else { return };
+    let due = rng.pick(&[module.find_count, 0]);
+    match word.message.kind {
+        TEST if module.identity != NONE => {
+            word.message = Message::test(module.level, module.identity);
+            *module = Module { test_edge: j, find_count: due, ..*module };
+        }
+        REPORT if rng.once_in(2) => module.in_branch = j,
+        REPORT => *module = Module { in_branch: NONE, test_edge: NONE, find_count: 1, ..*module },
+        _ => {}
+    }
+}
+
+/// A valid field over a good plan, with its words; of a small plan now and then with a full store.
 pub fn drawn(rng: &mut Rng, plan: &Plan) -> (Field, Vec<u64>) {
     let most = plan.ceiling() as usize;
-    let waiting = if plan.links.is_empty() { 0 } else { rng.below(most.min(12) + 1) };
-    let mut words: Vec<u64> = (0..waiting).map(|_| word(rng, plan)).collect();
-    words.resize(most + rng.pick(&[0, 0, 1, 5]), 0);
+    let full = most <= 100 && rng.once_in(8);
+    let waiting = match plan.links.len() {
+        0 => 0,
+        _ if full => most,
+        _ => rng.below(most.min(12) + 1),
+    };
     // a sent count near M brings 33
     let sent = if rng.once_in(4) { most - rng.below(3.min(most - waiting + 1)) } else { rng.range(waiting, most) };
     let marks = plan.links.iter().map(|_| [rng.below(3) as u8, rng.below(3) as u8]).collect();
     let modules = (0..plan.modules).map(|v| module(rng, plan, v)).collect();
-    (Field { plan: plan.clone(), modules, marks, sent: sent as u32 }, words)
+    let mut field = Field { plan: plan.clone(), modules, marks, sent: sent as u32 };
+    let mut words: Vec<Word> = (0..waiting).map(|_| word(rng, plan)).collect();
+    for word in &mut words {
+        if rng.once_in(2) {
+            meet(rng, &mut field, word);
+        }
+    }
+    let mut words: Vec<u64> = words.iter().map(Word::pack).collect();
+    words.resize(most + if full { 0 } else { rng.pick(&[0, 0, 1, 5]) }, 0);
+    (field, words)
 }
 
 /// Changes one value of a field or its words. Most changes bring 31, some leave the field valid.

@@ -10,6 +10,8 @@ pub const REJECT: u8 = 5;
 pub const REPORT: u8 = 6;
 pub const CHANGE_ROOT: u8 = 7;
 
+pub const NAMES: [&str; 8] = ["", "Connect", "Initiate", "Test", "Accept", "Reject", "Report", "Change-root"];
+
 /// Carried numbers in a frame are below this; in a field's words they are below L.
 pub const CARRIED_BOUND: u16 = 600;
 

@@ -7,7 +7,7 @@
 mod events;
 mod schedules;
 
-use events::{Events, WANTED};
+use events::Events;
 use oracle::compare::same_output;
 use oracle::rng::Rng;
 use oracle::trace::trace;
@@ -37,6 +37,6 @@ fn main() {
     } else {
         events.print();
     }
-    let missed: Vec<&str> = WANTED.into_iter().filter(|event| events.of(event) == 0).collect();
-    assert!(missed.is_empty(), "never reached: {missed:?}");
+    let missed = events.missed(count as usize);
+    assert!(missed.is_empty(), "reached too rarely: {missed:?}");
 }

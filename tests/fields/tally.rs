@@ -1,0 +1,113 @@
+//! Counts what the calls come to: how each ends, what a step took, put back or met on a full store, and why 32 refused.
+
+use oracle::field::{waiting, Done, Field, HAND_OVER};
+use oracle::frame::{ACCEPT, CONNECT, INITIATE, NAMES, REJECT, REPORT, TEST};
+use oracle::rules::{ASLEEP, BASIC};
+use oracle::schedule::Step;
+use std::collections::BTreeMap;
+
+#[derive(Default)]
+pub struct Tally(BTreeMap<String, usize>);
+
+/// What must come up, by the start of its name, and how often at least: about half as often as with the seed of main.rs.
+#[rustfmt::skip]
+const WANTED: [(&str, &[(&str, usize)]); 6] = [
+    ("step ends with", &[
+        ("0", 4000), ("31", 3400), ("32", 1600), ("33", 600), ("41", 500), ("42", 450), ("43", 2500), ("44", 2200),
+        ("45", 3000), ("54", 500),
+    ]),
+    ("schedule ends with", &[
+        ("0", 60), ("31", 1400), ("32", 35), ("33", 14), ("41", 15), ("42", 9), ("43", 60), ("44", 60), ("45", 70),
+        ("51", 12), ("52", 11), ("53", 40), ("54", 40),
+    ]),
+    ("rounds ends with", &[("0", 160), ("31", 1400), ("32", 230), ("33", 45)]),
+    ("32:", &[
+        ("Initiate, asleep", 200), ("Accept, asleep", 200), ("Reject, asleep", 200), ("Report, asleep", 200),
+        ("Change-root, asleep", 200), ("Connect, level", 30), ("Connect, find-count", 40),
+        ("Initiate, find-count", 50), ("Test, in-branch none", 18), ("Accept, in-branch none", 70),
+        ("Reject, in-branch none", 35), ("Reject, Test at level 0", 55), ("Report, find-count", 100),
+        ("Report, in-branch none", 110), ("Report, best edge none", 11), ("Change-root, best edge none", 150),
+    ]),
+    ("taken:", &[
+        ("woken", 900), ("handed over", 1200), ("served Connect", 170), ("served Initiate", 250), ("served Test", 180),
+        ("served Accept", 270), ("served Reject", 240), ("served Report", 120), ("served Change-root", 180),
+        ("served Connect at a sleeper", 80), ("put back Connect", 90), ("put back Test", 170),
+        ("put back Report", 70), ("put back Connect at a sleeper", 25), ("put back Test at a sleeper", 120),
+    ]),
+    ("full store:", &[
+        ("handed over", 130), ("put back Connect", 5), ("put back Test", 12), ("put back Report", 4),
+        ("served Accept", 20), ("served Initiate", 7), ("served Reject", 10), ("served Report", 8),
+        ("refused 33", 220),
+    ]),
+];
+
+impl Tally {
+    pub fn count(&mut self, event: impl Into<String>) {
+        *self.0.entry(event.into()).or_default() += 1;
+    }
+
+    /// A step given alone, by the field and the words before it.
+    pub fn step(&mut self, field: &Field, words: &[u64], step: Step, outcome: Result<Done, u32>) {
+        self.count(format!("step ends with {}", outcome.err().unwrap_or(0)));
+        let full = !words.is_empty() && waiting(words) == words.len();
+        match outcome {
+            Err(32) => self.count(format!("32: {}", cause(field, words, step.number))),
+            Err(33) if full => self.count("full store: refused 33"),
+            Ok(done) => self.taken(field, step, done, full),
+            _ => {}
+        }
+    }
+
+    fn taken(&mut self, field: &Field, step: Step, done: Done, full: bool) {
+        let what = match done.served {
+            None if step.kind == HAND_OVER => "handed over".to_string(),
+            None => "woken".to_string(),
+            Some(word) => {
+                let asleep = field.modules[step.number as usize].status == ASLEEP;
+                let fate = if done.put_back { "put back" } else { "served" };
+                let at = if asleep { " at a sleeper" } else { "" };
+                format!("{fate} {}{at}", NAMES[word.message.kind as usize])
+            }
+        };
+        if full {
+            self.count(format!("full store: {what}"));
+        }
+        self.count(format!("taken: {what}"));
+    }
+
+    /// Prints how often each event came up. What must come up did, often enough.
+    pub fn report(&self) {
+        for (start, events) in WANTED {
+            let named = self.0.iter().filter_map(|(event, times)| Some((event.strip_prefix(start)?.trim(), *times)));
+            let counts: BTreeMap<&str, usize> = named.collect();
+            println!("fields: {start} {}", list(&counts));
+            for (event, least) in events {
+                let times = counts.get(event).copied().unwrap_or(0);
+                assert!(times >= *least, "{start} {event}: {times} times, {least} wanted");
+            }
+        }
+    }
+}
+
+pub fn list(counts: &BTreeMap<&str, usize>) -> String {
+    let each: Vec<String> = counts.iter().map(|(event, times)| format!("{event} {times}")).collect();
+    each.join("; ")
+}
+
+/// Which of document 01's causes of 32 holds, for a service of module v that it refused.
+fn cause(field: &Field, words: &[u64], v: u16) -> String {
+    let word = field.next_in_queue(words, v).expect("32 refuses services");
+    let (module, message, j) = (field.modules[v as usize], word.message, word.directed / 2);
+    let basic_left = || field.own_marks(v).iter().any(|m| m.1 == BASIC && m.0 != j);
+    let why = match message.kind {
+        _ if module.status == ASLEEP => "asleep",
+        CONNECT if message.level >= module.level => "level",
+        CONNECT | INITIATE => "find-count",
+        REJECT if basic_left() => "Test at level 0",
+        REPORT if j != module.in_branch && module.find_count == 0 => "find-count",
+        REPORT if j != module.in_branch => "in-branch none",
+        TEST | ACCEPT | REJECT => "in-branch none",
+        _ => "best edge none",
+    };
+    format!("{}, {why}", NAMES[message.kind as usize])
+}
