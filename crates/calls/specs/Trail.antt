@@ -1,15 +1,16 @@
--- The steps that a list of calls takes, each with the state it was taken in; the messages sent and the modules woken in them.
+-- The steps that a list of calls takes, each with the state it was taken in; the messages sent and consumed and the modules woken in them.
 use Prim.Native.Nat.{ℕ, _*_}
-use mathlib.Core.Bool.{Bool, cond, _&&_, _||_}
+use mathlib.Core.Bool.{Bool, cond, not, _&&_, _||_}
 use mathlib.Core.List.{List, [], _∷_, _++_}
 use lib.ListN.{length, getD}
 use lib.Dec.{eqb}
+use Rattle.base.specs.Cond.{bit}
 use Rattle.base.specs.Loop.{loopTrace, runsTrace}
 use Rattle.base.specs.Pool.{sumL}
 use Rattle.message.specs.Header.{kindAt}
 use Rattle.word.specs.Word.{headerIn}
 use Rattle.plan.specs.declared.Plan.{Plan}
-use Rattle.node.specs.Work.{ASLEEP}
+use Rattle.node.specs.Work.{ASLEEP, BACK}
 use Rattle.field.specs.State.{State, nodeAt}
 use Rattle.field.specs.Step.{place, inAir, inQueue, wakeWork, serveWork, hand, serve, step}
 use Rattle.field.specs.Held.{Held, stateOf, valid}
@@ -66,6 +67,15 @@ sendsOf p t =
 
 abbrev pub messagesSent : Plan → List Taken → ℕ
 messagesSent p l = sumL (sendsOf p) l
+
+-- 1 for "a service that does not put it back"
+unfoldable pub consumes : Plan → Taken → ℕ
+consumes p t =
+    bit (eqb (t .kind) 3 && not (eqb (serveWork p (t .number) (servedWord p (t .number) (t .at)) (t .at) .answer) BACK))
+
+-- how many messages were consumed
+abbrev pub consumed : Plan → List Taken → ℕ
+consumed p l = sumL (consumes p) l
 
 -- "A module is woken by a wake step that is taken, or by serving a Connect or Test asleep."
 abbrev pub connectOrTest : ℕ → Bool

@@ -4,7 +4,7 @@ use mathlib.Core.Path.{_≡_, refl, sym, ap, ap₂, subst, _∙_, fun-ext}
 use mathlib.Core.Logic.{_≢_, _⊎_, inl, inr, ⊎-elim}
 use mathlib.Core.Bool.{true, false, cond, true≢false}
 use mathlib.Core.List.{List, [], _∷_, _++_, append-assoc, append-nil}
-use Rattle.base.specs.Cond.{bool-cases, eqb-same, eqb-diff, upd2, upd2-elim}
+use Rattle.base.specs.Cond.{bool-cases, upd2, upd2-elim}
 use Rattle.base.specs.Pool.{All, nil, con}
 use Rattle.base.specs.Keep.{First, first-passes}
 use Rattle.message.specs.Msg.{Msg}
@@ -16,7 +16,7 @@ use Rattle.field.specs.Edges.{isOwn, over, linkOf, from}
 use Rattle.field.specs.State.{msgIn, posted}
 use Rattle.field.specs.Step.{inAir, inQueue}
 use Rattle.fieldlaws.specs.Chan.{chan, ups, downs, hand-chan, queue-parts, take-own, take-other, back-own, back-other}
-use Rattle.fieldlaws.specs.Sends.{Packs, onto, post-chan}
+use Rattle.fieldlaws.specs.Sends.{Packs, onto, onto-nil, onto-here, onto-else, post-chan, post-away}
 use Rattle.fieldlaws.specs.Places.{link-over, from-over, from-own, over-from, ends-apart}
 use Rattle.bridge.specs.Real.{post}
 use Rattle.bridge.specs.Place.{post-pop}
@@ -44,32 +44,19 @@ module _ (p : Plan) where
   over-other u v j k a b (inr d) e = d (sym (link-over p u j) ∙ ap linkOf e ∙ link-over p v k)
 
   module _ (v : ℕ) where
-    -- one send more
-    onto-here : (j : ℕ) (m : Msg) (l : List Send) → onto p v (over p v j) (record { edge = j; msg = m } ∷ l) ≡ m ∷ onto p v (over p v j) l
-    unfolding onto
-    onto-here j m l = rw (eqb-same (over p v j))
-
-    onto-else : (d : ℕ) (x : Send) (l : List Send) → over p v (x .edge) ≢ d → onto p v d (x ∷ l) ≡ onto p v d l
-    unfolding onto
-    onto-else d x l n = rw (eqb-diff (over p v (x .edge)) d n)
-
-    onto-nil : (d : ℕ) → onto p v d [] ≡ []
-    unfolding onto
-    onto-nil d = refl
-
     -- a table c of channels, after v's sends: at another's link, and at v's own
     post-mine : (c : ℕ → ℕ → List Msg) {l : List Send} → All (λ x. isOwn p v (x .edge) ≡ true) l → (u k : ℕ) → isOwn p u k ≡ true
         → post c v l u k ≡ c u k ++ onto p v (over p u k) l
     unfolding post
-    post-mine c nil u k o = sym (ap (λ x. c u k ++ x) (onto-nil (over p u k)) ∙ append-nil (c u k))
+    post-mine c nil u k o = sym (ap (λ x. c u k ++ x) (onto-nil p v (over p u k)) ∙ append-nil (c u k))
     post-mine c (con {x} {xs} h t) u k o =
         let j = x .edge in
         let c₁ = upd2 c v j (c v j ++ (x .msg ∷ [])) in
         post-mine c₁ t u k o
         ∙ upd2-elim (λ y. y ++ onto p v (over p u k) xs ≡ c u k ++ onto p v (over p u k) (x ∷ xs)) c v j (c v j ++ (x .msg ∷ [])) u k
         (λ a b. ap₂ (λ y z. (c y z ++ (x .msg ∷ [])) ++ onto p v (over p u k) xs) a b ∙ append-assoc (c u k) (x .msg ∷ []) (onto p v (over p u k) xs)
-        ∙ ap (λ y. c u k ++ y) (sym (subst (λ d. onto p v d (x ∷ xs) ≡ x .msg ∷ onto p v d xs) (ap₂ (over p) a b) (onto-here j (x .msg) xs))))
-        (λ n. ap (λ y. c u k ++ y) (sym (onto-else (over p u k) x xs (over-other v u j k h o n))))
+        ∙ ap (λ y. c u k ++ y) (sym (subst (λ d. onto p v d (x ∷ xs) ≡ x .msg ∷ onto p v d xs) (ap₂ (over p) a b) (onto-here p v j (x .msg) xs))))
+        (λ n. ap (λ y. c u k ++ y) (sym (onto-else p v (over p u k) x xs (over-other v u j k h o n))))
 
     post-none : (c : ℕ → ℕ → List Msg) {l : List Send} → All (λ x. isOwn p v (x .edge) ≡ true) l → (u k : ℕ) → isOwn p u k ≡ false → post c v l u k ≡ c u k
     unfolding post
@@ -86,11 +73,6 @@ module _ (p : Plan) where
         (λ b. chans-own (words ++ posted p v l) u k b ∙ post-chan p v (over p u k) words h ∙ ap (λ c. c ++ onto p v (over p u k) l) (sym (chans-own words u k b))
         ∙ sym (post-mine (chans p words) o u k b))
         (λ b. chans-not (words ++ posted p v l) u k b ∙ sym (post-none (chans p words) o u k b ∙ chans-not words u k b))))
-
-    -- nothing of v's goes by another's link
-    pub onto-other : {l : List Send} → All (λ x. isOwn p v (x .edge) ≡ true) l → (u k : ℕ) → isOwn p u k ≡ true → u ≢ v → onto p v (over p u k) l ≡ []
-    onto-other nil u k o d = onto-nil (over p u k)
-    onto-other (con {x} {xs} h t) u k o d = onto-else (over p u k) x xs (over-other v u (x .edge) k h o (inl (λ q. d (sym q)))) ∙ onto-other t u k o d
 
 -- LAW 2: a hand-over leaves the channels
 pub chans-hand : (p : Plan) (d x : ℕ) (s r : List ℕ) → First (inAir d) s x r → shaped x ≡ true → chans p (r ++ (handOver x ∷ [])) ≡ chans p s
@@ -153,8 +135,7 @@ module _ (p : Plan) (a : Accepted p) (v x : ℕ) (s r : List ℕ) (o : First (in
 
     pub split : chans p r u k ≡ ahead p v x r sends ++ behind p v x r sends
     unfolding chan
-    split = at-d r ∙ sym (post-chan p v d r h
-        ∙ ap (λ c. chan d r ++ c) (subst (λ y. onto p v y sends ≡ []) (over-from p a d l) (onto-other p v q u k u-own sender)) ∙ append-nil (chan d r))
+    split = at-d r ∙ sym (post-away p v d r h q sender)
 
     pub chans-back : chans p (t ++ (x ∷ [])) ≡ post (upd2 (chans p s) u k (ahead p v x r sends ++ (msgIn x ∷ behind p v x r sends))) v sends
     chans-back =

@@ -3,14 +3,14 @@
 use Prim.Native.Nat.{ℕ, _+_}
 use native.Mathlib.Omega.{arith}
 use mathlib.Core.Path.{_≡_, refl, sym, ap, subst}
-use mathlib.Core.Bool.{not, cond, _&&_}
+use mathlib.Core.Bool.{not, cond}
 use mathlib.Core.List.{List, [], _∷_, _++_}
 use lib.ListN.{length, length-append}
 use lib.Dec.{eqb}
 use Rattle.base.specs.Cond.{bit, eqb-diff}
 use Rattle.base.specs.Loop.{After}
 use Rattle.base.specs.LoopLaws.{by-test}
-use Rattle.base.specs.Pool.{sumL, sumL-app}
+use Rattle.base.specs.Pool.{sumL-app}
 use Rattle.base.specs.Keep.{first-out}
 use Rattle.word.specs.Word.{handOver}
 use Rattle.plan.specs.declared.Plan.{Plan}
@@ -18,19 +18,11 @@ use Rattle.node.specs.Work.{Work, BACK}
 use Rattle.field.specs.State.{State, posted}
 use Rattle.field.specs.Step.{wakeWork, serveWork, backOf, step}
 use Rattle.calls.specs.Call.{Call}
-use Rattle.calls.specs.Trail.{Taken, ifTaken, stepsOf, servedWord, sendsOf, messagesSent}
+use Rattle.calls.specs.Trail.{Taken, ifTaken, stepsOf, sendsOf, messagesSent, consumes, consumed}
 use Rattle.fieldlaws.specs.Cases.{refusal-some, Outcome, took, kept, Step, wake-step, hand-step, serve-step, steps}
 use Rattle.fieldlaws.specs.Sends.{length-posted}
 use Rattle.fieldlaws.specs.Keeps.{out-length}
 use Rattle.fieldlaws.specs.Trace.{onState, call-tells}
-
--- 1 for a service that does not put its word back
-unfoldable pub consumes : Plan → Taken → ℕ
-consumes p t =
-    bit (eqb (t .kind) 3 && not (eqb (serveWork p (t .number) (servedWord p (t .number) (t .at)) (t .at) .answer) BACK))
-
-abbrev pub consumed : Plan → List Taken → ℕ
-consumed p l = sumL (consumes p) l
 
 -- from x the steps l were taken and left y
 pub record Counted (p : Plan) (x : State) (l : List Taken) (y : State) : Type 0 where
@@ -96,3 +88,7 @@ module _ (p : Plan) where
   -- THE LAW for every call
   pub call-counts : (c : Call) (s : State) → Counted p s (stepsOf p c s) (onState p c s .state)
   call-counts c s = call-tells p (Counted p) counted-none counted-more step-counts c s
+
+-- where as many wait as were sent, it stays so but for what is consumed
+pub counted-waiting : {p : Plan} {x y : State} {l : List Taken} → Counted p x l y → length (x .words) ≡ x .sent → length (y .words) + consumed p l ≡ y .sent
+counted-waiting c e = omega (arith, c .sent, c .waiting, e)

@@ -1,10 +1,11 @@
 pub mod Chan
+pub mod Places
 pub mod Sends
 pub mod Cases
-pub mod Places
 pub mod Lists
 pub mod Fits
 pub mod Keeps
+pub mod Channels
 pub mod Trace
 pub mod Counts
 pub mod Laid

@@ -4,9 +4,9 @@ use mathlib.Core.Bool.{cond}
 use mathlib.Core.List.{List}
 use lib.Dec.{eqb}
 use denote.Ref.{RefT, now}
-use Rattle.calls.specs.Schedule.{stepsIn, kindOf, numberOf}
+use Rattle.calls.specs.declared.Step.{Step}
+use Rattle.calls.specs.Schedule.{stepsIn, stepOf}
 use Rattle.reader.specs.declared.Schedule.{Schedule}
-use Rattle.reader.specs.declared.Step.{Step}
 
 -- how many steps stand from a place on
 abbrev pub leftFrom : List ℕ → ℕ → ℕ
@@ -14,7 +14,7 @@ leftFrom bytes at = stepsIn bytes - at
 
 -- the step at a place; past the last step kind 0 and number 0, which is no step
 abbrev pub stepFrom : List ℕ → ℕ → Step
-stepFrom bytes at = cond (eqb (leftFrom bytes at) 0) (record { kind = 0; number = 0 }) (record { kind = kindOf bytes at; number = numberOf bytes at })
+stepFrom bytes at = cond (eqb (leftFrom bytes at) 0) (record { kind = 0; number = 0 }) (stepOf bytes at)
 
 -- the place after a place: past the last step it stays
 abbrev pub placeAfter : List ℕ → ℕ → ℕ

@@ -10,13 +10,11 @@ use lib.Dec.{eqb, ltb}
 use borrow.Author.Tests.{ne-eqb}
 use denote.Ref.{RefT, now}
 use Rattle.base.specs.Test.{every, every-all}
-use Rattle.base.specs.Loop.{After, runs}
 use Rattle.plan.specs.declared.Plan.{Plan}
 use Rattle.field.specs.State.{State}
-use Rattle.field.specs.Step.{step}
-use Rattle.calls.specs.Schedule.{stepsIn, kindOf, numberOf, lengthFits, kindListed, scheduleRefusal, stepAt, never, scheduleRun}
+use Rattle.calls.specs.declared.Step.{Step}
+use Rattle.calls.specs.Schedule.{stepsIn, kindOf, lengthFits, kindListed, scheduleRefusal, scheduleRun, stepOf, stepsFrom, scheduleSteps, listRun, run-list}
 use Rattle.reader.specs.declared.Schedule.{Schedule}
-use Rattle.reader.specs.declared.Step.{Step}
 use Rattle.reader.specs.Reader.{leftFrom, opened, leftOf, readOf}
 
 -- the reader after n reads
@@ -28,19 +26,6 @@ after (suc n) s = readOf (after n s) .reader
 unfoldable pub reads : ℕ → Schedule → List Step
 reads zero s = []
 reads (suc n) s = readOf s .step ∷ reads n (readOf s .reader)
-
--- step i as `stepAt` runs it
-abbrev pub stepOf : List ℕ → ℕ → Step
-stepOf bytes i = record { kind = kindOf bytes i; number = numberOf bytes i }
-
--- n steps from step i on
-unfoldable pub stepsFrom : List ℕ → ℕ → ℕ → List Step
-stepsFrom bytes i zero = []
-stepsFrom bytes i (suc n) = stepOf bytes i ∷ stepsFrom bytes (suc i) n
-
--- a step that a reader gives, taken on a state
-abbrev pub stepRead : Plan → Schedule → State → After State
-stepRead p r s = step p (readOf r .step .kind) (readOf r .step .number) s
 
 -- a schedule that is taken has listed kinds only
 pub taken-kinds : (s : List ℕ) → scheduleRefusal s ≡ 0 → (i : ℕ) → i < stepsIn s → kindListed (kindOf s i) ≡ true
@@ -87,7 +72,7 @@ module _ (bytes : RefT (List ℕ)) where
   all-left = omega arith
 
   -- as many reads as steps are left give the schedule's steps, in order
-  pub reads-all : reads (leftOf (opened bytes)) (opened bytes) ≡ stepsFrom (now bytes) 0 (stepsIn (now bytes))
+  pub reads-all : reads (leftOf (opened bytes)) (opened bytes) ≡ scheduleSteps (now bytes)
   reads-all = rw all-left (reads-from (stepsIn (now bytes)) 0 (omega arith))
 
   -- and then none is left
@@ -98,11 +83,6 @@ module _ (bytes : RefT (List ℕ)) where
   pub read-listed : scheduleRefusal (now bytes) ≡ 0 → (i : ℕ) → i < leftOf (opened bytes) → kindListed (readOf (after i (opened bytes)) .step .kind) ≡ true
   read-listed fine i l = rw (read-nth i (omega arith)) (taken-kinds (now bytes) fine i (omega arith))
 
-  same-run : (p : Plan) (s : State) (n : ℕ) → n ≤ stepsIn (now bytes) → runs never n (stepAt p (now bytes)) s ≡ runs never n (λ i. stepRead p (after i (opened bytes))) s
-  unfolding runs
-  same-run p s zero l = refl
-  same-run p s (suc n) l = rw (same-run p s n (omega arith), read-nth n l) refl
-
   -- the run of a schedule is the run of what the reader gives
-  pub run-read : (p : Plan) (s : State) → scheduleRun p (now bytes) s ≡ runs never (leftOf (opened bytes)) (λ i. stepRead p (after i (opened bytes))) s
-  run-read p s = rw all-left (same-run p s (stepsIn (now bytes)) (omega arith))
+  pub run-read : (p : Plan) (s : State) → scheduleRun p (now bytes) s ≡ listRun p 0 (reads (leftOf (opened bytes)) (opened bytes)) s
+  run-read p s = rw reads-all (run-list p (now bytes) s)

@@ -2,16 +2,11 @@
 // The borrow checker covers no function over such a struct, so `open`, `left` and `next` are proved by hand; the work is in the functions on bytes.
 ghost use mathlib.Core.Path.{_≡_};
 ghost use Rattle.reader.specs.Reader.{leftFrom, stepFrom, placeAfter, opened, leftOf, readOf};
+use calls::Step;
 
 pub struct Schedule<'a> {
     pub bytes: &'a [u8],
     pub at: usize,
-}
-
-// Kind 0 is no step: there is none at that place.
-pub struct Step {
-    pub kind: u8,
-    pub number: u16,
 }
 
 // How many steps stand from a place on.
@@ -28,7 +23,7 @@ fn left_from(bytes: &[u8], at: usize) -> usize
     n - at
 }
 
-// The step at a place.
+// The step at a place. Kind 0 is no step: there is none at that place.
 fn step_from(bytes: &[u8], at: usize) -> Step
     ensures { λ r. ⌜ r ≡ stepFrom (now (bytes .entry)) at ⌝ }
 {

@@ -27,13 +27,13 @@ use Rattle.calls.specs.Demand.{TreeLink, Allowed, Agreed, Settles, Claim, Deman
 use Rattle.fieldlaws.specs.Cases.{Outcome, took, kept, steps}
 use Rattle.fieldlaws.specs.Keeps.{Sound, step-keeps}
 use Rattle.fieldlaws.specs.Trace.{onState, call-keeps}
-use Rattle.fieldlaws.specs.Counts.{Counted}
+use Rattle.fieldlaws.specs.Counts.{Counted, counted-waiting}
 use Rattle.fieldlaws.specs.Laid.{Live, live-sound, does-live, does-state, state-of-does, plan-of-does, answer-of-does}
-use Rattle.fieldlaws.specs.After.{started, begun-live, after-live, after-plan, list-tells, list-counts, list-keeps}
+use Rattle.fieldlaws.specs.After.{started, begun-live, after-live, after-plan, list-counts, list-keeps}
 use Rattle.roundlaws.specs.Progress.{Blocked}
 use Rattle.roundlaws.specs.Calm.{Calm}
 use Rattle.roundlaws.specs.Rest.{rested}
-use Rattle.roundlaws.specs.Awake.{Awake, Wakes, wakes-none, wakes-more, step-wakes}
+use Rattle.roundlaws.specs.Awake.{Awake, list-wakes}
 
 -- What the protocol has to show: an invariant Good of the states of accepted plan p, with these facts.
 pub record Protocol (p : Plan) (Good : State → Type 0) : Type 0 where
@@ -149,10 +149,11 @@ module _ (p : Plan) (a : Accepted p) (Good : State → Type 0) (proto : Protocol
       let g′ = list-keeps p Good (proto .keeps) cs h i e g in
       let s′ = sound-held h′ i′ e′ in
       let c = subst (λ q. Counted q (stateOf h) (trail cs h) (stateOf h′)) e (list-counts cs h i) in
-      let w = list-tells p (λ x l y. Sound p x → Wakes p x l y) (wakes-none p a) (wakes-more p a) (step-wakes p a) cs h i e (sound-held h i e) in
+      let w = list-wakes p a cs h i e in
       record {
         branches = proto .branches (stateOf h′) s′ g′;
         exact = c .sent ∙ omega (arith, z);
+        waiting = counted-waiting c (omega (arith, z, sound-held h i e .fits .waiting));
         ceiling = s′ .fits .ceiling;
         refusals = allowed cs h i e g;
         agreed = λ n r. let k = one-of n (w .woken) in proto .agreed (stateOf h′) s′ g′ (k .0) (k .1) r;

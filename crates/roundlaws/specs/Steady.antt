@@ -5,12 +5,13 @@ use mathlib.Core.Path.{_≡_, refl, sym, subst}
 use mathlib.Core.Logic.{_≢_, _⊎_, inl, inr}
 use mathlib.Core.Bool.{Bool, true, false, cond, _&&_}
 use lib.Dec.{eqb, ltb, leb}
-use Rattle.base.specs.Cond.{eqb-cases, ltb-cases}
+use Rattle.base.specs.Cond.{eqb-cases, ltb-cases, eqb-diff}
 use Rattle.base.specs.LoopLaws.{by-test}
 use Rattle.message.specs.Msg.{Msg, none, connect, initiate, test, accept, reject, report, change}
+use Rattle.message.specs.Header.{msgOf}
 use Rattle.node.specs.declared.Node.{Node}
 use Rattle.node.specs.Work.{Own, Work, ASLEEP, FIND, FOUND, BASIC, BRANCH, BACK, REFUSED, before, putBack, refused, send, withNode, setTest, setCount, number, earliest, anyEdge, branches, degree}
-use Rattle.node.specs.Rules.{wakeOn, wakeup, awake, doReport, testOn, doTest, changeRoot, countUp, absorb, coreEnd, onConnect, told, seek, onInitiate, strike, onTest, childReport, coreReport, onReport, respondTo}
+use Rattle.node.specs.Rules.{wakeOn, wakeup, awake, doReport, testOn, doTest, changeRoot, countUp, absorb, coreEnd, onConnect, told, seek, onInitiate, strike, onTest, childReport, coreReport, onReport, unlessAsleep, respondTo}
 use Rattle.node.specs.Laws.{awake-wakes, awake-is, asleep-refused, asleep-not}
 
 -- not put back, and awake
@@ -130,3 +131,15 @@ ends-asleep o limit j accept w a e = inl (rw (asleep-refused w _ e) refl)
 ends-asleep o limit j reject w a e = inl (rw (asleep-refused w _ e) refl)
 ends-asleep o limit j (report x) w a e = inl (rw (asleep-refused w _ e) refl)
 ends-asleep o limit j change w a e = inl (rw (asleep-refused w _ e) refl)
+
+-- so whatever is no Connect and no Test is refused there
+pub refused-asleep : (o : Own) (limit j : ℕ) (w : Work) → w .node .status ≡ ASLEEP → (kind level carried find : ℕ) → kind ≢ 1 → kind ≢ 3
+    → respondTo o limit (msgOf kind level carried find) j w .answer ≡ REFUSED
+unfolding msgOf respondTo
+refused-asleep o limit j w e kind level carried find n₁ n₃ =
+    let no32 : (r : Work) → unlessAsleep w r .answer ≡ REFUSED = λ r. rw (asleep-refused w r e) refl in
+    rw (eqb-diff kind 1 n₁, eqb-diff kind 3 n₃)
+    (by-test (eqb kind 2) (λ b. respondTo o limit (cond b (initiate level carried find) (cond (eqb kind 4) accept (cond (eqb kind 5) reject (cond (eqb kind 6) (report carried) change)))) j w .answer ≡ REFUSED) (no32 _)
+    (by-test (eqb kind 4) (λ b. respondTo o limit (cond b accept (cond (eqb kind 5) reject (cond (eqb kind 6) (report carried) change))) j w .answer ≡ REFUSED) (no32 _)
+    (by-test (eqb kind 5) (λ b. respondTo o limit (cond b reject (cond (eqb kind 6) (report carried) change)) j w .answer ≡ REFUSED) (no32 _)
+    (by-test (eqb kind 6) (λ b. respondTo o limit (cond b (report carried) change) j w .answer ≡ REFUSED) (no32 _) (no32 _)))))

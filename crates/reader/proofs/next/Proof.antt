@@ -45,11 +45,11 @@ use denote.Triple.Table.{entered, cited}
 use denote.Triple.Walked.{says, Stays, stay-ref, walkOf, goes-ref, Walks, ends-at, walked, walk-meets}
 use Rattle.reader.specs.Reader.{Read, stepFrom, placeAfter}
 use Rattle.reader.specs.declared.Schedule.{Schedule}
-use Rattle.reader.specs.declared.Step.{Step}
+use Rattle.calls.specs.declared.Step.{Step}
 use Rattle.reader.proofs.Schedule as T
 use Rattle.reader.proofs.Schedule.Laws as T′
-use Rattle.reader.proofs.Step as S
-use Rattle.reader.proofs.Step.Laws as S′
+use Rattle.calls.proofs.Step as S
+use Rattle.calls.proofs.Step.Laws as S′
 use Rattle.reader.proofs.step_from as step
 use Rattle.reader.proofs.step_from.Symbol as step-def
 use Rattle.reader.proofs.step_from.Symbol.{name as #reader·step-from}
