@@ -1,5 +1,5 @@
 -- The ceiling of the sent count, M, and what is known of it. Code, protocol and field cite these laws and do not open the formula.
-use Prim.Native.Nat.{ℕ, zero, suc, _+_, _*_, _^_, _≤_, _<_}
+use Prim.Native.Nat.{ℕ, _+_, _*_, _^_, _≤_, _<_}
 use native.Mathlib.Omega.{arith}
 use native.Mathlib.Nat.{mul-le-mul}
 use native.Mathlib.Decide.{decLe}
@@ -21,20 +21,16 @@ within-ceiling n l many few = by-cases (decLe 2 n) (λ h. omega (arith, many h, 
     mul : (a b : ℕ) → a * (5 * b) ≡ 5 * a * b
     mul a b = omega arith
 
--- a logarithm of 16 bits, and the first term
-log2-fits : (n : ℕ) → n < 2 ^ 16 → log2 n ≤ 15
-unfolding log2
-log2-fits zero h = omega arith
-log2-fits (suc n) h = omega (arith, log2-lt 16 (suc n) (omega arith) h)
-
+-- of 16 bits
 pub first-term-fits : (n : ℕ) → n < 2 ^ 16 → firstTerm n ≤ 4915125
 first-term-fits n h =
     let first : 5 * n ≤ 327675 = omega arith in
-    mul-le-mul first (log2-fits n h)
+    let level : log2 n ≤ 15 = omega (arith, log2-lt 16 n (omega arith) h) in
+    mul-le-mul first level
 
 -- of the largest plan: 192 nodes, 600 edges
-pub ceiling-most : (n l : ℕ) → 1 ≤ n → n ≤ 192 → l ≤ 600 → ceiling n l ≤ 7920
-ceiling-most n l some few short =
+pub ceiling-most : (n l : ℕ) → n ≤ 192 → l ≤ 600 → ceiling n l ≤ 7920
+ceiling-most n l few short =
     let first : 5 * n ≤ 960 = omega arith in
-    let level : log2 n ≤ 7 = omega (arith, log2-lt 8 n some (omega arith)) in
+    let level : log2 n ≤ 7 = omega (arith, log2-lt 8 n (omega arith) (omega arith)) in
     omega (arith, mul-le-mul first level)

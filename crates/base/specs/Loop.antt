@@ -23,6 +23,10 @@ module _ {S : Type 0} where
   abbrev pub refused : ℕ → S → After S
   refused number x = record { answer = number; state = x }
 
+  -- a call that answers r, on x: what it leaves where that is 0
+  abbrev pub answering : ℕ → S → S → After S
+  answering r x left = record { answer = r; state = cond (eqb r 0) left x }
+
   -- g on what a leaves, unless a was refused
   unfoldable pub then : After S → (S → After S) → After S
   then a g = cond (eqb (a .answer) 0) (g (a .state)) a

@@ -1,8 +1,8 @@
 -- Tests: of all numbers below n; the answer of a decision, and back.
-use Prim.Native.Nat.{ℕ, zero, suc, _<_}
+use Prim.Native.Nat.{ℕ, zero, suc, _-_, _≤_, _<_}
 use native.Mathlib.Omega.{arith}
 use native.Mathlib.Nat.{not-suc-le-zero}
-use mathlib.Core.Path.{_≡_, refl, sym, _∙_}
+use mathlib.Core.Path.{_≡_, refl, sym, ap, _∙_}
 use mathlib.Core.Bool.{Bool, true, false, cond, true≢false}
 use Rattle.base.specs.Cond.{bool-cases}
 use Rattle.base.specs.Search.{lt-suc-cases}
@@ -22,6 +22,26 @@ pub all-every : (n : ℕ) (p : ℕ → Bool) → ((k : ℕ) → k < n → p k �
 unfolding every
 all-every zero p h = refl
 all-every (suc n) p h = rw (h n (omega arith)) (all-every n p (λ k l. h k (omega arith)))
+
+pub every-ext : (n : ℕ) (p q : ℕ → Bool) → ((k : ℕ) → k < n → p k ≡ q k) → every n p ≡ every n q
+unfolding every
+every-ext zero p q h = refl
+every-ext (suc n) p q h = rw (h n (omega arith), every-ext n p q (λ k l. h k (omega arith)))
+
+-- as a loop tests, from the last down
+module _ (p : ℕ → Bool) (v : ℕ) (l : 0 < v) where
+  pub every-goes-on : p (v - 1) ≡ true → every v p ≡ every (v - 1) p
+  unfolding every
+  every-goes-on e = (let s : v ≡ suc (v - 1) = omega arith in ap (λ n. every n p) s) ∙ rw e
+
+  pub every-stops : p (v - 1) ≡ false → every v p ≡ false
+  unfolding every
+  every-stops e = (let s : v ≡ suc (v - 1) = omega arith in ap (λ n. every n p) s) ∙ rw e
+
+pub every-of-none : (p : ℕ → Bool) (v : ℕ) → v ≤ 0 → every v p ≡ true
+unfolding every
+every-of-none p zero l = refl
+every-of-none p (suc v) l = absurd (omega arith)
 
 -- the answer of a decision
 unfoldable pub decided : {A : Type 0} → Dec A → Bool

@@ -1,14 +1,15 @@
 -- A message by its numbers: the header that the code packs is the message's.
-use Prim.Native.Nat.{ℕ, _<_}
+use Prim.Native.Nat.{ℕ}
 use mathlib.Core.Path.{_≡_, refl, sym, ap, _∙_}
 use mathlib.Core.Logic.{_≢_}
 use mathlib.Core.List.{List, [], _∷_}
 use borrow.Author.Tests.{ne-eqb}
 use Rattle.base.specs.None.{none}
 use Rattle.message.specs.Msg.{Msg, connect, initiate, test, accept, reject, report, change}
-use Rattle.message.specs.Header.{Parts, parts, partsOf, headerByte}
+use Rattle.message.specs.Header.{Parts, parts, partsOf, headerByte, headerFrom}
+use Rattle.message.specs.Byte.{from-fits}
 use Rattle.message.specs.Listed.{Listed}
-use Rattle.message.proofs.Listed.{in-bits}
+use Rattle.message.specs.Means.{in-bits}
 use Rattle.word.specs.Word.{packed}
 use Rattle.search.specs.Own.{endIn}
 use Rattle.act.specs.declared.Out.{Out}
@@ -32,10 +33,10 @@ module _ (x : Out) (e : outFor (x .to) (msgIn x) ≡ x) where
   pub out-parts : partsIn x ≡ partsOf (msgIn x)
   out-parts = ap partsIn (sym e) ∙ for-parts (x .to) (msgIn x)
 
-  pub out-bits : Listed (msgIn x) → (x .kind < 8) × (x .level < 8) × (x .find < 2)
-  out-bits l =
+  pub out-header : Listed (msgIn x) → headerFrom (x .kind) (x .level) (x .find) ≡ headerByte (x .kind) (x .level) (x .find)
+  out-header l =
       let b = in-bits (msgIn x) l in
-      (rw (ap (λ (p : Parts). p .kind) out-parts) (b .kind), rw (ap (λ (p : Parts). p .level) out-parts) (b .level), rw (ap (λ (p : Parts). p .find) out-parts) (b .find))
+      from-fits (x .kind) (x .level) (x .find) (rw (ap (λ (p : Parts). p .kind) out-parts) (b .kind)) (rw (ap (λ (p : Parts). p .level) out-parts) (b .level)) (rw (ap (λ (p : Parts). p .find) out-parts) (b .find))
 
   -- the word that the code packs
   pub out-word : (lower : List ℕ) (v : ℕ) → packed (headerByte (x .kind) (x .level) (x .find)) (x .carried) (endIn lower v (x .to)) 0 ≡ wordIn lower v (record { edge = x .to; msg = msgIn x })

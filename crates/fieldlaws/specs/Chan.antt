@@ -11,7 +11,7 @@ use Rattle.base.specs.Keep.{keep, keep-app, keep-one, keep-none, First, first-p
 use Rattle.message.specs.Msg.{Msg}
 use Rattle.message.specs.Header.{kindAt, levelAt, findAt, msgOf}
 use Rattle.word.specs.Word.{headerIn, carriedIn, linkIn, handedIn, shaped, handOver}
-use Rattle.word.proofs.Laws.{Unpacked, over}
+use Rattle.word.specs.Laws.{Unpacked, over}
 use Rattle.plan.specs.declared.Plan.{Plan}
 use Rattle.field.specs.Edges.{dest}
 use Rattle.field.specs.State.{msgIn}

@@ -15,10 +15,10 @@ use Rattle.base.specs.Pool.{All, nil, con, All-map}
 use Rattle.message.specs.Msg.{Msg, connect, initiate, test, accept, reject, report, change}
 use Rattle.message.specs.Header.{partsOf, headerOf, carriedOf, levelAt}
 use Rattle.message.specs.Listed.{Listed, listed}
-use Rattle.message.proofs.Byte.{parts-of-byte}
-use Rattle.message.proofs.Listed.{Means, means, in-bits, header-lt}
+use Rattle.message.specs.Byte.{parts-of-byte}
+use Rattle.message.specs.Means.{Means, means, in-bits, header-lt}
 use Rattle.word.specs.Word.{headerIn, carriedIn, linkIn, laidOut, shaped, handOver}
-use Rattle.word.proofs.Laws.{unpacked, over, over-laid-out, packs-laid-out}
+use Rattle.word.specs.Laws.{unpacked, over, over-laid-out, packs-laid-out}
 use Rattle.plan.specs.declared.Plan.{Plan}
 use Rattle.node.specs.declared.Node.{Node}
 use Rattle.node.specs.Work.{Own, Send, FOUND, REJECTED}

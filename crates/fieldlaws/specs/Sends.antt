@@ -12,7 +12,7 @@ use Rattle.base.specs.Pool.{All, nil, con}
 use Rattle.message.specs.Msg.{Msg}
 use Rattle.message.specs.Listed.{Listed}
 use Rattle.word.specs.Word.{Waiting, linkIn, handedIn}
-use Rattle.word.proofs.Laws.{waiting-back}
+use Rattle.word.specs.Laws.{waiting-back}
 use Rattle.plan.specs.declared.Plan.{Plan}
 use Rattle.node.specs.Work.{Send}
 use Rattle.search.specs.Laws.{end-small}

@@ -1,5 +1,4 @@
 // Radio frames: checked, read and written.
-ghost use Prim.Native.Nat.{_<_};
 ghost use mathlib.Core.Path.{_≡_};
 ghost use lib.ListN.{length};
 ghost use Rattle.frame.specs.Frame.{frameBytes, frameRefusal, frameRead, frameWritten};

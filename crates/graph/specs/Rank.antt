@@ -5,7 +5,7 @@ use native.Mathlib.Decide.{decLe}
 use mathlib.Core.Path.{_≡_, sym, ap, _∙_}
 use mathlib.Core.Logic.{_⊎_, inl, inr, by-cases}
 use mathlib.Core.Bool.{true, false, true≢false}
-use Rattle.base.specs.Cond.{bool-cases, by-eq, bit, bit-le, bit-mono}
+use Rattle.base.specs.Cond.{by-eq, bit, bit-le, bit-mono}
 use Rattle.base.specs.Sum.{sum, sum-lt, sum-const}
 use Rattle.graph.specs.Graph.{Graph, Way}
 use Rattle.graph.specs.Order.{Order, InTree}
@@ -32,9 +32,6 @@ module _ {L : ℕ} (o : Order L) where
   pub rank-not-earlier : (a b : ℕ) → a < L → b < L → o.earlier a b ≡ false → rank o b ≤ rank o a
   rank-not-earlier a b la lb e = by-cases (decLe (rank o b) (rank o a)) (λ h. h)
       (λ n. absurd (true≢false (sym (rank-earlier a b la lb (omega arith)) ∙ e)))
-
-  pub rank-le : (a b : ℕ) → a < L → rank o b ≤ rank o a → o.earlier a b ≡ false
-  rank-le a b la h = bool-cases (o.earlier a b) (λ e. absurd (omega (arith, rank-lt a b la e))) (λ e. e)
 
   pub rank-bound : (k : ℕ) → k < L → rank o k < L
   unfolding rank

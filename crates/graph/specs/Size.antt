@@ -2,12 +2,12 @@
 use Prim.Native.Nat.{ℕ, suc, _+_, _^_, _≤_, _<_, zero-le}
 use native.Mathlib.Omega.{arith}
 use native.Mathlib.Nat.{pow-suc}
-use mathlib.Core.Path.{_≡_, refl, sym, ap, _∙_}
+use mathlib.Core.Path.{_≡_, sym, ap, _∙_}
 use mathlib.Core.Logic.{_≢_}
 use lib.Dec.{eqb}
 use lib.Pow.{pow-mono}
 use Rattle.base.specs.Cond.{bit, bit-le, eqb-cases, eqb-same, eqb-diff}
-use Rattle.base.specs.Sum.{sum, sum-le, sum-eq, sum-add, sum-const, sum-single, le-sum}
+use Rattle.base.specs.Sum.{sum, sum-le, sum-eq, sum-add, sum-const, sum-single}
 use Rattle.base.specs.Log.{log2, level-le}
 use Rattle.graph.specs.Labels.{rename, rename-elim}
 
@@ -36,11 +36,6 @@ module _ (N : ℕ) (fr : ℕ → ℕ) where
 
   pub size-le : (a : ℕ) → size N fr a ≤ N
   size-le a = let d : a ≢ suc a = λ q. absurd (omega arith) in omega (arith, size-two a (suc a) d)
-
-  -- a node counts for its own part
-  pub size-pos : (w : ℕ) → w < N → 1 ≤ size N fr (fr w)
-  unfolding size
-  size-pos w l = omega (arith, le-sum N w (λ v. bit (eqb (fr v) (fr w))) l, ap bit (eqb-same (fr w)))
 
   -- LEVELS: a part of at least 2 ^ k nodes
   pub level-one : (a k : ℕ) → 2 ^ k ≤ size N fr a → k ≤ log2 N
@@ -90,12 +85,6 @@ module _ (N : ℕ) (fr : ℕ → ℕ) (a b : ℕ) where
   unfolding size
   size-merge n = sum-eq N (λ w. bit (eqb (rename a b (fr w)) b)) (λ w. bit (eqb (fr w) a) + bit (eqb (fr w) b)) (λ w l. bit-merge (fr w) n)
       ∙ sum-add N (λ w. bit (eqb (fr w) a)) (λ w. bit (eqb (fr w) b))
-
-  -- and other parts keep theirs
-  pub size-other : (c : ℕ) → a ≢ c → b ≢ c → size N (λ w. rename a b (fr w)) c ≡ size N fr c
-  unfolding size
-  size-other c na nb = sum-eq N (λ w. bit (eqb (rename a b (fr w)) c)) (λ w. bit (eqb (fr w) c))
-      (λ w l. rename-elim (λ y. bit (eqb y c) ≡ bit (eqb (fr w) c)) a b (fr w) (λ p. rw (eqb-diff b c nb, p, eqb-diff a c na)) (λ p. refl))
 
 -- at the start each node is a part
 pub size-start : (N w : ℕ) → w < N → size N (λ v. v) w ≡ 1

@@ -32,7 +32,3 @@ module _ (g : Graph) (o : Order (g.L)) where
   -- a way over tree edges only
   pub spans : {S : ℕ → Type 0} {u v : ℕ} → Way g S u v → Way g (InTree g (o.earlier)) u v
   spans w = through (λ e a b j s. wider (λ f l t. t .0) (spans-edge e a b j)) w
-
-  -- and with no edge later than those of the way
-  pub spans-to : (r : ℕ) {u v : ℕ} → Way g (λ f. rank o f ≤ r) u v → Way g (TreeTo r) u v
-  spans-to r w = through (λ e a b j s. wider (λ f l t. (t .0, omega (arith, t .1))) (spans-edge e a b j)) w

@@ -1,10 +1,7 @@
 -- An integer and its two bytes determine each other.
 use Prim.Native.Nat.{ℕ, _+_, _*_, _/_, _%_, _<_}
 use mathlib.Core.Path.{_≡_}
-use mathlib.Core.List.{List, _∷_}
 use native.Mathlib.Omega.{arith}
-use lib.ListN.{getD}
-use Rattle.int16.specs.Int16.{at16}
 
 pub joined : (x : ℕ) → x / 256 * 256 + x % 256 ≡ x
 joined x = omega arith

@@ -1,10 +1,28 @@
-use Prim.Native.Nat.{ℕ}
+-- Laws of the labels, as the code keeps them.
+use Prim.Native.Nat.{ℕ, suc, _<_}
 use mathlib.Core.Path.{_≡_, refl, _∙_}
+use mathlib.Core.Bool.{Bool, true}
 use mathlib.Core.List.{List}
 use lib.ListN.{length, getD}
-use Rattle.base.specs.Table.{tabulate, tabulated}
+use Rattle.base.specs.Table.{tabulate, tabulated, tabulate-ext, getD-tabulate}
+use Rattle.graph.specs.Graph.{Graph}
 use Rattle.graph.specs.Labels.{rename, rename-elim}
+use Rattle.graph.specs.Decide.{label}
 
 -- a part that joins itself
 pub rename-same : (a b : ℕ) (n : ℕ) (s : List ℕ) → length s ≡ n → a ≡ b → s ≡ tabulate n (λ v. rename a b (getD s v 0))
 rename-same a b n s e q = tabulated n (λ v. rename a b (getD s v 0)) s e (λ k l. rename-elim (λ x. getD s k 0 ≡ x) a b (getD s k 0) (λ h. h ∙ q) (λ h. refl))
+
+-- all edges
+abbrev pub all : ℕ → Bool
+all k = true
+
+-- edge k is added to the labels
+pub merge-turn : (g : Graph) (k n : ℕ) (s : List ℕ) → s ≡ tabulate n (label g all k) → g.lo k < n → g.hi k < n
+    → tabulate n (λ v. rename (getD s (g.lo k) 0) (getD s (g.hi k) 0) (getD s v 0)) ≡ tabulate n (label g all (suc k))
+unfolding label
+merge-turn g k n s e lo hi = tabulate-ext n (λ v. rename (getD s (g.lo k) 0) (getD s (g.hi k) 0) (getD s v 0)) (label g all (suc k))
+    (λ v l. rw (at (g.lo k) lo, at (g.hi k) hi, at v l))
+  where
+    at : (v : ℕ) → v < n → getD s v 0 ≡ label g all k v
+    at v l = rw e (getD-tabulate n (label g all k) v l)

@@ -1,9 +1,13 @@
 // Labels of parts in an array (quick-find): each node has its part's label, and two parts become one by renaming one of
 // them. The loops over 192 bytes are vectorised.
 ghost use mathlib.Core.Path.{_≡_};
+ghost use mathlib.Core.Bool.{true};
+ghost use Prim.Native.Nat.{ℕ, _<_, _≤_};
 ghost use lib.ListN.{length, getD};
 ghost use Rattle.base.specs.Table.{tabulate};
 ghost use Rattle.graph.specs.Labels.{rename};
+ghost use Rattle.graph.specs.Decide.{label};
+ghost use Rattle.labels.specs.Columns.{edges};
 
 // Each node is a part of its own.
 pub fn number(parts: &mut [u8; 192])
@@ -43,5 +47,20 @@ pub fn join(parts: &mut [u8; 192], from: u8, to: u8)
 {
     if from != to {
         relabel(parts, from, to);
+    }
+}
+
+// The labels of the parts that the first l edges join.
+pub fn merge<'a>(l: usize, lower: &'a [u16; 600], higher: &'a [u16; 600], parts: &mut [u8; 192])
+    requires { ⌜ (length (now parts) ≡ 192) × (l ≤ 600) × ((k : ℕ) → k < l → (getD (now lower) k 0 < 192) × (getD (now higher) k 0 < 192)) ⌝ }
+    ensures { λ _. ⌜ now (parts .exit) ≡ tabulate 192 (label (edges l (now (lower .entry)) (now (higher .entry))) (λ _. true) l) ⌝ }
+{
+    number(parts);
+    let mut k: usize = 0;
+    while k < l {
+        let a = parts[lower[k] as usize];
+        let b = parts[higher[k] as usize];
+        join(parts, a, b);
+        k += 1;
     }
 }

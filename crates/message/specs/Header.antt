@@ -1,12 +1,16 @@
 -- The header byte: its layout, and the header byte and carried number of each message.
 use Prim.Native.Nat.{ℕ, _+_, _*_, _/_, _%_, _^_}
-use mathlib.Core.Bool.{cond}
-use lib.Dec.{eqb}
+use mathlib.Core.Bool.{cond, _&&_}
+use lib.Dec.{eqb, ltb}
 use Rattle.message.specs.Msg.{none, Msg, connect, initiate, test, accept, reject, report, change}
 
 -- "Header bits 0 to 2 are the kind, 3 to 5 the level, bit 6 is 1 for Find, bit 7 is 0."
 abbrev pub headerByte : ℕ → ℕ → ℕ → ℕ
 headerByte kind level find = find * 2 ^ 6 + level * 2 ^ 3 + kind
+
+-- of any numbers: 255, whose bit 7 no message has, where one does not fit its bits
+unfoldable pub headerFrom : ℕ → ℕ → ℕ → ℕ
+headerFrom kind level find = cond (ltb kind (2 ^ 3) && ltb level (2 ^ 3) && ltb find 2) (headerByte kind level find) 255
 
 abbrev pub kindAt : ℕ → ℕ
 kindAt h = h % 2 ^ 3

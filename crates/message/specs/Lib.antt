@@ -1,3 +1,5 @@
 pub mod Msg
 pub mod Header
+pub mod Byte
 pub mod Listed
+pub mod Means

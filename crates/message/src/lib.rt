@@ -1,8 +1,7 @@
 // Messages between neighbours: the header byte taken apart and put together, and which messages are listed.
 use base::NONE;
-ghost use Prim.Native.Nat.{ℕ, _<_};
 ghost use mathlib.Core.Path.{_≡_};
-ghost use Rattle.message.specs.Header.{headerByte, kindAt, levelAt, findAt};
+ghost use Rattle.message.specs.Header.{headerFrom, kindAt, levelAt, findAt};
 ghost use Rattle.message.specs.Listed.{bare, listedAs, listed};
 
 // The kind, bits 0 to 2 of a header.
@@ -26,11 +25,19 @@ pub fn find(header: u8) -> u8
     (header >> 6) & 1
 }
 
-// The header of a kind, level and Find bit.
+// The header of a kind, level and Find bit; 255, which no message has, where one of them has more bits than its place.
 pub fn header(kind: u8, level: u16, find: u8) -> u8
-    requires { ⌜ (kind < 8) × (level < 8) × (find < 2) ⌝ }
-    ensures { λ r. ⌜ r ≡ headerByte kind level find ⌝ }
+    ensures { λ r. ⌜ r ≡ headerFrom kind level find ⌝ }
 {
+    if 8 <= kind {
+        return 255;
+    }
+    if 8 <= level {
+        return 255;
+    }
+    if 2 <= find {
+        return 255;
+    }
     kind | ((level as u8) << 3) | (find << 6)
 }
 

@@ -1,3 +1,3 @@
-pub mod Laws
+pub mod Order
 pub mod Labels
 pub mod Verdict

@@ -2,7 +2,7 @@
 use Prim.Native.Nat.{ℕ, zero, suc, _+_, _-_, _≤_, _<_}
 use native.Mathlib.Omega.{arith}
 use native.Mathlib.Numerals.{add-one}
-use mathlib.Core.Path.{_≡_, refl, ap, _∙_}
+use mathlib.Core.Path.{_≡_, refl, sym, ap, _∙_}
 use mathlib.Core.Logic.{_≢_}
 use mathlib.Core.Bool.{Bool, true, false}
 use mathlib.Core.List.{List}
@@ -13,8 +13,8 @@ use Rattle.base.specs.Cond.{bool-cases}
 use Rattle.plan.specs.declared.Plan.{Plan}
 use Rattle.graph.specs.Decide.{connected}
 use Rattle.plan.specs.Links.{low, high, graphOf}
-use Rattle.plan.specs.Accepted.{link-accepted, links-accepted}
-use Rattle.plan.specs.Refusal.{ascends, inOrder, linkVerdict, linkRefusal, linksRefusal, planRefusal}
+use Rattle.plan.specs.Accepted.{Counts, counted, link-accepted, links-accepted}
+use Rattle.plan.specs.Refusal.{countsRefusal, ascends, inOrder, linkVerdict, linkRefusal, linksRefusal, planRefusal}
 
 -- THE ORDER OF TWO LINKS
 
@@ -82,33 +82,48 @@ links-over p l k m = (let e : l - k ≡ 0 = omega arith in ap (λ n. linksRefusa
 pub ends-inside : (p : Plan) → p .modules ≤ 192 → linksRefusal p (p .links) 0 ≡ 0 → (k : ℕ) → k < p .links → (low p k < 192) × (high p k < 192)
 ends-inside p n z k l = let o = link-accepted p k (links-accepted p (p .links) 0 z k (omega arith) (omega arith)) in (omega (arith, o .ordered, o .inside), omega (arith, o .inside))
 
+-- N AND L
+
+module _ (n l : ℕ) (fits : Bool) where
+  pub c-nobody : n ≡ 0 → 14 ≡ countsRefusal n l fits
+  c-nobody e = rw (eq-eqb n 0 e)
+
+  module _ (a : n ≢ 0) where
+    pub c-modules : 192 < n → 14 ≡ countsRefusal n l fits
+    c-modules h = rw (ne-eqb n 0 a, lt-ltb 192 n h)
+
+    module _ (b : n ≤ 192) where
+      pub c-links : 600 < l → 15 ≡ countsRefusal n l fits
+      c-links h = rw (ne-eqb n 0 a, le-ltb 192 n b, lt-ltb 600 l h)
+
+      module _ (d : l ≤ 600) where
+        pub c-length : fits ≡ false → 15 ≡ countsRefusal n l fits
+        c-length h = rw (ne-eqb n 0 a, le-ltb 192 n b, le-ltb 600 l d, h)
+
+        pub c-fine : fits ≡ true → 0 ≡ countsRefusal n l fits
+        c-fine h = rw (ne-eqb n 0 a, le-ltb 192 n b, le-ltb 600 l d, h)
+
+pub c-limits : (n l : ℕ) {r : ℕ} → r ≡ countsRefusal n l true → r ≡ 0 → Counts n l
+c-limits n l e z = counted n l true (sym e ∙ z) .0
+
 -- THE PLAN
 
-module _ (p : Plan) where
-  pub p-nobody : p .modules ≡ 0 → 14 ≡ planRefusal p
+module _ (p : Plan) (n : ℕ) (a : n ≡ countsRefusal (p .modules) (p .links) true) where
+  pub p-counts : n ≢ 0 → n ≡ planRefusal p
   unfolding planRefusal
-  p-nobody e = rw (eq-eqb (p .modules) 0 e)
+  p-counts d = rw (← a, ne-eqb n 0 d)
 
-  module _ (a : p .modules ≢ 0) where
-    pub p-modules : 192 < p .modules → 14 ≡ planRefusal p
-    unfolding planRefusal
-    p-modules h = rw (ne-eqb (p .modules) 0 a, lt-ltb 192 (p .modules) h)
-
-    module _ (b : p .modules ≤ 192) where
-      pub p-links : 600 < p .links → 15 ≡ planRefusal p
+  module _ (b : n ≡ 0) where
+    module _ (r : ℕ) (e : r ≡ linksRefusal p (p .links) 0) where
+      pub p-link : r ≢ 0 → r ≡ planRefusal p
       unfolding planRefusal
-      p-links h = rw (ne-eqb (p .modules) 0 a, le-ltb 192 (p .modules) b, lt-ltb 600 (p .links) h)
+      p-link h = rw (← a, eq-eqb n 0 b, ← e, ne-eqb r 0 h)
 
-      module _ (d : p .links ≤ 600) (r : ℕ) (e : r ≡ linksRefusal p (p .links) 0) where
-        pub p-link : r ≢ 0 → r ≡ planRefusal p
+      module _ (z : r ≡ 0) where
+        pub p-fine : connected (graphOf p) (p .modules) ≡ true → 0 ≡ planRefusal p
         unfolding planRefusal
-        p-link h = rw (ne-eqb (p .modules) 0 a, le-ltb 192 (p .modules) b, le-ltb 600 (p .links) d, ← e, ne-eqb r 0 h)
+        p-fine h = rw (← a, eq-eqb n 0 b, ← e, eq-eqb r 0 z, h)
 
-        module _ (z : r ≡ 0) where
-          pub p-fine : connected (graphOf p) (p .modules) ≡ true → 0 ≡ planRefusal p
-          unfolding planRefusal
-          p-fine h = rw (ne-eqb (p .modules) 0 a, le-ltb 192 (p .modules) b, le-ltb 600 (p .links) d, ← e, eq-eqb r 0 z, h)
-
-          pub p-apart : connected (graphOf p) (p .modules) ≡ false → 19 ≡ planRefusal p
-          unfolding planRefusal
-          p-apart h = rw (ne-eqb (p .modules) 0 a, le-ltb 192 (p .modules) b, le-ltb 600 (p .links) d, ← e, eq-eqb r 0 z, h)
+        pub p-apart : connected (graphOf p) (p .modules) ≡ false → 19 ≡ planRefusal p
+        unfolding planRefusal
+        p-apart h = rw (← a, eq-eqb n 0 b, ← e, eq-eqb r 0 z, h)

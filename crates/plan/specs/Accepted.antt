@@ -2,14 +2,14 @@
 use Prim.Native.Nat.{ℕ, zero, suc, _+_, _≤_, _<_}
 use native.Mathlib.Omega.{arith}
 use mathlib.Core.Path.{_≡_, refl, subst}
-use mathlib.Core.Bool.{Bool, true, false, cond, true≢false, _||_}
-use lib.Dec.{eqb}
+use mathlib.Core.Bool.{Bool, true}
 use borrow.Author.Tests.{ltb-false, leb-false, le-ltb, lt-leb, eqb-false, ne-eqb, not-false}
-use Rattle.base.specs.Cond.{eqb-cases, by-eq}
+use Rattle.base.specs.Cond.{by-eq}
+use Rattle.base.specs.Refuse.{fine, fine-first, first-fine, or-false}
 use Rattle.graph.specs.Decide.{Connected, connected-ways, ways-connected}
 use Rattle.plan.specs.declared.Plan.{Plan}
 use Rattle.plan.specs.Links.{low, high, readLow, readHigh, graphOf}
-use Rattle.plan.specs.Refusal.{orElse, first, inOrder, linkVerdict, linkRefusal, linksRefusal, planRefusal}
+use Rattle.plan.specs.Refusal.{countsRefusal, inOrder, linkVerdict, linkRefusal, linksRefusal, planRefusal}
 
 -- link k is as document 01 says
 pub record LinkOk (p : Plan) (k : ℕ) : Type 0 where
@@ -26,20 +26,28 @@ pub record Accepted (p : Plan) : Type 0 where
   pub each : (k : ℕ) → k < p .links → LinkOk p k
   pub whole : Connected (graphOf p) (p .modules)
 
--- no refusal: the test says no, and nor does what follows
-pub fine : (b : Bool) (n : ℕ) {r : ℕ} → orElse b (suc n) r ≡ 0 → (b ≡ false) × (r ≡ 0)
-fine true n e = absurd (omega arith)
-fine false n e = (refl, e)
+-- N and L within their limits
+pub record Counts (n l : ℕ) : Type 0 where
+  pub someone : 1 ≤ n
+  pub modulesOk : n ≤ 192
+  pub linksOk : l ≤ 600
 
-pub fine-first : (r : ℕ) {s : ℕ} → first r s ≡ 0 → (r ≡ 0) × (s ≡ 0)
-fine-first r {s} = eqb-cases r 0 (λ b. cond b s r ≡ 0 → (r ≡ 0) × (s ≡ 0)) (λ e h. (e, h)) (λ d h. absurd (d h))
+pub counted : (n l : ℕ) (fits : Bool) → countsRefusal n l fits ≡ 0 → Counts n l × (fits ≡ true)
+counted n l fits h =
+    let f14 = fine _ 13 h in
+    let f15 = fine _ 14 (f14 .1) in
+    let a = or-false _ _ (f14 .0) in
+    let b = or-false _ _ (f15 .0) in
+    (record { someone = nonzero (eqb-false n 0 (a .0)); modulesOk = ltb-false _ _ (a .1); linksOk = ltb-false _ _ (b .0) }, not-false _ (b .1))
+  where
+    nonzero : (n ≡ 0 → ⊥) → 1 ≤ n
+    nonzero d = omega arith
 
-pub first-fine : {r s : ℕ} → r ≡ 0 → s ≡ 0 → first r s ≡ 0
-first-fine {r} {s} e f = rw e f
-
-pub or-false : (a b : Bool) → (a || b) ≡ false → (a ≡ false) × (b ≡ false)
-or-false true b e = absurd (true≢false e)
-or-false false b e = (refl, e)
+pub counted-back : (n l : ℕ) → Counts n l → countsRefusal n l true ≡ 0
+counted-back n l o = rw (ne-eqb n 0 nobody, le-ltb 192 n (o .modulesOk), le-ltb 600 l (o .linksOk))
+  where
+    nobody : n ≡ 0 → ⊥
+    nobody e = omega (arith, o .someone)
 
 module _ (p : Plan) where
   pub link-accepted : (k : ℕ) → linkRefusal p k ≡ 0 → LinkOk p k
@@ -83,32 +91,21 @@ module _ (p : Plan) where
   pub accepted : planRefusal p ≡ 0 → Accepted p
   unfolding planRefusal
   accepted h =
-      let f14 = fine _ 13 h in
-      let f15 = fine _ 14 (f14 .1) in
-      let fl = fine-first _ (f15 .1) in
+      let f = fine-first _ h in
+      let o = counted (p .modules) (p .links) true (f .0) .0 in
+      let fl = fine-first _ (f .1) in
       let f19 = fine _ 18 (fl .1) in
-      let n = or-false _ _ (f14 .0) in
       record {
-        someone = nonzero (p .modules) (n .0);
-        modulesOk = ltb-false _ _ (n .1);
-        linksOk = ltb-false _ _ (f15 .0);
+        someone = o .someone;
+        modulesOk = o .modulesOk;
+        linksOk = o .linksOk;
         each = λ k l. link-accepted k (links-accepted (p .links) 0 (fl .0) k (omega arith) (omega arith));
         whole = connected-ways _ _ (not-false _ (f19 .0));
       }
-    where
-      nonzero : (n : ℕ) → eqb n 0 ≡ false → 1 ≤ n
-      nonzero n e = let d = eqb-false n 0 e in omega arith
 
   -- AND BACK
   pub accepted-back : Accepted p → planRefusal p ≡ 0
   unfolding planRefusal
-  accepted-back a = rw (
-    ne-eqb (p .modules) 0 (λ e. nobody e),
-    le-ltb 192 (p .modules) (a .modulesOk),
-    le-ltb 600 (p .links) (a .linksOk),
-    accepted-links (p .links) 0 (λ j l m. accepted-link j (a .each j (omega arith))),
-    ways-connected (graphOf p) (p .modules) (a .whole),
-  )
-    where
-      nobody : p .modules ≡ 0 → ⊥
-      nobody e = omega (arith, a .someone)
+  accepted-back a =
+      first-fine (counted-back (p .modules) (p .links) (record { someone = a .someone; modulesOk = a .modulesOk; linksOk = a .linksOk }))
+      (first-fine (accepted-links (p .links) 0 (λ j l m. accepted-link j (a .each j (omega arith)))) (rw (ways-connected (graphOf p) (p .modules) (a .whole))))

@@ -11,8 +11,8 @@ use Rattle.plan.specs.Accepted.{Accepted, accepted}
 
 -- an accepted plan's levels fit three bits
 pub level-small : (p : Plan) → Accepted p → log2 (p .modules) < 8
-level-small p a = log2-lt 8 (p .modules) (a .someone) (omega (arith, a .modulesOk))
+level-small p a = log2-lt 8 (p .modules) (omega arith) (omega (arith, a .modulesOk))
 
 -- the ceiling of the largest plan
 pub ceiling-small : (p : Plan) → planRefusal p ≡ 0 → ceiling (p .modules) (p .links) ≤ 7920
-ceiling-small p a = let k = accepted p a in ceiling-most (p .modules) (p .links) (k .someone) (k .modulesOk) (k .linksOk)
+ceiling-small p a = let k = accepted p a in ceiling-most (p .modules) (p .links) (k .modulesOk) (k .linksOk)

@@ -4,6 +4,7 @@ use mathlib.Core.List.{List}
 use lib.ListN.{getD}
 use Rattle.plan.specs.declared.Plan.{Plan}
 use Rattle.graph.specs.Graph.{Graph}
+pub use Rattle.labels.specs.Columns.{edges}
 
 -- "for each link lower module, higher module, reading at the lower, reading at the higher"
 abbrev pub low : Plan → ℕ → ℕ
@@ -23,8 +24,5 @@ abbrev pub planOf : ℕ → ℕ → List ℕ → List ℕ → List ℕ → List 
 planOf n l lower higher near far = record { modules = n; links = l; lower = lower; higher = higher; near = near; far = far }
 
 -- modules are the nodes, links the edges
-abbrev pub edges : ℕ → List ℕ → List ℕ → Graph
-edges l lower higher = record { L = l; lo = λ k. getD lower k 0; hi = λ k. getD higher k 0 }
-
 abbrev pub graphOf : Plan → Graph
 graphOf p = edges (p .links) (p .lower) (p .higher)

@@ -1,20 +1,17 @@
 -- The refusals of a plan value, "by the first number that applies".
 use Prim.Native.Nat.{ℕ, zero, suc}
-use mathlib.Core.Bool.{Bool, true, cond, not, _&&_, _||_}
+use mathlib.Core.Bool.{Bool, true, not, _&&_, _||_}
 use mathlib.Core.List.{List}
 use lib.ListN.{getD}
 use lib.Dec.{eqb, ltb, leb}
+use Rattle.base.specs.Refuse.{orElse, first}
 use Rattle.plan.specs.declared.Plan.{Plan}
 use Rattle.plan.specs.Links.{low, high, readLow, readHigh, graphOf}
 use Rattle.graph.specs.Decide.{connected}
 
--- the number where the test says so, else what follows
-abbrev pub orElse : Bool → ℕ → ℕ → ℕ
-orElse bad number rest = cond bad number rest
-
--- the first refusal of two; 0 is none
-abbrev pub first : ℕ → ℕ → ℕ
-first r rest = cond (eqb r 0) rest r
+-- "14 N is 0 or above 192; 15 L above 600 or not fitting the length": of a plan value and of its bytes
+abbrev pub countsRefusal : ℕ → ℕ → Bool → ℕ
+countsRefusal n l fits = orElse (eqb n 0 || ltb 192 n) 14 (orElse (ltb 600 l || not fits) 15 0)
 
 -- "Links ascend strictly by (lower, higher)"
 unfoldable pub ascends : ℕ → ℕ → ℕ → ℕ → Bool
@@ -40,10 +37,9 @@ unfoldable pub linksRefusal : Plan → ℕ → ℕ → ℕ
 linksRefusal p zero k = 0
 linksRefusal p (suc n) k = first (linkRefusal p k) (linksRefusal p n (suc k))
 
--- "14 N is 0 or above 192; 15 L above 600 ..; then for each link ..; at the end 19 not connected"
+-- "14 ..; 15 ..; then for each link ..; at the end 19 not connected". A value has no length that L might not fit.
 unfoldable pub planRefusal : Plan → ℕ
 planRefusal p =
-    orElse (eqb (p .modules) 0 || ltb 192 (p .modules)) 14
-    (orElse (ltb 600 (p .links)) 15
+    first (countsRefusal (p .modules) (p .links) true)
     (first (linksRefusal p (p .links) 0)
-    (orElse (not (connected (graphOf p) (p .modules))) 19 0)))
+    (orElse (not (connected (graphOf p) (p .modules))) 19 0))

@@ -7,12 +7,13 @@ ghost use Rattle.base.specs.Log.{log2};
 ghost use Rattle.base.specs.Ceiling.{firstTerm, ceiling};
 ghost use Rattle.base.specs.None.{none};
 ghost use Rattle.plan.specs.Links.{planOf};
-ghost use Rattle.plan.specs.Refusal.{ascends, inOrder, linkVerdict, linksRefusal, planRefusal};
+ghost use Rattle.plan.specs.Refusal.{countsRefusal, ascends, inOrder, linkVerdict, linksRefusal, planRefusal};
 ghost use Rattle.plan.specs.Weights.{costOf, earlierIn, beforeIn};
 
 mod parts;
 
-// N modules, L links; of link k the lower and the higher module, and the reading (path loss) at each of the two.
+// N modules, L links; of link k the lower and the higher module, and the readings (path loss): near at the lower one, far
+// at the higher one.
 pub struct Plan {
     pub modules: u16,
     pub links: u16,
@@ -151,6 +152,25 @@ fn links_check<'a>(
     0
 }
 
+// The check of N and L: 14, 15 or 0. Whether L fits the length, the caller says who has one.
+pub fn counts_check(n: u16, l: u16, fits: bool) -> u32
+    ensures { λ r. ⌜ r ≡ countsRefusal n l fits ⌝ }
+{
+    if n == 0 {
+        return 14;
+    }
+    if 192 < n {
+        return 14;
+    }
+    if 600 < l {
+        return 15;
+    }
+    if !fits {
+        return 15;
+    }
+    0
+}
+
 // The check of a plan in lent columns: 14 to 19, or 0.
 pub fn check_columns<'a>(
     n: u16,
@@ -162,14 +182,9 @@ pub fn check_columns<'a>(
 ) -> u32
     ensures { λ r. ⌜ r ≡ planRefusal (planOf n l (now (lower .entry)) (now (higher .entry)) (now (near .entry)) (now (far .entry))) ⌝ }
 {
-    if n == 0 {
-        return 14;
-    }
-    if 192 < n {
-        return 14;
-    }
-    if 600 < l {
-        return 15;
+    let counts = counts_check(n, l, true);
+    if counts != 0 {
+        return counts;
     }
     let r = links_check(n, l, lower, higher, near, far);
     if r != 0 {

@@ -1,28 +1,11 @@
 // Whether the links join all modules: labels of parts, merged link by link.
 ghost use mathlib.Core.Path.{_≡_};
-ghost use mathlib.Core.Bool.{true};
 ghost use Prim.Native.Nat.{ℕ, _<_, _≤_};
-ghost use lib.ListN.{length, getD};
+ghost use lib.ListN.{getD};
 ghost use lib.Dec.{eqb};
-ghost use Rattle.base.specs.Table.{tabulate};
 ghost use Rattle.base.specs.Test.{every};
-ghost use Rattle.graph.specs.Decide.{label, connected};
+ghost use Rattle.graph.specs.Decide.{connected};
 ghost use Rattle.plan.specs.Links.{edges};
-
-// The labels that the first l links leave.
-fn merge<'a>(l: usize, lower: &'a [u16; 600], higher: &'a [u16; 600], parts: &mut [u8; 192])
-    requires { ⌜ (length (now parts) ≡ 192) × (l ≤ 600) × ((k : ℕ) → k < l → (getD (now lower) k 0 < 192) × (getD (now higher) k 0 < 192)) ⌝ }
-    ensures { λ _. ⌜ now (parts .exit) ≡ tabulate 192 (label (edges l (now (lower .entry)) (now (higher .entry))) (λ _. true) l) ⌝ }
-{
-    labels::number(parts);
-    let mut k: usize = 0;
-    while k < l {
-        let a = parts[lower[k] as usize];
-        let b = parts[higher[k] as usize];
-        labels::join(parts, a, b);
-        k += 1;
-    }
-}
 
 // Whether the first n labels are that of module 0.
 fn one_part(parts: &[u8; 192], n: usize) -> bool
@@ -45,6 +28,6 @@ pub fn connected<'a>(n: usize, l: usize, lower: &'a [u16; 600], higher: &'a [u16
     ensures { λ r. ⌜ r ≡ connected (edges l (now (lower .entry)) (now (higher .entry))) n ⌝ }
 {
     let mut parts = [0u8; 192];
-    merge(l, lower, higher, &mut parts);
+    labels::merge(l, lower, higher, &mut parts);
     one_part(&parts, n)
 }

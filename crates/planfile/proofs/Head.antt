@@ -1,33 +1,9 @@
--- A law for each outcome of the head's check, each under the tests that came before; and what a passed check says.
-use Prim.Native.Nat.{ℕ, _+_, _*_, _-_, _≤_, _<_}
+-- A law for each outcome of the head's check, each under the tests that came before.
+use Prim.Native.Nat.{ℕ, _-_, _≤_, _<_}
 use mathlib.Core.Path.{_≡_}
 use mathlib.Core.Logic.{_≢_}
 use borrow.Author.Tests.{lt-ltb, le-ltb, eq-eqb, ne-eqb}
-use Rattle.planfile.specs.Reading.{countsVerdict, headVerdict}
-
-module _ (len n l : ℕ) where
-  pub c-nobody : n ≡ 0 → 14 ≡ countsVerdict len n l
-  unfolding countsVerdict
-  c-nobody e = rw (eq-eqb n 0 e)
-
-  module _ (a : n ≢ 0) where
-    pub c-modules : 192 < n → 14 ≡ countsVerdict len n l
-    unfolding countsVerdict
-    c-modules h = rw (ne-eqb n 0 a, lt-ltb 192 n h)
-
-    module _ (b : n ≤ 192) where
-      pub c-links : 600 < l → 15 ≡ countsVerdict len n l
-      unfolding countsVerdict
-      c-links h = rw (ne-eqb n 0 a, le-ltb 192 n b, lt-ltb 600 l h)
-
-      module _ (d : l ≤ 600) where
-        pub c-length : len ≢ 4 + 8 * l → 15 ≡ countsVerdict len n l
-        unfolding countsVerdict
-        c-length h = rw (ne-eqb n 0 a, le-ltb 192 n b, le-ltb 600 l d, ne-eqb len (4 + 8 * l) h)
-
-        pub c-fine : len ≡ 4 + 8 * l → 0 ≡ countsVerdict len n l
-        unfolding countsVerdict
-        c-fine h = rw (ne-eqb n 0 a, le-ltb 192 n b, le-ltb 600 l d, eq-eqb len (4 + 8 * l) h)
+use Rattle.planfile.specs.Reading.{headVerdict}
 
 module _ (size version len counts : ℕ) where
   pub h-short : size < 3 → 11 ≡ headVerdict size version len counts

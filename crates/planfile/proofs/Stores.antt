@@ -4,17 +4,18 @@ use native.Mathlib.Omega.{arith}
 use native.Mathlib.Numerals.{add-one, unary-clauses}
 use mathlib.Core.Path.{_≡_, refl, sym, ap, _∙_}
 use mathlib.Core.Logic.{_≢_}
-use borrow.Author.Tests.{lt-ltb, le-ltb, eq-eqb, ne-eqb}
+use borrow.Author.Tests.{lt-ltb, le-ltb, ne-eqb}
 use mathlib.Core.List.{List, [], _∷_, _++_}
 use lib.ListN.{length, set, drop}
 use lib.Seq.{sets, sets-eq}
-use Rattle.base.specs.Loop.{After, taken}
+use Rattle.base.specs.Loop.{After, taken, answering}
+use Rattle.base.specs.Refuse.{answers-refused}
 use Rattle.int16.specs.Int16.{put16}
 use Rattle.plan.specs.Accepted.{accepted}
 use Rattle.plan.specs.Refusal.{planRefusal}
 use Rattle.plan.specs.declared.Plan.{Plan}
 use Rattle.planfile.specs.Layout.{linkNumbers, linksNumbers, bytesOf, encode}
-use Rattle.planfile.specs.Writing.{writePlan}
+use Rattle.planfile.specs.Writing.{size, writeRefusal, writePlan}
 use Rattle.planfile.specs.Lengths.{bytesOf-append, length-bytesOf, length-links, length-encode}
 
 -- four integers, one after the other
@@ -54,18 +55,23 @@ pub w-links : (p : Plan) (r : ℕ) → r ≡ planRefusal p → r ≡ 0 → p .li
 w-links p r e z = accepted p (sym e ∙ z) .linksOk
 
 module _ (p : Plan) (s : List ℕ) (r : ℕ) (e : r ≡ planRefusal p) where
-  pub w-refused : r ≢ 0 → _≡_ {A = After (List ℕ)} (record { answer = r; state = s }) (writePlan p s)
+  -- the writer's answer, for each outcome of its tests
+  writes : (n : ℕ) → writeRefusal p s ≡ n → answering n s (encode p ++ drop (size p) s) ≡ writePlan p s
   unfolding writePlan
-  w-refused d = rw (← e, ne-eqb r 0 d)
+  writes n q = ap (λ m. answering m s (encode p ++ drop (size p) s)) (sym q)
+
+  pub w-refused : r ≢ 0 → _≡_ {A = After (List ℕ)} (record { answer = r; state = s }) (writePlan p s)
+  unfolding writeRefusal
+  w-refused d = answers-refused r s (encode p ++ drop (size p) s) d ∙ writes r (rw (← e, ne-eqb r 0 d))
 
   module _ (z : r ≡ 0) where
-    pub w-short : length s < 7 + 8 * p .links → _≡_ {A = After (List ℕ)} (record { answer = 22; state = s }) (writePlan p s)
-    unfolding writePlan
-    w-short h = rw (← e, eq-eqb r 0 z, lt-ltb (length s) (7 + 8 * p .links) h)
+    pub w-short : length s < size p → _≡_ {A = After (List ℕ)} (record { answer = 22; state = s }) (writePlan p s)
+    unfolding writeRefusal
+    w-short h = writes 22 (rw (← e, z, lt-ltb (length s) (size p) h))
 
-    pub w-written : 7 + 8 * p .links ≤ length s → (t : List ℕ) → t ≡ sets s 0 (encode p) → _≡_ {A = After (List ℕ)} (record { answer = 0; state = t }) (writePlan p s)
-    unfolding writePlan
-    w-written h t q = rw (← e, eq-eqb r 0 z, le-ltb (length s) (7 + 8 * p .links) h, q) (ap taken all)
+    pub w-written : size p ≤ length s → (t : List ℕ) → t ≡ sets s 0 (encode p) → _≡_ {A = After (List ℕ)} (record { answer = 0; state = t }) (writePlan p s)
+    unfolding writeRefusal
+    w-written h t q = ap taken (q ∙ all) ∙ writes 0 (rw (← e, z, le-ltb (length s) (size p) h))
       where
-        all : sets s 0 (encode p) ≡ encode p ++ drop (7 + 8 * p .links) s
-        all = sets-eq (encode p) s 0 (omega (arith, length-encode p)) ∙ ap (λ n. encode p ++ drop n s) (let l : 0 + length (encode p) ≡ 7 + 8 * p .links = omega (arith, length-encode p) in l)
+        all : sets s 0 (encode p) ≡ encode p ++ drop (size p) s
+        all = sets-eq (encode p) s 0 (omega (arith, length-encode p)) ∙ ap (λ n. encode p ++ drop n s) (let l : 0 + length (encode p) ≡ size p = omega (arith, length-encode p) in l)

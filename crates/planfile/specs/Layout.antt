@@ -26,17 +26,17 @@ unfoldable pub encode : Plan → List ℕ
 encode p = 1 ∷ bytesOf ((4 + 8 * p .links) ∷ p .modules ∷ p .links ∷ linksNumbers p (p .links))
 
 -- the integer number i after the version byte
-abbrev pub word : List ℕ → ℕ → ℕ
-word s i = at16 s (1 + 2 * i)
+abbrev pub number : List ℕ → ℕ → ℕ
+number s i = at16 s (1 + 2 * i)
 
 -- number j of each of the first l links, zeros past them
 unfoldable pub column : List ℕ → ℕ → ℕ → List ℕ
-column s l j = tabulate 600 (upto l (λ k. word s (3 + 4 * k + j)) (λ k. 0))
+column s l j = tabulate 600 (upto l (λ k. number s (3 + 4 * k + j)) (λ k. 0))
 
 -- the plan that bytes mean
 unfoldable pub decode : List ℕ → Plan
 unfolding column
-decode s = let l = word s 2 in planOf (word s 1) l (column s l 0) (column s l 1) (column s l 2) (column s l 3)
+decode s = let l = number s 2 in planOf (number s 1) l (column s l 0) (column s l 1) (column s l 2) (column s l 3)
 
 -- a column and a plan of zeros
 abbrev pub zeros : List ℕ

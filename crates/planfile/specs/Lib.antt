@@ -3,5 +3,5 @@ pub mod Reading
 pub mod Head
 pub mod Writing
 pub mod Lengths
-pub mod Words
+pub mod Numbers
 pub mod RoundTrip

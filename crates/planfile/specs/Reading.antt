@@ -5,22 +5,20 @@ use mathlib.Core.Bool.{cond, not, _||_}
 use mathlib.Core.List.{List}
 use lib.Dec.{eqb, ltb}
 use lib.ListN.{length, getD}
-use Rattle.plan.specs.Refusal.{orElse, first, planRefusal}
+use Rattle.base.specs.Refuse.{orElse, first}
+use Rattle.plan.specs.Refusal.{countsRefusal, planRefusal}
 use Rattle.plan.specs.Links.{planOf}
 use Rattle.planfile.specs.declared.Outcome.{Outcome}
-use Rattle.planfile.specs.Layout.{word, decode, blank}
-
--- "14 N is 0 or above 192; 15 L above 600 or not fitting the length"
-unfoldable pub countsVerdict : ℕ → ℕ → ℕ → ℕ
-countsVerdict len n l = orElse (eqb n 0 || ltb 192 n) 14 (orElse (ltb 600 l || not (eqb len (4 + 8 * l))) 15 0)
+use Rattle.planfile.specs.Layout.{number, decode, blank}
 
 -- "11 fewer than 3 bytes; 12 version; 13 length not the bytes that follow, or below 4"
 unfoldable pub headVerdict : ℕ → ℕ → ℕ → ℕ → ℕ
 headVerdict size version len counts =
     orElse (ltb size 3) 11 (orElse (not (eqb version 1)) 12 (orElse (not (eqb len (size - 3)) || ltb len 4) 13 counts))
 
+-- then "14 ..; 15 L above 600 or not fitting the length", as of the plan value, with the length to fit
 abbrev pub headRefusal : List ℕ → ℕ
-headRefusal s = headVerdict (length s) (getD s 0 0) (word s 0) (countsVerdict (word s 0) (word s 1) (word s 2))
+headRefusal s = headVerdict (length s) (getD s 0 0) (number s 0) (countsRefusal (number s 1) (number s 2) (eqb (number s 0) (4 + 8 * number s 2)))
 
 -- "then for each link 16 ..; 17 ..; 18 ..; at the end 19 not connected": as of the plan value
 unfoldable pub readRefusal : List ℕ → ℕ
@@ -33,4 +31,4 @@ readPlan s = cond (eqb (readRefusal s) 0) (record { refusal = 0; plan = decode s
 -- the check's answer with the columns it leaves: those of the plan that is taken
 pub record Loaded (s : List ℕ) (answer : ℕ) (lower higher near far : List ℕ) : Type 0 where
   pub right : answer ≡ readRefusal s
-  pub loaded : answer ≡ 0 → planOf (word s 1) (word s 2) lower higher near far ≡ decode s
+  pub loaded : answer ≡ 0 → planOf (number s 1) (number s 2) lower higher near far ≡ decode s

@@ -4,10 +4,10 @@ ghost use mathlib.Core.List.{[], _∷_};
 ghost use lib.Seq.{sets};
 ghost use Prim.Native.Nat.{_+_, _*_, _<_, _≤_};
 ghost use lib.ListN.{length};
-ghost use Rattle.planfile.specs.Layout.{word, column, zeros, blank, bytesOf, encode};
+ghost use Rattle.planfile.specs.Layout.{number, column, zeros, blank, bytesOf, encode};
 ghost use Rattle.planfile.specs.Writing.{writePlan};
 ghost use Rattle.plan.specs.Links.{planOf};
-ghost use Rattle.planfile.specs.Reading.{countsVerdict, headRefusal, readRefusal, readPlan, Loaded};
+ghost use Rattle.planfile.specs.Reading.{headRefusal, readRefusal, readPlan, Loaded};
 use plan::Plan;
 
 // What reading bytes answers: the refusal, or 0 and the plan.
@@ -17,30 +17,11 @@ pub struct Outcome {
 }
 
 // The integer number i after the version byte.
-fn word(s: &[u8], i: usize) -> u16
+fn number(s: &[u8], i: usize) -> u16
     requires { ⌜ 2 + 2 * i < length (now s) ⌝ }
-    ensures { λ r. ⌜ r ≡ word (now (s .entry)) i ⌝ }
+    ensures { λ r. ⌜ r ≡ number (now (s .entry)) i ⌝ }
 {
     int16::at(s, 1 + 2 * i)
-}
-
-// The check of the length given against N and L: 14, 15 or 0.
-fn counts_check(len: usize, n: u16, l: u16) -> u32
-    ensures { λ r. ⌜ r ≡ countsVerdict len n l ⌝ }
-{
-    if n == 0 {
-        return 14;
-    }
-    if 192 < n {
-        return 14;
-    }
-    if 600 < l {
-        return 15;
-    }
-    if len != 4 + 8 * (l as usize) {
-        return 15;
-    }
-    0
 }
 
 // The check of version, lengths and counts: 11 to 15, or 0.
@@ -53,14 +34,15 @@ fn head_check(s: &[u8]) -> u32
     if s[0] != 1 {
         return 12;
     }
-    let len = word(s, 0) as usize;
+    let len = number(s, 0) as usize;
     if len != s.len() - 3 {
         return 13;
     }
     if len < 4 {
         return 13;
     }
-    counts_check(len, word(s, 1), word(s, 2))
+    let l = number(s, 2);
+    plan::counts_check(number(s, 1), l, len == 4 + 8 * (l as usize))
 }
 
 // Reads the links into columns of zeros.
@@ -79,16 +61,16 @@ fn fill(
     let mut k: usize = 0;
     while k < l {
         let i = 3 + 4 * k;
-        lower[k] = word(s, i);
-        higher[k] = word(s, i + 1);
-        near[k] = word(s, i + 2);
-        far[k] = word(s, i + 3);
+        lower[k] = number(s, i);
+        higher[k] = number(s, i + 1);
+        near[k] = number(s, i + 2);
+        far[k] = number(s, i + 3);
         k += 1;
     }
 }
 
-fn refused(number: u32) -> Outcome
-    ensures { λ r. ⌜ r ≡ record { refusal = number; plan = blank } ⌝ }
+fn refused(answer: u32) -> Outcome
+    ensures { λ r. ⌜ r ≡ record { refusal = answer; plan = blank } ⌝ }
 {
     let zeros = [0u16; 600];
     let plan = Plan {
@@ -100,7 +82,7 @@ fn refused(number: u32) -> Outcome
         far: zeros,
     };
     Outcome {
-        refusal: number,
+        refusal: answer,
         plan: plan,
     }
 }
@@ -120,8 +102,8 @@ fn load(
     if head != 0 {
         return head;
     }
-    let n = word(s, 1);
-    let l = word(s, 2);
+    let n = number(s, 1);
+    let l = number(s, 2);
     fill(s, l as usize, lower, higher, near, far);
     plan::check_columns(n, l, lower, higher, near, far)
 }
@@ -150,8 +132,8 @@ pub fn read(s: &[u8]) -> Outcome
         return refused(r);
     }
     let plan = Plan {
-        modules: word(s, 1),
-        links: word(s, 2),
+        modules: number(s, 1),
+        links: number(s, 2),
         lower: lower,
         higher: higher,
         near: near,

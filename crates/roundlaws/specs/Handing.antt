@@ -15,7 +15,7 @@ use Rattle.base.specs.LoopLaws.{Ok, loop-ok}
 use Rattle.base.specs.Pool.{All, nil, con, All-here, Out, here, there}
 use Rattle.base.specs.Keep.{keep, keep-yes, keep-app, keep-none, keep-no, first-out, first-passes, head-of, others}
 use Rattle.word.specs.Word.{headerIn, carriedIn, linkIn, handedIn, shaped, handOver}
-use Rattle.word.proofs.Laws.{Unpacked, over}
+use Rattle.word.specs.Laws.{Unpacked, over}
 use Rattle.plan.specs.declared.Plan.{Plan}
 use Rattle.plan.specs.Accepted.{Accepted}
 use Rattle.field.specs.State.{State}

@@ -15,7 +15,7 @@ use Rattle.base.specs.Pool.{All, nil, con, All-map}
 use Rattle.base.specs.Keep.{keep, keep-yes, keep-no}
 use Rattle.message.specs.Header.{kindAt, levelAt, findAt, msgOf}
 use Rattle.word.specs.Word.{headerIn, carriedIn, linkIn, handedIn, shaped, handOver}
-use Rattle.word.proofs.Laws.{Unpacked, over}
+use Rattle.word.specs.Laws.{Unpacked, over}
 use Rattle.plan.specs.declared.Plan.{Plan}
 use Rattle.plan.specs.Accepted.{Accepted}
 use Rattle.node.specs.Work.{ASLEEP, BACK}

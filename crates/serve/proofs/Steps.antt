@@ -15,7 +15,7 @@ use Rattle.base.specs.Keep.{First, first-passes, first-out, place, place-first}
 use Rattle.base.specs.Pool.{All, All-here}
 use Rattle.message.specs.Msg.{Msg, change, none}
 use Rattle.message.specs.Listed.{listed}
-use Rattle.message.proofs.Listed.{Means, means}
+use Rattle.message.specs.Means.{Means, means}
 use Rattle.word.specs.Word.{headerIn, carriedIn, linkIn, laidOut, shaped}
 use Rattle.plan.specs.declared.Plan.{Plan}
 use Rattle.node.specs.declared.Node.{Node}

@@ -3,10 +3,12 @@ use Prim.Native.Nat.{ℕ}
 use native.Mathlib.Omega.{arith}
 use mathlib.Core.Path.{_≡_, sym, ap, _∙_}
 use mathlib.Core.Logic.{_≢_}
-use mathlib.Core.Bool.{true, false, true≢false}
+use mathlib.Core.Bool.{true≢false}
 use mathlib.Core.List.{List}
 use lib.ListN.{length}
 use Rattle.base.specs.Cond.{bool-cases, eqb-same, eqb-diff, by-eq, bit}
+use Rattle.base.specs.Loop.{answering}
+use Rattle.base.specs.Refuse.{answers-refused}
 use Rattle.base.specs.Table.{tabulated}
 use Rattle.graph.specs.Decide.{inTree-tree, tree-inTree}
 use Rattle.plan.specs.declared.Plan.{Plan}
@@ -19,22 +21,22 @@ use Rattle.tree.specs.Columns.{at}
 use Rattle.tree.specs.Tree.{treeLink, treeBytes, treeRefusal, centralTree}
 
 module _ (p : Plan) (out : List ℕ) where
-  -- a refusal, with the buffer as it was
-  refused : treeRefusal p out ≢ 0 → record { answer = treeRefusal p out; state = out } ≡ centralTree p out
+  -- the builder's answer, for each outcome of its tests
+  answers : (n : ℕ) → treeRefusal p out ≡ n → answering n out (treeBytes p) ≡ centralTree p out
   unfolding centralTree
-  refused n = rw (eqb-diff (treeRefusal p out) 0 n)
+  answers n q = ap (λ m. answering m out (treeBytes p)) (sym q)
 
   pub refused-plan : planRefusal p ≢ 0 → record { answer = planRefusal p; state = out } ≡ centralTree p out
   unfolding treeRefusal
-  refused-plan n = let e : treeRefusal p out ≡ planRefusal p = rw (eqb-diff (planRefusal p) 0 n) in rw (← e) (refused (λ z. n (sym e ∙ z)))
+  refused-plan n = answers-refused (planRefusal p) out (treeBytes p) n ∙ answers (planRefusal p) (rw (eqb-diff (planRefusal p) 0 n))
 
   pub refused-size : planRefusal p ≡ 0 → length out ≢ p .links → record { answer = 20; state = out } ≡ centralTree p out
   unfolding treeRefusal
-  refused-size z n = let e : treeRefusal p out ≡ 20 = rw (z, eqb-diff (length out) (p .links) n) in rw (← e) (refused (λ q. omega arith))
+  refused-size z n = answers 20 (rw (z, eqb-diff (length out) (p .links) n))
 
   pub built : planRefusal p ≡ 0 → length out ≡ p .links → record { answer = 0; state = treeBytes p } ≡ centralTree p out
-  unfolding treeRefusal centralTree
-  built z e = let r : treeRefusal p out ≡ 0 = rw (z, e, eqb-same (p .links)) in rw (r)
+  unfolding treeRefusal
+  built z e = answers 0 (rw (z, e, eqb-same (p .links)))
 
   -- what an answer of 0 tells
   pub answered : centralTree p out .answer ≡ 0 → (planRefusal p ≡ 0) × (length out ≡ p .links)

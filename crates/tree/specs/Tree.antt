@@ -1,17 +1,18 @@
 -- The central tree: what the builder answers and writes.
 use Prim.Native.Nat.{ℕ}
-use mathlib.Core.Bool.{Bool, cond, not}
+use mathlib.Core.Bool.{Bool, not}
 use mathlib.Core.List.{List}
 use lib.ListN.{length}
 use lib.Dec.{eqb}
 use Rattle.base.specs.Cond.{bit}
-use Rattle.base.specs.Loop.{After}
+use Rattle.base.specs.Loop.{After, answering}
+use Rattle.base.specs.Refuse.{orElse, first}
 use Rattle.base.specs.Table.{tabulate}
 use Rattle.graph.specs.Decide.{inTree}
 use Rattle.plan.specs.declared.Plan.{Plan}
 use Rattle.plan.specs.Links.{graphOf}
 use Rattle.plan.specs.Weights.{earlier}
-use Rattle.plan.specs.Refusal.{orElse, first, planRefusal}
+use Rattle.plan.specs.Refusal.{planRefusal}
 
 -- "A link is a tree link exactly if no other way between its ends, over the plan's links, uses only earlier links."
 -- (`inTree` decides that rule, the graph crate's `InTree`)
@@ -31,4 +32,4 @@ treeRefusal p out = first (planRefusal p) (orElse (not (eqb (length out) (p .lin
 -- the answer, and what the lent buffer holds then: a refused call alters no byte
 unfoldable pub centralTree : Plan → List ℕ → After (List ℕ)
 unfolding treeRefusal treeBytes
-centralTree p out = record { answer = treeRefusal p out; state = cond (eqb (treeRefusal p out) 0) (treeBytes p) out }
+centralTree p out = answering (treeRefusal p out) out (treeBytes p)

@@ -14,6 +14,8 @@ ghost use Rattle.tree.specs.Columns.{at, Parts, Fit, Takes, TakesTo, Fir
 use base::NONE;
 use plan::Plan;
 
+// Casts by a call: the caller's proof has the value under a name, with an equation, where a cast in place is written out
+// wherever it is used.
 fn index(x: u8) -> usize
     ensures { λ r. ⌜ r ≡ x ⌝ }
 {

@@ -12,7 +12,7 @@ use Rattle.word.specs.Word.{packed}
 use Rattle.message.specs.Listed.{Listed}
 use Rattle.act.specs.Laws.{sent-none}
 use Rattle.commit.specs.Posted.{wordIn}
-use Rattle.commit.proofs.Parts.{out-bits, out-word, sent-some}
+use Rattle.commit.proofs.Parts.{out-header, out-word, sent-some}
 use Rattle.commit.proofs.Words.{posted-none, posted-one}
 use Rattle.commit.proofs.post.Statement.{statement}
 use Rattle.commit.proofs.post.Tie as tie
@@ -26,7 +26,7 @@ returns c =
     rw (sent-none (s .args .x) (c .if1 .taken)) (posted-none (s .args .lent .now) (s .args .n) (s .pre .0))
 
 header-requires : tie.Need-header-requires
-header-requires c κs = out-bits (c .before .before .before .args .x) (c .before .before .before .pre .1 .formed) (some c .1)
+header-requires c κs = search needs
 
 end-at-requires : tie.Need-end-at-requires
 end-at-requires c κs = some (c .before) .0
@@ -56,7 +56,7 @@ returns-2 c =
     let s = o .before .before .before in
     let a = s .args in
     let x = a .x in
-    let word = k .pack .ensures ∙ ap₂ (λ (b d : ℕ). packed b (x .carried) d 0) (h .header .ensures) (e .end-at .ensures) ∙ out-word x (s .pre .1 .formed) (a .lower .now) (a .v) in
+    let word = k .pack .ensures ∙ ap₂ (λ (b d : ℕ). packed b (x .carried) d 0) (h .header .ensures ∙ out-header x (s .pre .1 .formed) (some o .1)) (e .end-at .ensures) ∙ out-word x (s .pre .1 .formed) (a .lower .now) (a .v) in
     rw (sent-some x (o .if1 .left))
     (posted-one (a .lent .now) (a .n) (s .pre .0) (p .put .last .0) (wordIn (a .lower .now) (a .v) (record { edge = x .to; msg = msgIn x }))
     (p .put .ensures ∙ ap (λ (w : ℕ). layout (length (a .lent .now)) (take (a .n) (a .lent .now) ++ (w ∷ []))) word))

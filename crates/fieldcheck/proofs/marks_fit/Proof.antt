@@ -5,8 +5,7 @@ use lib.ListN.{getD}
 use lib.Dec.{leb}
 use borrow.Author.Tests.{le-leb, lt-leb}
 use borrow.Author.Needs.{needs}
-use Rattle.plan.proofs.Laws.{every-goes-on, every-stops, every-of-none}
-use Rattle.base.specs.Test.{every}
+use Rattle.base.specs.Test.{every, every-goes-on, every-stops, every-of-none}
 use Rattle.fieldcheck.proofs.marks_fit.Statement.{statement}
 use Rattle.fieldcheck.proofs.marks_fit.Tie as tie
 

@@ -7,11 +7,10 @@ use borrow.Author.Tests.{not-true, not-false}
 use borrow.Author.Needs.{needs}
 use Rattle.field.specs.Valid.{nodeFits}
 use Rattle.field.specs.State.{nodeIn}
-use Rattle.plan.proofs.Laws.{every-goes-on, every-stops, every-of-none}
 use Rattle.plan.specs.Links.{planOf}
 use Rattle.search.specs.Own.{ownIn}
 use Rattle.node.specs.Work.{degree}
-use Rattle.base.specs.Test.{every}
+use Rattle.base.specs.Test.{every, every-goes-on, every-stops, every-of-none}
 use Rattle.fieldcheck.proofs.nodes_fit.Statement.{statement}
 use Rattle.fieldcheck.proofs.nodes_fit.Tie as tie
 

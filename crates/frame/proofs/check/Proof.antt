@@ -1,8 +1,8 @@
--- Each return is what its test settles (`proofs/Laws.antt`).
+-- Each return is what its test settles (`specs/Laws.antt`).
 use mathlib.Core.Path.{sym, ap, _∙_}
 use borrow.Author.Needs.{needs}
 use Rattle.message.specs.Listed.{listed}
-use Rattle.frame.proofs.Laws.{by-size, by-version, by-length, by-list, taken}
+use Rattle.frame.specs.Laws.{by-size, by-version, by-length, by-list, taken}
 use Rattle.frame.proofs.check.Statement.{statement}
 use Rattle.frame.proofs.check.Tie as tie
 

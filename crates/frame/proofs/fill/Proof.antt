@@ -1,7 +1,7 @@
 -- Six stores, one after the other.
 use native.Mathlib.Omega.{arith}
 use lib.ListN.{length-set}
-use Rattle.frame.proofs.Laws.{filled}
+use Rattle.frame.specs.Laws.{filled}
 use borrow.Author.Needs.{needs}
 use Rattle.frame.proofs.fill.Statement.{statement}
 use Rattle.frame.proofs.fill.Tie as tie

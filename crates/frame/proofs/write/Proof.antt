@@ -1,7 +1,7 @@
--- Each return is what its test settles (`proofs/Laws.antt`).
-use mathlib.Core.Path.{sym, ap, _∙_}
+-- Each return is what its test settles (`specs/Laws.antt`).
+use mathlib.Core.Path.{sym, _∙_}
 use borrow.Author.Tests.{not-true, not-false}
-use Rattle.frame.proofs.Laws.{write-unlisted, write-short, write-done}
+use Rattle.frame.specs.Laws.{write-unlisted, write-short, write-done}
 use borrow.Author.Needs.{needs}
 use Rattle.frame.proofs.write.Statement.{statement}
 use Rattle.frame.proofs.write.Tie as tie

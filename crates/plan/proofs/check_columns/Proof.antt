@@ -1,58 +1,55 @@
 use mathlib.Core.Path.{sym, _∙_}
-use Rattle.plan.proofs.Verdict.{p-nobody, p-modules, p-links, p-link, p-fine, p-apart, ends-inside}
+use Rattle.plan.proofs.Verdict.{p-counts, c-limits, p-link, p-fine, p-apart, ends-inside}
 use borrow.Author.Needs.{needs}
 use Rattle.plan.proofs.check_columns.Statement.{statement}
 use Rattle.plan.proofs.check_columns.Tie as tie
 
+counts-check-requires : tie.Need-counts-check-requires
+counts-check-requires c κs = search needs
+
 returns : tie.Need-returns
-returns c = p-nobody _ (c .if1 .taken)
-
-returns-2 : tie.Need-returns-2
-returns-2 c = p-modules _ (c .before .if1 .left) (c .if2 .taken)
-
-returns-3 : tie.Need-returns-3
-returns-3 c = let e2 = c .before in p-links _ (e2 .before .if1 .left) (e2 .if2 .left) (c .if3 .taken)
+returns c = p-counts _ _ (c .before .counts-check .ensures) (c .if1 .taken)
 
 links-check-requires : tie.Need-links-check-requires
-links-check-requires c κs = search needs
+links-check-requires c κs = let s = c .before in
+    let a = s .before .args in
+    c-limits (a .n) (a .l) (s .counts-check .ensures) (c .if1 .left) .linksOk
 
-returns-4 : tie.Need-returns-4
-returns-4 c = let v = c .before in
-    let e3 = v .before in
-    let e2 = e3 .before in
-    p-link _ (e2 .before .if1 .left) (e2 .if2 .left) (e3 .if3 .left) _ (v .links-check .ensures) (c .if4 .taken)
+returns-2 : tie.Need-returns-2
+returns-2 c = let v = c .before in
+    let e = v .before in
+    p-link _ _ (e .before .counts-check .ensures) (e .if1 .left) _ (v .links-check .ensures) (c .if2 .taken)
 
 connected-requires : tie.Need-connected-requires
 connected-requires c κs = let v = c .before in
-    let e3 = v .before in
-    let e2 = e3 .before in
-    (e2 .if2 .left, e3 .if3 .left, ends-inside _ (e2 .if2 .left) (sym (v .links-check .ensures) ∙ c .if4 .left))
+    let e = v .before in
+    let s = e .before in
+    let a = s .before .args in
+    let o = c-limits (a .n) (a .l) (s .counts-check .ensures) (e .if1 .left) in
+    (o .modulesOk, o .linksOk, ends-inside _ (o .modulesOk) (sym (v .links-check .ensures) ∙ c .if2 .left))
 
-returns-5 : tie.Need-returns-5
-returns-5 c = let d = c .before in
-    let e4 = d .before in
-    let v = e4 .before in
-    let e3 = v .before in
-    let e2 = e3 .before in
-    p-fine _ (e2 .before .if1 .left) (e2 .if2 .left) (e3 .if3 .left) _ (v .links-check .ensures) (e4 .if4 .left) (sym (d .connected .ensures) ∙ c .if5 .taken)
+returns-3 : tie.Need-returns-3
+returns-3 c = let d = c .before in
+    let e2 = d .before in
+    let v = e2 .before in
+    let e1 = v .before in
+    p-fine _ _ (e1 .before .counts-check .ensures) (e1 .if1 .left) _ (v .links-check .ensures) (e2 .if2 .left) (sym (d .connected .ensures) ∙ c .if3 .taken)
 
-returns-6 : tie.Need-returns-6
-returns-6 c = let d = c .before in
-    let e4 = d .before in
-    let v = e4 .before in
-    let e3 = v .before in
-    let e2 = e3 .before in
-    p-apart _ (e2 .before .if1 .left) (e2 .if2 .left) (e3 .if3 .left) _ (v .links-check .ensures) (e4 .if4 .left) (sym (d .connected .ensures) ∙ c .if5 .left)
+returns-4 : tie.Need-returns-4
+returns-4 c = let d = c .before in
+    let e2 = d .before in
+    let v = e2 .before in
+    let e1 = v .before in
+    p-apart _ _ (e1 .before .counts-check .ensures) (e1 .if1 .left) _ (v .links-check .ensures) (e2 .if2 .left) (sym (d .connected .ensures) ∙ c .if3 .left)
 
 pub check-columns-spec : {M : Type 1} → statement M
 check-columns-spec =
     tie.close
     (tie.spec
+    counts-check-requires
     returns
-    returns-2
-    returns-3
     links-check-requires
-    returns-4
+    returns-2
     connected-requires
-    returns-5
-    returns-6)
+    returns-3
+    returns-4)

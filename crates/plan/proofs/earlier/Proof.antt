@@ -1,5 +1,5 @@
 use Rattle.plan.specs.Weights.{costIn}
-use Rattle.plan.proofs.Laws.{same-cost, other-cost}
+use Rattle.plan.proofs.Order.{same-cost, other-cost}
 use borrow.Author.Needs.{needs}
 use Rattle.plan.proofs.earlier.Statement.{statement}
 use Rattle.plan.proofs.earlier.Tie as tie

@@ -1,6 +1,5 @@
-use Rattle.plan.proofs.Laws.{leading}
 use native.Mathlib.Omega.{arith}
-use Rattle.base.specs.Log.{log2}
+use Rattle.base.specs.Log.{log2, leading}
 use borrow.Author.Needs.{needs}
 use Rattle.plan.proofs.floor_log2.Statement.{statement}
 use Rattle.plan.proofs.floor_log2.Tie as tie
@@ -10,7 +9,7 @@ unfolding log2
 returns c = rw (c .if1 .taken)
 
 sub-result : tie.Need-sub-result
-sub-result c = leading (c .before .args .n) (c .if1 .left) (omega arith) .0
+sub-result c = omega (arith, leading (c .before .args .n) (c .if1 .left) (omega arith) .0)
 
 cast-result : tie.Need-cast-result
 cast-result c = search needs

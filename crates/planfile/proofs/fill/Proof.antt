@@ -24,8 +24,8 @@ mul-i c = search needs
 add-i : tie.Need-add-i Inv-loop μ-loop
 add-i c = search needs
 
-word-requires : tie.Need-word-requires Inv-loop μ-loop
-word-requires c κs = search needs
+number-requires : tie.Need-number-requires Inv-loop μ-loop
+number-requires c κs = search needs
 
 mul-lower : tie.Need-mul-lower Inv-loop μ-loop
 mul-lower c = search needs
@@ -33,11 +33,11 @@ mul-lower c = search needs
 element-write-lower : tie.Need-element-write-lower Inv-loop μ-loop
 element-write-lower c = search needs
 
-add-word : tie.Need-add-word Inv-loop μ-loop
-add-word c = search needs
+add-number : tie.Need-add-number Inv-loop μ-loop
+add-number c = search needs
 
-word-requires-2 : tie.Need-word-requires-2 Inv-loop μ-loop
-word-requires-2 c κs = search needs
+number-requires-2 : tie.Need-number-requires-2 Inv-loop μ-loop
+number-requires-2 c κs = search needs
 
 mul-higher : tie.Need-mul-higher Inv-loop μ-loop
 mul-higher c = search needs
@@ -45,11 +45,11 @@ mul-higher c = search needs
 element-write-higher : tie.Need-element-write-higher Inv-loop μ-loop
 element-write-higher c = search needs
 
-add-word-2 : tie.Need-add-word-2 Inv-loop μ-loop
-add-word-2 c = search needs
+add-number-2 : tie.Need-add-number-2 Inv-loop μ-loop
+add-number-2 c = search needs
 
-word-requires-3 : tie.Need-word-requires-3 Inv-loop μ-loop
-word-requires-3 c κs = search needs
+number-requires-3 : tie.Need-number-requires-3 Inv-loop μ-loop
+number-requires-3 c κs = search needs
 
 mul-near : tie.Need-mul-near Inv-loop μ-loop
 mul-near c = search needs
@@ -57,11 +57,11 @@ mul-near c = search needs
 element-write-near : tie.Need-element-write-near Inv-loop μ-loop
 element-write-near c = search needs
 
-add-word-3 : tie.Need-add-word-3 Inv-loop μ-loop
-add-word-3 c = search needs
+add-number-3 : tie.Need-add-number-3 Inv-loop μ-loop
+add-number-3 c = search needs
 
-word-requires-4 : tie.Need-word-requires-4 Inv-loop μ-loop
-word-requires-4 c κs = search needs
+number-requires-4 : tie.Need-number-requires-4 Inv-loop μ-loop
+number-requires-4 c κs = search needs
 
 mul-far : tie.Need-mul-far Inv-loop μ-loop
 mul-far c = search needs
@@ -83,10 +83,10 @@ loop-again c = let w3 = c .before in
     let e = turn .before in
     let l : e .loop .k < 600 = omega arith in (
       omega arith,
-      column-turn _ 0 _ _ _ _ l (e .loop .inv .1) (w1 .word .ensures) (omega arith),
-      column-turn _ 1 _ _ _ _ l (e .loop .inv .2) (w2 .word2 .ensures) (omega arith),
-      column-turn _ 2 _ _ _ _ l (e .loop .inv .3) (w3 .word3 .ensures) (omega arith),
-      column-turn _ 3 _ _ _ _ l (e .loop .inv .4) (c .word4 .ensures) (omega arith),
+      column-turn _ 0 _ _ _ _ l (e .loop .inv .1) (w1 .number .ensures) (omega arith),
+      column-turn _ 1 _ _ _ _ l (e .loop .inv .2) (w2 .number2 .ensures) (omega arith),
+      column-turn _ 2 _ _ _ _ l (e .loop .inv .3) (w3 .number3 .ensures) (omega arith),
+      column-turn _ 3 _ _ _ _ l (e .loop .inv .4) (c .number4 .ensures) (omega arith),
     )
 
 returns : tie.Need-returns Inv-loop μ-loop
@@ -104,19 +104,19 @@ fill-spec =
     loop-holds
     mul-i
     add-i
-    word-requires
+    number-requires
     mul-lower
     element-write-lower
-    add-word
-    word-requires-2
+    add-number
+    number-requires-2
     mul-higher
     element-write-higher
-    add-word-2
-    word-requires-3
+    add-number-2
+    number-requires-3
     mul-near
     element-write-near
-    add-word-3
-    word-requires-4
+    add-number-3
+    number-requires-4
     mul-far
     element-write-far
     add-k

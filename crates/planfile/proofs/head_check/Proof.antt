@@ -13,8 +13,8 @@ shared-slice-read-if2 c = search needs
 returns-2 : tie.Need-returns-2
 returns-2 c = h-version _ _ _ _ (c .before .before .if1 .left) (c .if2 .taken)
 
-word-requires : tie.Need-word-requires
-word-requires c κs = search needs
+number-requires : tie.Need-number-requires
+number-requires c κs = search needs
 
 cast-len : tie.Need-cast-len
 cast-len c = search needs
@@ -25,19 +25,28 @@ sub-if3 c = search needs
 returns-3 : tie.Need-returns-3
 returns-3 c = let w = c .before in
     let e2 = w .before in
-    h-length _ _ _ _ (e2 .before .before .if1 .left) (e2 .if2 .left) (rw (w .word .ensures) at (c .if3 .taken))
+    h-length _ _ _ _ (e2 .before .before .if1 .left) (e2 .if2 .left) (rw (w .number .ensures) at (c .if3 .taken))
 
 returns-4 : tie.Need-returns-4
 returns-4 c = let e3 = c .before in
     let w = e3 .before in
     let e2 = w .before in
-    h-least _ _ _ _ (e2 .before .before .if1 .left) (e2 .if2 .left) (rw (w .word .ensures) at (e3 .if3 .left)) (rw (w .word .ensures) at (c .if4 .taken))
+    h-least _ _ _ _ (e2 .before .before .if1 .left) (e2 .if2 .left) (rw (w .number .ensures) at (e3 .if3 .left)) (rw (w .number .ensures) at (c .if4 .taken))
 
-word-requires-2 : tie.Need-word-requires-2
-word-requires-2 c κs = search needs
+number-requires-2 : tie.Need-number-requires-2
+number-requires-2 c κs = search needs
 
-word-requires-3 : tie.Need-word-requires-3
-word-requires-3 c κs = search needs
+number-requires-3 : tie.Need-number-requires-3
+number-requires-3 c κs = search needs
+
+cast-counts-check : tie.Need-cast-counts-check
+cast-counts-check c = search needs
+
+mul-counts-check : tie.Need-mul-counts-check
+mul-counts-check c = search needs
+
+add-counts-check : tie.Need-add-counts-check
+add-counts-check c = search needs
 
 counts-check-requires : tie.Need-counts-check-requires
 counts-check-requires c κs = search needs
@@ -49,8 +58,8 @@ returns-5 c = let w3 = c .before in
     let e3 = e4 .before in
     let w = e3 .before in
     let e2 = w .before in
-    rw (w3 .word3 .ensures, w2 .word2 .ensures, w .word .ensures) at (c .counts-check .ensures)
-    ∙ h-counts _ _ _ _ (e2 .before .before .if1 .left) (e2 .if2 .left) (rw (w .word .ensures) at (e3 .if3 .left)) (rw (w .word .ensures) at (e4 .if4 .left))
+    rw (w3 .number3 .ensures, w2 .number2 .ensures, w .number .ensures) at (c .counts-check .ensures)
+    ∙ h-counts _ _ _ _ (e2 .before .before .if1 .left) (e2 .if2 .left) (rw (w .number .ensures) at (e3 .if3 .left)) (rw (w .number .ensures) at (e4 .if4 .left))
 
 pub head-check-spec : {M : Type 1} → statement M
 head-check-spec =
@@ -59,12 +68,15 @@ head-check-spec =
     returns
     shared-slice-read-if2
     returns-2
-    word-requires
+    number-requires
     cast-len
     sub-if3
     returns-3
     returns-4
-    word-requires-2
-    word-requires-3
+    number-requires-2
+    number-requires-3
+    cast-counts-check
+    mul-counts-check
+    add-counts-check
     counts-check-requires
     returns-5)

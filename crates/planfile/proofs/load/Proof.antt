@@ -1,5 +1,5 @@
 use native.Mathlib.Omega.{arith}
-use Rattle.planfile.proofs.Answers.{load-head, word-inside, links-inside, load-links}
+use Rattle.planfile.proofs.Answers.{load-head, number-inside, links-inside, load-links}
 use borrow.Author.Needs.{needs}
 use Rattle.planfile.proofs.load.Statement.{statement}
 use Rattle.planfile.proofs.load.Tie as tie
@@ -10,13 +10,13 @@ head-check-requires c κs = search needs
 returns : tie.Need-returns
 returns c = load-head _ _ (c .before .head-check .ensures) (c .if1 .taken)
 
-word-requires : tie.Need-word-requires
-word-requires c κs = let h = c .before in word-inside (h .before .before .args .s .now) _ (h .head-check .ensures) (c .if1 .left) 1 (omega arith)
+number-requires : tie.Need-number-requires
+number-requires c κs = let h = c .before in number-inside (h .before .before .args .s .now) _ (h .head-check .ensures) (c .if1 .left) 1 (omega arith)
 
-word-requires-2 : tie.Need-word-requires-2
-word-requires-2 c κs = let e = c .before in
+number-requires-2 : tie.Need-number-requires-2
+number-requires-2 c κs = let e = c .before in
     let h = e .before in
-    word-inside (h .before .before .args .s .now) _ (h .head-check .ensures) (e .if1 .left) 2 (omega arith)
+    number-inside (h .before .before .args .s .now) _ (h .head-check .ensures) (e .if1 .left) 2 (omega arith)
 
 cast-fill : tie.Need-cast-fill
 cast-fill c = search needs
@@ -26,7 +26,7 @@ fill-requires c κs = let w2 = c .before .before .before .before in
     let e = w2 .before .before in
     let h = e .before in
     let p = h .before .before .pre in
-    let f = links-inside (h .before .before .args .s .now) _ (h .head-check .ensures) (e .if1 .left) (w2 .word2 .result) (w2 .word2 .ensures) in
+    let f = links-inside (h .before .before .args .s .now) _ (h .head-check .ensures) (e .if1 .left) (w2 .number2 .result) (w2 .number2 .ensures) in
     (f .0, f .1, p .0, p .1, p .2, p .3)
 
 check-columns-requires : tie.Need-check-columns-requires
@@ -38,7 +38,7 @@ returns-2 c = let f = c .before .before .before .before .before in
     let w1 = w2 .before in
     let e = w1 .before in
     let g = f .fill .ensures in
-    load-links _ _ (e .before .head-check .ensures) (e .if1 .left) _ _ _ (w1 .word .ensures) (w2 .word2 .ensures) (g .0) (g .1) (g .2) (g .3) (c .check-columns .ensures)
+    load-links _ _ (e .before .head-check .ensures) (e .if1 .left) _ _ _ (w1 .number .ensures) (w2 .number2 .ensures) (g .0) (g .1) (g .2) (g .3) (c .check-columns .ensures)
 
 pub load-spec : {M : Type 1} → statement M
 load-spec =
@@ -46,8 +46,8 @@ load-spec =
     (tie.spec
     head-check-requires
     returns
-    word-requires
-    word-requires-2
+    number-requires
+    number-requires-2
     cast-fill
     fill-requires
     check-columns-requires

@@ -1,5 +1,5 @@
 -- Each `|` is a sum.
-use Rattle.word.proofs.Laws.{joined}
+use Rattle.word.specs.Laws.{joined}
 use Rattle.word.proofs.pack.Statement.{statement}
 use Rattle.word.proofs.pack.Tie as tie
 

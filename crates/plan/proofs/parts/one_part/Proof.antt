@@ -1,5 +1,4 @@
 -- The test of all n is the test of the v that are left.
-use Rattle.plan.proofs.Laws.{every-of-none, every-goes-on, every-stops}
 use borrow.Author.Tests.{eq-eqb, ne-eqb}
 use Prim.Native.Nat.{ℕ, _≤_, _-_}
 use native.Mathlib.Omega.{arith}
@@ -8,7 +7,7 @@ use mathlib.Core.List.{List}
 use mathlib.Core.Bool.{Bool}
 use lib.Dec.{eqb}
 use lib.ListN.{getD}
-use Rattle.base.specs.Test.{every}
+use Rattle.base.specs.Test.{every, every-of-none, every-goes-on, every-stops}
 use borrow.Author.Needs.{needs}
 use Rattle.plan.proofs.parts.one_part.Statement.{statement}
 use Rattle.plan.proofs.parts.one_part.Tie as tie

@@ -9,7 +9,7 @@ use borrow.Author.Tests.{eqb-true, ltb-true, lt-ltb, eq-eqb}
 use Rattle.message.specs.Msg.{none, Msg, connect, initiate, test, accept, reject, report, change}
 use Rattle.message.specs.Header.{Parts, parts, partsOf, headerByte, headerOf, kindAt, levelAt, findAt, carriedOf, msgOf, meant}
 use Rattle.message.specs.Listed.{isLink, bare, listedAs, listed, Listed}
-use Rattle.message.proofs.Byte.{byte-of-parts, byte-lt, parts-of-byte}
+use Rattle.message.specs.Byte.{byte-of-parts, byte-lt, parts-of-byte}
 
 -- each kind that three bits hold
 kinds : (P : ℕ → Type 0) → P 0 → P 1 → P 2 → P 3 → P 4 → P 5 → P 6 → P 7 → (k : ℕ) → k < 8 → P k

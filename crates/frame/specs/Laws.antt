@@ -2,15 +2,15 @@
 use Prim.Native.Nat.{ℕ, _/_, _%_}
 use mathlib.Core.Path.{_≡_, refl}
 use mathlib.Core.List.{List}
-use mathlib.Core.Bool.{true, false}
-use native.Mathlib.Omega.{arith}
+use mathlib.Core.Bool.{true, false, and-eq-true-iff}
 use lib.ListN.{length, getD, set}
-use borrow.Author.Tests.{eq-eqb, ne-eqb}
-use Rattle.base.specs.Cond.{bool-cases, by-eq}
+use lib.Dec.{eqb}
+use borrow.Author.Tests.{eq-eqb, ne-eqb, eqb-true, not-false}
+use Rattle.base.specs.Refuse.{fine}
 use Rattle.int16.specs.Int16.{at16}
 use Rattle.message.specs.Listed.{listed}
-use Rattle.frame.specs.Frame.{frameBytes, frameRefusal, frameRead, frameWritten}
-use Rattle.frame.proofs.Six.{six}
+use Rattle.frame.specs.Frame.{frameBytes, frameRefusal, frameRead, writeRefusal, frameWritten}
+use Rattle.frame.specs.Six.{six}
 
 -- the refusal, test by test
 module _ (s : List ℕ) where
@@ -45,16 +45,18 @@ pub record Taken (s : List ℕ) : Type 0 where
   pub holds : listed (getD s 3 0) (at16 s 4) ≡ true
 
 pub accepted : (s : List ℕ) → frameRefusal s ≡ 0 → Taken s
+unfolding frameRefusal
 accepted s e =
-    by-eq (length s) 6
-    (λ p. by-eq (getD s 0 0) 1
-    (λ v. by-eq (at16 s 1) 3
-    (λ l. bool-cases (listed (getD s 3 0) (at16 s 4))
-    (λ b. record { size = p; version = v; rest = l; holds = b })
-    (λ b. absurd (omega (arith, by-list s p v l b))))
-    (λ n. absurd (omega (arith, by-length s p v n))))
-    (λ n. absurd (omega (arith, by-version s p n))))
-    (λ n. absurd (omega (arith, by-size s n)))
+    let f61 = fine _ 60 e in
+    let f62 = fine _ 61 (f61 .1) in
+    let f63 = fine _ 62 (f62 .1) in
+    let both = and-eq-true-iff (eqb (getD s 0 0) 1) (eqb (at16 s 1) 3) .0 (not-false _ (f62 .0)) in
+    record {
+      size = eqb-true _ _ (not-false _ (f61 .0));
+      version = eqb-true _ _ (both .0);
+      rest = eqb-true _ _ (both .1);
+      holds = not-false _ (f63 .0);
+    }
 
 -- the reader's two answers
 module _ (s : List ℕ) where
@@ -69,16 +71,16 @@ module _ (s : List ℕ) where
 -- the writer's three answers
 module _ (h c : ℕ) (out : List ℕ) where
   pub write-unlisted : listed h c ≡ false → frameWritten h c out ≡ record { answer = 63; state = out }
-  unfolding frameWritten
+  unfolding frameWritten writeRefusal
   write-unlisted e = simp e
 
   module _ (l : listed h c ≡ true) where
     pub write-short : (length out ≡ 6 → ⊥) → frameWritten h c out ≡ record { answer = 64; state = out }
-    unfolding frameWritten
+    unfolding frameWritten writeRefusal
     write-short n = simp (l, ne-eqb (length out) 6 n)
 
     pub write-done : length out ≡ 6 → frameWritten h c out ≡ record { answer = 0; state = frameBytes h c }
-    unfolding frameWritten
+    unfolding frameWritten writeRefusal
     write-done p = simp (l, eq-eqb (length out) 6 p)
 
 -- six bytes, overwritten one after the other

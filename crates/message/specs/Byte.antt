@@ -1,9 +1,29 @@
 -- The header byte's parts and the byte determine each other.
-use Prim.Native.Nat.{ℕ, _+_, _*_, _/_, _%_, _^_, _<_}
+use Prim.Native.Nat.{ℕ, _+_, _*_, _%_, _^_, _≤_, _<_}
 use mathlib.Core.Path.{_≡_, ap, ap₂, _∙_}
 use native.Mathlib.Omega.{arith}
 use lib.Bits.{bitOr, or-shifted-r}
-use Rattle.message.specs.Header.{headerByte, kindAt, levelAt, findAt}
+use borrow.Author.Tests.{lt-ltb, le-ltb}
+use Rattle.message.specs.Header.{headerByte, headerFrom, kindAt, levelAt, findAt}
+
+-- the header of parts that fit; of parts that do not
+module _ (k l f : ℕ) where
+  pub from-fits : k < 8 → l < 8 → f < 2 → headerFrom k l f ≡ headerByte k l f
+  unfolding headerFrom
+  from-fits a b c = rw (lt-ltb k 8 a, lt-ltb l 8 b, lt-ltb f 2 c)
+
+  pub from-kind : 8 ≤ k → headerFrom k l f ≡ 255
+  unfolding headerFrom
+  from-kind h = rw (le-ltb k 8 h)
+
+  module _ (a : k < 8) where
+    pub from-level : 8 ≤ l → headerFrom k l f ≡ 255
+    unfolding headerFrom
+    from-level h = rw (lt-ltb k 8 a, le-ltb l 8 h)
+
+    pub from-find : l < 8 → 2 ≤ f → headerFrom k l f ≡ 255
+    unfolding headerFrom
+    from-find b h = rw (lt-ltb k 8 a, lt-ltb l 8 b, le-ltb f 2 h)
 
 pub byte-of-parts : (h : ℕ) → h < 128 → headerByte (kindAt h) (levelAt h) (findAt h) ≡ h
 byte-of-parts h p = omega arith

@@ -11,7 +11,7 @@ use Rattle.base.specs.Cond.{bit, eqb-cases}
 use Rattle.message.specs.Msg.{Msg}
 use Rattle.message.specs.Header.{headerOf, carriedOf, meant}
 use Rattle.message.specs.Listed.{listed, Listed}
-use Rattle.message.proofs.Listed.{in-bits, header-lt, means, has-listed, means-back}
+use Rattle.message.specs.Means.{in-bits, header-lt, means, has-listed, means-back}
 use Rattle.word.specs.Word.{packed, headerIn, carriedIn, linkIn, handedIn, shaped, laidOut, handOver, Waiting, waitingOf, packWaiting}
 
 -- unpacked from a packed word

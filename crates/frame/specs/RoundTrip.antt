@@ -1,5 +1,5 @@
 -- "A .. frame written and read gives its meaning back; bytes that are taken and written again are the same bytes."
-use Prim.Native.Nat.{ℕ, _+_, _*_, _/_, _%_, _<_}
+use Prim.Native.Nat.{ℕ, _+_, _*_, _<_}
 use mathlib.Core.Path.{_≡_, refl, sym, ap, ap₂, _∙_}
 use mathlib.Core.List.{List, [], _∷_}
 use mathlib.Core.Bool.{true}
@@ -10,11 +10,11 @@ use Rattle.int16.specs.Laws.{joined, high-byte, low-byte}
 use Rattle.message.specs.Msg.{Msg}
 use Rattle.message.specs.Header.{headerOf, carriedOf, meant}
 use Rattle.message.specs.Listed.{listed, Listed}
-use Rattle.message.proofs.Listed.{has-listed, means-back}
+use Rattle.message.specs.Means.{means, has-listed, means-back}
 use Rattle.frame.specs.declared.Frame.{Frame}
 use Rattle.frame.specs.Frame.{frameBytes, frameRefusal, frameRead, frameWritten}
-use Rattle.frame.proofs.Six.{six}
-use Rattle.frame.proofs.Laws.{taken, Taken, accepted, read-taken, write-done}
+use Rattle.frame.specs.Six.{six}
+use Rattle.frame.specs.Laws.{taken, Taken, accepted, read-taken, write-done}
 
 -- the message that a frame that was read means
 abbrev pub frameMeans : Frame → Msg
@@ -53,3 +53,17 @@ read-written s b e out p =
     ap (λ f. frameWritten (f .header) (f .carried) out) (read-taken s e)
     ∙ write-done (getD s 3 0) (at16 s 4) out (t .holds) p
     ∙ ap (λ x. record { answer = 0; state = x }) (same-bytes s b t)
+
+-- THE READER TAKES EXACTLY THE FRAMES OF LISTED MESSAGES
+
+abbrev pub frameOf : Msg → List ℕ
+frameOf m = frameBytes (headerOf m) (carriedOf m)
+
+pub taken-listed : (s : List ℕ) → ((i : ℕ) → getD s i 0 < 256) → frameRefusal s ≡ 0 → (m : Msg) × Listed m × (s ≡ frameOf m)
+taken-listed s b e =
+    let t = accepted s e in
+    let m = means (getD s 3 0) (at16 s 4) (t .holds) in
+    (frameMeans (frameRead s), rw (read-taken s e) (m .fits), sym (same-bytes s b t) ∙ rw (read-taken s e) (ap₂ frameBytes (sym (m .header)) (sym (m .carried))))
+
+pub listed-taken : (s : List ℕ) → (m : Msg) × Listed m × (s ≡ frameOf m) → frameRefusal s ≡ 0
+listed-taken s t = rw (t .2) (bytes-taken (headerOf (t .0)) (carriedOf (t .0)) (has-listed (t .0) (t .1)))

@@ -6,11 +6,11 @@ use mathlib.Core.Path.{_≡_, _∙_}
 use lib.ListN.{getD}
 use Rattle.graph.specs.Decide.{label}
 use Rattle.base.specs.Table.{tabulate, length-tabulate}
-use Rattle.plan.specs.Links.{edges}
-use Rattle.plan.proofs.Labels.{all, merge-turn}
+use Rattle.labels.specs.Columns.{edges}
+use Rattle.labels.proofs.Laws.{all, merge-turn}
 use borrow.Author.Needs.{needs}
-use Rattle.plan.proofs.parts.merge.Statement.{statement}
-use Rattle.plan.proofs.parts.merge.Tie as tie
+use Rattle.labels.proofs.merge.Statement.{statement}
+use Rattle.labels.proofs.merge.Tie as tie
 
 abbrev Inv-loop : tie.InvT-loop
 Inv-loop l lower higher parts₀ k₀ parts k = (k ≤ l) × (parts ≡ tabulate 192 (label (edges l lower higher) all k))

@@ -1,2 +1,0 @@
-pub mod Byte
-pub mod Listed
