@@ -1,7 +1,12 @@
 /* Prints the refusal number of a plan or a frame, 0 for taken.
  *
  *     check plan FILE
- *     check frame FILE */
+ *     check frame FILE
+ *
+ * To build, at the top of the repository:
+ *
+ *     rt staticlib console
+ *     cc -std=c99 -O2 -Iinclude examples/check.c target/staticlib/libconsole.a -o check */
 #include "muruapy.h"
 
 #include <stdio.h>

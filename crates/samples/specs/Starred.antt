@@ -1,37 +1,33 @@
 -- Document 01's starred samples: one table of the definitions, one theorem over its rows.
 use Prim.Native.Nat.{ℕ, _+_}
 use mathlib.Core.Path.{_≡_, refl}
+use mathlib.Core.Bool.{true, false}
 use mathlib.Core.List.{List, [], _∷_, _++_, map}
 use Rattle.base.specs.None.{none}
-use Rattle.message.specs.Msg.{Msg, connect, initiate}
-use Rattle.message.specs.Header.{headerOf, carriedOf}
+use Rattle.base.specs.Cond.{upd}
+use Rattle.base.specs.Keep.{place}
+use Rattle.base.specs.Log.{log2-to, log2}
+use Rattle.base.specs.Table.{tabulate, upto}
+use Rattle.base.specs.Test.{every}
+use Rattle.graph.specs.Decide.{label, joined, inTree, connected}
+use Rattle.message.specs.Msg.{Msg, connect, initiate, test}
+use Rattle.message.specs.Header.{headerOf, carriedOf, partsOf, msgOf}
+use Rattle.message.specs.Listed.{bare, listedAs, listed}
 use Rattle.frame.specs.Frame.{frameBytes, frameRefusal}
-use Rattle.word.specs.Word.{packed}
+use Rattle.word.specs.Word.{packWaiting}
 use Rattle.plan.specs.Ceiling.{ceiling}
-use Rattle.planfile.specs.Layout.{decode, encode}
-use Rattle.planfile.specs.Reading.{readRefusal}
-use Rattle.tree.specs.Tree.{centralTree}
-use Rattle.field.specs.Held.{Held, layout, stepAlone}
-use Rattle.base.specs.Cond as base1
-use Rattle.base.specs.Keep as base2
-use Rattle.base.specs.Log as base3
-use Rattle.base.specs.Table as base4
-use Rattle.base.specs.Test as base5
-use Rattle.graph.specs.Decide as graph1
-use Rattle.message.specs.Header as message1
-use Rattle.message.specs.Listed as message2
-use Rattle.plan.specs.Refusal as plan1
-use Rattle.plan.specs.Weights as plan2
-use Rattle.planfile.specs.Layout as planfile1
-use Rattle.planfile.specs.Reading as planfile2
-use Rattle.tree.specs.Tree as tree1
-use Rattle.node.specs.Rules as node1
-use Rattle.node.specs.Work as node2
-use Rattle.search.specs.Own as search1
-use Rattle.field.specs.State as field1
-use Rattle.field.specs.Step as field2
-use Rattle.field.specs.Valid as field3
-use Rattle.field.specs.Held as field4
+use Rattle.plan.specs.Refusal.{ascends, inOrder, linkVerdict, linksRefusal, planRefusal}
+use Rattle.plan.specs.Weights.{costIn, earlierIn, beforeIn}
+use Rattle.planfile.specs.Layout.{decode, column}
+use Rattle.planfile.specs.Reading.{readRefusal, headVerdict}
+use Rattle.tree.specs.Tree.{centralTree, treeBytes, treeRefusal}
+use Rattle.node.specs.Rules.{wakeOn, awake, onTest, unlessAsleep, respondTo}
+use Rattle.node.specs.Work.{before, earliest, number}
+use Rattle.search.specs.Own.{isOwn, endIn, marksIn, marked, looked, counted}
+use Rattle.field.specs.Held.{Held, layout, stepAlone, valid}
+use Rattle.field.specs.State.{newMarks}
+use Rattle.field.specs.Step.{settle, backOf, serve, step}
+use Rattle.field.specs.Valid.{allOf, waitingIn, wordFits, nodeFits, fits}
 
 -- what the definitions compute, and what document 01 says
 pub record Row : Type 0 where
@@ -75,11 +71,12 @@ pair status m sent words =
       words = layout 12 words;
     }
 
+-- module 0's Test, handed over; module 1's Connect, sent
 abbrev aTest : ℕ
-aTest = packed 11 0 0 1
+aTest = packWaiting (record { msg = test 1 0; link = 0; handed = true })
 
 abbrev aConnect : ℕ
-aConnect = packed 1 none 1 0
+aConnect = packWaiting (record { msg = connect 0; link = 1; handed = false })
 
 -- answer, cells, marks, sent count and words after module 1 serves
 abbrev served : Held → List ℕ
@@ -110,5 +107,17 @@ rows =
     ∷ []
 
 pub starred : map (λ r. r .computed) rows ≡ map (λ r. r .said) rows
-unfolding base1.upd base2.place base3.log2-to base3.log2 base4.tabulate base4.upto base5.every graph1.label graph1.joined graph1.inTree graph1.connected message1.partsOf message1.msgOf message2.bare message2.listedAs message2.listed frameRefusal plan1.ascends plan1.inOrder plan1.linkVerdict plan1.linksRefusal plan1.planRefusal plan2.costIn plan2.earlierIn plan2.beforeIn planfile1.column planfile1.decode planfile2.countsVerdict planfile2.headVerdict planfile2.readRefusal tree1.treeBytes tree1.treeRefusal tree1.centralTree node1.wakeOn node1.awake node1.onTest node1.unlessAsleep node1.respondTo node2.before node2.earliest node2.number search1.isOwn search1.endIn search1.marksIn search1.marked search1.looked search1.counted field1.newMarks field2.settle field2.backOf field2.serve field2.step field3.allOf field3.waitingIn field3.wordFits field3.nodeFits field3.fits field4.valid field4.stepAlone
+unfolding
+    upd place log2-to log2 tabulate upto every
+    label joined inTree connected
+    partsOf msgOf bare listedAs listed
+    frameRefusal
+    ascends inOrder linkVerdict linksRefusal planRefusal
+    costIn earlierIn beforeIn
+    column decode headVerdict readRefusal
+    treeBytes treeRefusal centralTree
+    wakeOn awake onTest unlessAsleep respondTo before earliest number
+    isOwn endIn marksIn marked looked counted
+    newMarks settle backOf serve step
+    allOf waitingIn wordFits nodeFits fits valid stepAlone
 starred = refl
