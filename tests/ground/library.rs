@@ -1,6 +1,12 @@
-//! The compiled Rattle functions, as safe Rust functions. A `&[u8]` of Rattle passes as a pointer and a length. No
-//! function here has a `requires`: every input is taken or refused by a number.
+//! The compiled Rattle functions, as safe Rust functions. A `&[u8]` of Rattle passes as a pointer and a length, an array
+//! as a pointer. No function here has a `requires`: every input is taken or refused by a number.
 
+use oracle::plan::Plan;
+use oracle::rng::Rng;
+
+type Column = [u16; 600];
+
+#[rustfmt::skip]
 extern "C" {
     fn muruapy_plan_check(bytes: *const u8, len: usize) -> u32;
     fn muruapy_frame_check(bytes: *const u8, len: usize) -> u32;
@@ -8,6 +14,15 @@ extern "C" {
     fn muruapy_test_plan_copy(plan: *const u8, plan_len: usize, out: *mut u8, out_len: usize) -> u32;
     fn muruapy_test_frame_copy(frame: *const u8, frame_len: usize, out: *mut u8, out_len: usize) -> u32;
     fn muruapy_test_ceiling(n: u16, l: u16) -> u32;
+    fn muruapy_test_frame_write(header: u8, carried: u16, out: *mut u8, out_len: usize) -> u32;
+    fn muruapy_test_plan_write(
+        modules: u16, links: u16, lower: *const Column, higher: *const Column, near: *const Column, far: *const Column,
+        out: *mut u8, out_len: usize,
+    ) -> u32;
+    fn muruapy_test_tree_build(
+        modules: u16, links: u16, lower: *const Column, higher: *const Column, near: *const Column, far: *const Column,
+        out: *mut u8, out_len: usize,
+    ) -> u32;
 }
 
 /// 11 to 19, or 0 for a plan that is taken.
@@ -37,4 +52,53 @@ pub fn frame_copy(frame: &[u8], out: &mut [u8]) -> u32 {
 
 pub fn ceiling(n: u16, l: u16) -> u32 {
     unsafe { muruapy_test_ceiling(n, l) }
+}
+
+/// Writes a frame of any header and carried number: 63, then 64; else 0, and the frame is in `out`.
+pub fn frame_write(header: u8, carried: u16, out: &mut [u8]) -> u32 {
+    unsafe { muruapy_test_frame_write(header, carried, out.as_mut_ptr(), out.len()) }
+}
+
+/// A plan value as the compiled functions hold it. What stands past its links means nothing.
+pub struct Value {
+    modules: u16,
+    links: u16,
+    lower: Column,
+    higher: Column,
+    near: Column,
+    far: Column,
+}
+
+impl Value {
+    /// The value of a plan, as many links as there is room for, with anything past them.
+    pub fn of(plan: &Plan, rng: &mut Rng) -> Value {
+        let mut column = || std::array::from_fn(|_| rng.next() as u16);
+        let mut value = Value {
+            modules: plan.modules,
+            links: plan.links.len() as u16,
+            lower: column(),
+            higher: column(),
+            near: column(),
+            far: column(),
+        };
+        for (k, link) in plan.links.iter().enumerate().take(600) {
+            value.lower[k] = link.lower;
+            value.higher[k] = link.higher;
+            value.near[k] = link.at_lower;
+            value.far[k] = link.at_higher;
+        }
+        value
+    }
+
+    /// 14 to 19, then 22; else 0, and the plan's bytes are at the front of `out`.
+    pub fn write(&self, out: &mut [u8]) -> u32 {
+        let Value { modules, links, lower, higher, near, far } = self;
+        unsafe { muruapy_test_plan_write(*modules, *links, lower, higher, near, far, out.as_mut_ptr(), out.len()) }
+    }
+
+    /// 14 to 19, then 20; else 0, and the tree's L bytes are in `out`.
+    pub fn tree(&self, out: &mut [u8]) -> u32 {
+        let Value { modules, links, lower, higher, near, far } = self;
+        unsafe { muruapy_test_tree_build(*modules, *links, lower, higher, near, far, out.as_mut_ptr(), out.len()) }
+    }
 }

@@ -1,5 +1,6 @@
 //! Compares the compiled plan check, plan reader and writer, tree builder, frame check, frame reader and writer and the
-//! ceiling with the oracle, input by input. Prints one line of counts, or panics at the first difference.
+//! ceiling with the oracle, input by input; writers and builder on values that no reader gives, too. Prints one line of
+//! counts, or panics at the first difference.
 
 mod library;
 
@@ -14,6 +15,9 @@ struct Tally {
     good_plans: usize,
     plans: usize,
     frames: usize,
+    values: usize,
+    /// plans, frames and plan values, drawn or damaged, that are refused
+    refused: usize,
     numbers: BTreeMap<u32, usize>,
 }
 
@@ -52,6 +56,7 @@ fn compare_plan(rng: &mut Rng, tally: &mut Tally, bytes: &[u8]) {
     let copy = |out: &mut [u8]| library::plan_copy(bytes, out);
     match plan::read(bytes) {
         Err(number) => {
+            tally.refused += 1;
             assert_eq!(library::plan_check(bytes), number, "the check");
             let len = rng.pick(&[0, 1, bytes.len() / 8, bytes.len(), bytes.len() + 9]);
             refused(rng, tally, len, number, tree);
@@ -84,6 +89,7 @@ fn compare_frame(rng: &mut Rng, tally: &mut Tally, bytes: &[u8]) {
     let other = rng.pick(&[0, 1, 5, 7, 8, 12]);
     match frame::read(bytes) {
         Err(number) => {
+            tally.refused += 1;
             assert_eq!(library::frame_check(bytes), number, "the check");
             refused(rng, tally, 6, number, copy);
             lend(rng, other, number, &[], copy);
@@ -93,6 +99,55 @@ fn compare_frame(rng: &mut Rng, tally: &mut Tally, bytes: &[u8]) {
             lend(rng, 6, 0, bytes, copy);
             refused(rng, tally, other, 64, copy);
         }
+    }
+}
+
+/// Lends both programs the same bytes: they answer and leave the same, and alter nothing beside the lent bytes.
+fn alike(
+    rng: &mut Rng,
+    tally: &mut Tally,
+    len: usize,
+    oracle: impl Fn(&mut [u8]) -> Result<(), u32>,
+    call: impl Fn(&mut [u8]) -> u32,
+) {
+    let mut buffer: Vec<u8> = (0..len + 2 * GUARD).map(|_| rng.byte()).collect();
+    let mut expected = buffer.clone();
+    let number = oracle(&mut expected[GUARD..GUARD + len]).err().unwrap_or(0);
+    tally.count(number);
+    assert_eq!(call(&mut buffer[GUARD..GUARD + len]), number, "the answer");
+    assert_eq!(buffer, expected, "the lent bytes, or those beside them");
+}
+
+/// A plan value, taken or refused, in columns that hold anything past its links: written, and its tree built.
+fn compare_value(rng: &mut Rng, tally: &mut Tally, plan: &Plan) {
+    tally.values += 1;
+    if plan.check().is_err() {
+        tally.refused += 1;
+    }
+    let value = library::Value::of(plan, rng);
+    let size = 7 + 8 * plan.links.len();
+    for len in [size, size + rng.range(1, 40), size - 1, rng.below(size)] {
+        alike(rng, tally, len, |out| plan::write(plan, out).map(|_| ()), |out| value.write(out));
+    }
+    let l = plan.links.len();
+    let built = |out: &mut [u8]| {
+        plan.check()?;
+        if out.len() != l {
+            return Err(20);
+        }
+        out.copy_from_slice(&kruskal::tree(plan));
+        Ok(())
+    };
+    for len in [l, l + 1, rng.below(l + 1)] {
+        alike(rng, tally, len, built, |out| value.tree(out));
+    }
+}
+
+/// A frame of a header and a carried number, taken or refused, written into a buffer that fits and into another.
+fn compare_write(rng: &mut Rng, tally: &mut Tally, header: u8, carried: u16) {
+    for len in [6, rng.pick(&[0, 1, 5, 7, 8, 12])] {
+        let oracle = |out: &mut [u8]| frame::write(header, carried, out);
+        alike(rng, tally, len, oracle, |out| library::frame_write(header, carried, out));
     }
 }
 
@@ -110,7 +165,7 @@ fn all_of_four(rng: &mut Rng, tally: &mut Tally) {
     }
 }
 
-/// Every header and carried number in a frame of the right version and length.
+/// Every header and carried number, in a frame of the right version and length and given to the writer.
 fn all_frames(tally: &mut Tally) {
     for header in 0..=255 {
         for carried in 0..=65535u16 {
@@ -118,6 +173,9 @@ fn all_frames(tally: &mut Tally) {
             let bytes = [1, 0, 3, header, c[0], c[1]];
             let number = frame::read(&bytes).err().unwrap_or(0);
             assert_eq!(library::frame_check(&bytes), number, "frame {bytes:02x?}");
+            let (mut out, before) = ([9; 6], [9; 6]);
+            assert_eq!(library::frame_write(header, carried, &mut out), number, "write {bytes:02x?}");
+            assert_eq!(out, if number == 0 { bytes } else { before }, "written {bytes:02x?}");
             tally.frames += 1;
         }
     }
@@ -206,6 +264,13 @@ fn main() {
         let bytes = plans::damaged_frame(&mut rng);
         compare_frame(&mut rng, &mut tally, &bytes);
     }
+    for i in 0..3000 {
+        let plan = if i % 40 == 0 { plans::too_many(&mut rng) } else { plans::damaged_value(&mut rng) };
+        compare_value(&mut rng, &mut tally, &plan);
+        let carried = rng.pick(&[0, 5, 599, 600, 65534, NONE]);
+        let header = rng.byte();
+        compare_write(&mut rng, &mut tally, header, carried);
+    }
     let drawn = tally.frames;
     all_frames(&mut tally);
 
@@ -214,12 +279,16 @@ fn main() {
         let times = tally.numbers.get(&number).copied().unwrap_or(0);
         assert!(times >= 20, "refusal {number} came only {times} times: {:?}", tally.numbers);
     }
+    assert!(tally.refused >= 10_000, "only {} inputs were refused", tally.refused);
     let numbers: Vec<String> = tally.numbers.iter().map(|(number, times)| format!("{number}:{times}")).collect();
     println!(
-        "ground: {} plans ({} good, tree as Kruskal's), {} frames ({drawn} drawn), {ceilings} ceilings agree; refusals {}",
+        "ground: {} plans ({} good, tree as Kruskal's), {} plan values, {} frames ({drawn} drawn), {ceilings} ceilings \
+         agree; {} drawn inputs refused; refusals {}",
         tally.plans,
         tally.good_plans,
+        tally.values,
         tally.frames,
+        tally.refused,
         numbers.join(" ")
     );
 }

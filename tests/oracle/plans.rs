@@ -175,7 +175,7 @@ fn damage_value(rng: &mut Rng, plan: &mut Plan) {
 }
 
 /// More than 600 links with a fitting length, good but for their number.
-fn too_many(rng: &mut Rng) -> Plan {
+pub fn too_many(rng: &mut Rng) -> Plan {
     let mut pairs = complete(rng.range(37, 60) as u16);
     pairs.truncate(rng.pick(&[601, 602, 666]));
     let n = 1 + pairs.iter().map(|p| p.1).max().unwrap();
@@ -208,6 +208,16 @@ fn damage_bytes(rng: &mut Rng, bytes: &mut Vec<u8>) {
     }
 }
 
+/// A plan value with up to two damages. Some come out whole.
+pub fn damaged_value(rng: &mut Rng) -> Plan {
+    let kind = rng.pick(&KINDS);
+    let mut plan = good(rng, kind);
+    for _ in 0..rng.below(3) {
+        damage_value(rng, &mut plan);
+    }
+    plan
+}
+
 /// The bytes of a plan with one damage or several, or random bytes. Some come out whole.
 pub fn damaged(rng: &mut Rng) -> Vec<u8> {
     if rng.once_in(40) {
@@ -223,12 +233,7 @@ pub fn damaged(rng: &mut Rng) -> Vec<u8> {
         bytes.extend((0..follow).map(|_| rng.byte() & 3));
         return bytes;
     }
-    let kind = rng.pick(&KINDS);
-    let mut plan = good(rng, kind);
-    for _ in 0..rng.below(3) {
-        damage_value(rng, &mut plan);
-    }
-    let mut bytes = plan.encode();
+    let mut bytes = damaged_value(rng).encode();
     for _ in 0..rng.pick(&[0, 0, 0, 1, 1, 2]) {
         damage_bytes(rng, &mut bytes);
     }
