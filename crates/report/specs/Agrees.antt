@@ -1,19 +1,29 @@
--- What the report says of a plan that is taken: it is not refused, it is of that plan, and its branch lines are those of the tree. (By demand 3.)
-use Prim.Native.Nat.{ℕ, _*_, _<_}
+-- What the report says of a plan that is taken, by demand 3: it is not refused, it is of that plan; its lines are those of the tree's links,
+-- its total is the tree's, its core line has the ends of one tree link.
+use Prim.Native.Nat.{ℕ, _+_, _*_, _≤_, _<_}
 use native.Mathlib.Omega.{arith}
 use mathlib.Core.Path.{_≡_, refl, sym, ap, subst, _∙_}
-use mathlib.Core.List.{List}
+use mathlib.Core.Logic.{inl, inr, ⊎-elim}
+use mathlib.Core.Bool.{true≢false}
+use mathlib.Core.List.{List, _++_}
 use lib.ListN.{getD, replicate, length-replicate}
+use lib.Dec.{eqb}
 use borrow.Author.Tests.{lt-ltb, le-ltb}
-use Rattle.base.specs.Cond.{eqb-same}
+use Rattle.base.specs.Cond.{eqb-same, bool-cases}
 use Rattle.base.specs.Loop.{Ran}
+use Rattle.text.specs.Ascii.{ascii}
+use Rattle.graph.specs.Decide.{inTree-tree, tree-inTree}
+use Rattle.graph.specs.Least.{total}
 use Rattle.plan.specs.declared.Plan.{Plan}
-use Rattle.plan.specs.Links.{low}
+use Rattle.plan.specs.Links.{low, high, graphOf}
+use Rattle.plan.specs.Weights.{cost, earlier}
+use Rattle.plan.specs.Accepted.{Accepted, accepted}
 use Rattle.planfile.specs.Reading.{readPlan}
 use Rattle.planfile.specs.RoundTrip.{read-taken}
+use Rattle.tree.specs.Tree.{treeLink}
 use Rattle.search.specs.Own.{isOwn, endIn, marksIn}
 use Rattle.field.specs.Edges.{ceilingOf}
-use Rattle.field.specs.State.{State, markAt}
+use Rattle.field.specs.State.{State, nodeAt, markAt}
 use Rattle.field.specs.Held.{Held, stateOf, setUp}
 use Rattle.calls.specs.Call.{does, after}
 use Rattle.calls.specs.Demand.{TreeLink}
@@ -21,8 +31,9 @@ use Rattle.fieldlaws.specs.Laid.{Live}
 use Rattle.fieldlaws.specs.After.{started, begun-live, after-plan}
 use Rattle.settle.specs.Settled.{settled}
 use Rattle.settle.specs.Agrees.{calls, settled-is, outcome}
-use Rattle.report.specs.Text.{reportText}
+use Rattle.report.specs.Text.{line, headText, coreText, tailText, reportText, report-of, core-none}
 use Rattle.report.specs.Reported.{reported, settled-shown, plan-taken}
+use Rattle.report.specs.Tree.{treeLines, Marked, lines-tree, total-tree, coreLine, core-two}
 
 -- the mark of a link's lower module stands at 2 × k
 lower-mark : (p : Plan) (s : State) (k : ℕ) → k < p .links → markAt p s (low p k) k ≡ getD (s .marks) (2 * k) 0
@@ -55,10 +66,63 @@ module _ (s : List ℕ) (z : readPlan s .refusal ≡ 0) where
       let live : Live (setUp p lent .state) = subst Live (sym (q .is)) (begun-live p lent (q .plan) (q .room)) in
       ap (λ (r : Ran Held). r .state .field .plan) (settled-is p lent set) ∙ after-plan calls (setUp p lent .state) live ∙ ap (λ (h : Held). h .field .plan) (q .is)
 
-  -- a line for each link of the tree, and for no other
-  module _ (k : ℕ) (l : k < p .links) where
-    pub tree-line : TreeLink p k → getD (ran .state .field .marks) (2 * k) 0 ≡ 1
-    tree-line t = sym (lower-mark p (stateOf (ran .state)) k l) ∙ outcome p lent set .agreed .tree k l t .lower
+  -- the lower end of a link marks it 1 where the tree has it, 2 elsewhere
+  marked : Marked p (ran .state .field .marks) (p .links)
+  marked k l = bool-cases (treeLink p k)
+      (λ t. rw t (ap (λ m. eqb m 1) (own-mark ∙ outcome p lent set .agreed .tree k l (inTree-tree (graphOf p) (earlier p) k t) .lower)))
+      (λ f. rw f (ap (λ m. eqb m 1) (own-mark ∙ outcome p lent set .agreed .others k l (λ t. true≢false (sym (tree-inTree (graphOf p) (earlier p) k t) ∙ f)) .lower)))
+    where
+      own-mark : getD (ran .state .field .marks) (2 * k) 0 ≡ markAt p (stateOf (ran .state)) (low p k) k
+      own-mark = sym (lower-mark p (stateOf (ran .state)) k l)
 
-    pub no-line : ¬ TreeLink p k → getD (ran .state .field .marks) (2 * k) 0 ≡ 2
-    no-line t = sym (lower-mark p (stateOf (ran .state)) k l) ∙ outcome p lent set .agreed .others k l t .lower
+  -- the core line of two modules or more: the ends of one tree link
+  pub record CoreNamed (core : List ℕ) : Type 0 where
+    pub link : ℕ
+    pub within : link < p .links
+    pub tree : TreeLink p link
+    pub named : core ≡ coreLine (low p link) (high p link)
+
+  core-named : 2 ≤ p .modules → CoreNamed (coreText (p .modules) (ran .state .field .cells))
+  core-named m =
+      let c = outcome p lent set .agreed .core m in
+      let cells = ran .state .field .cells in
+      let o = acc .each (c .link) (c .within) in
+      let at : (v : ℕ) → v * 9 + 8 ≡ 9 * v + 8 = λ v. omega arith in
+      let told : (v : ℕ) → getD cells (9 * v + 8) 0 ≡ nodeAt (stateOf (ran .state)) v .halted = λ v. ap (λ i. getD cells i 0) (sym (at v)) in
+      record {
+        link = c .link;
+        within = c .within;
+        tree = c .tree;
+        named = core-two cells (low p (c .link)) (high p (c .link)) (p .modules) (o .ordered) (o .inside)
+            (told _ ∙ c .halted (low p (c .link)) (omega (arith, o .ordered, o .inside)) .1 (inl refl))
+            (told _ ∙ c .halted (high p (c .link)) (o .inside) .1 (inr refl))
+            (λ v l a b e. ⊎-elim a b (c .halted v l .0 (sym (told v) ∙ e)))
+            (acc .modulesOk);
+      }
+    where
+      acc : Accepted p
+      acc = accepted p (read-taken s (readPlan s) refl z)
+
+  -- WHAT IT SAYS: head; a line for each link of the tree, by number; the tree's total; the core; sent, M and rounds
+  pub record Says : Type 0 where
+    pub core : List ℕ
+    pub says : reported s
+        ≡ headText (p .modules) (p .links) ++ treeLines p (p .links) ++ line "total " (total (graphOf p) (cost p) (treeLink p)) ++ core
+        ++ tailText (ran .state .field .sent) (ceilingOf p) (ran .done)
+    pub alone : p .modules ≡ 1 → core ≡ ascii "core none\n"
+    pub others : 2 ≤ p .modules → CoreNamed core
+    pub within : ran .state .field .sent ≤ ceilingOf p
+    pub soon : ran .done ≤ ceilingOf p + p .modules
+
+  pub report-says : Says
+  unfolding total
+  report-says = record {
+    core = coreText (p .modules) (ran .state .field .cells);
+    says = never-refused
+        ∙ report-of (ran .state .field) (ran .done) p own-plan (accepted p (read-taken s (readPlan s) refl z) .linksOk)
+        (lines-tree p _ (p .links) marked) (total-tree p _ (p .links) marked) refl;
+    alone = λ e. core-none (p .modules) _ (omega arith);
+    others = core-named;
+    within = outcome p lent set .ceiling;
+    soon = outcome p lent set .settles .within;
+  }

@@ -75,6 +75,14 @@ report-parts f rounds p e₁ e₂ e₃ e₄ e₅ =
     let k = coreText (f .plan .modules) (f .cells) in
     put-on p (h ++ b ++ t ++ k) _ (put-on p (h ++ b ++ t) k (put-on p (h ++ b) t (put-on p h b e₁ e₂) e₃) e₄) e₅
 
+-- the same of a plan that a field has room for, each part as it is known to be
+pub report-of : (f : Field) (rounds : ℕ) (p : Plan) → f .plan ≡ p → p .links ≤ 600 → {b k : List ℕ} {t : ℕ}
+    → branchLines p (f .marks) (p .links) ≡ b → total p (f .marks) (p .links) ≡ t → coreText (p .modules) (f .cells) ≡ k
+    → reportText f rounds
+    ≡ headText (p .modules) (p .links) ++ b ++ line "total " t ++ k ++ tailText (f .sent) (ceiling (p .modules) (p .links)) rounds
+unfolding reportText
+report-of f rounds p e l eb et ek = let all : min (p .links) 600 ≡ p .links = omega arith in rw (e, all, eb, et, ek) refl
+
 -- For code: which line, one turn more.
 module _ (mark lower higher c : ℕ) where
   pub branch-none : mark ≢ 1 → branchText mark lower higher c ≡ []
