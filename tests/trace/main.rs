@@ -2,9 +2,10 @@
 //!
 //!   trace                             prints what `trace` prints for its standard input
 //!   trace reach SEED COUNT            how often COUNT drawn inputs reach each corner
-//!   trace compare SEED COUNT CMD ..   runs CMD on COUNT drawn inputs and compares what it prints
+//!   trace compare SEED COUNT CMD ..   runs CMD on COUNT drawn inputs and the large ones, and compares what it prints
 
 mod events;
+mod large;
 mod schedules;
 
 use events::Events;
@@ -12,6 +13,17 @@ use oracle::compare::same_output;
 use oracle::rng::Rng;
 use oracle::trace::trace;
 use std::io::Read;
+
+fn compare_large(rng: &mut Rng, command: &[String]) {
+    let inputs = large::inputs(rng);
+    for large in &inputs {
+        let expected = trace(&large.bytes);
+        assert!(expected.starts_with(&large.begins), "{}: the oracle says otherwise", large.name);
+        same_output(command, &large.bytes, &expected, large.name);
+    }
+    let longest = inputs.iter().map(|large| large.bytes.len()).max().unwrap();
+    println!("trace: {} large inputs, up to {longest} bytes, the same output", inputs.len());
+}
 
 fn main() {
     let args: Vec<String> = std::env::args().skip(1).collect();
@@ -34,6 +46,7 @@ fn main() {
     }
     if args[0] == "compare" {
         println!("trace: {count} inputs, {} steps taken, the same output", events.of("steps taken"));
+        compare_large(&mut rng, &args[3..]);
     } else {
         events.print();
     }

@@ -109,7 +109,7 @@ impl Choices {
 }
 
 /// The awake module v would put this message back.
-fn blocked(field: &Field, v: u16, word: Word) -> bool {
+pub fn blocked(field: &Field, v: u16, word: Word) -> bool {
     let (module, message, j) = (field.modules[v as usize], word.message, word.directed / 2);
     match message.kind {
         _ if module.status == ASLEEP => false,
