@@ -22,8 +22,8 @@ fn deaf(status: u16, kind: u8) -> bool
     (status == 0) & (kind != 1) & (kind != 3)
 }
 
-// The response to a message of the given kind, level, carried number and Find bit, by kind.
-fn serve<'a>(
+// The response to a message of the given kind, level, carried number and Find bit.
+fn by_kind<'a>(
     links: u16,
     lower: &'a [u16; 600],
     higher: &'a [u16; 600],
@@ -114,7 +114,7 @@ pub fn respond<'a>(
     ensures { λ r. ⌜ (workOf (marksIn links (now (lower .entry)) (now (higher .entry)) (now (marks .entry)) v) (copiesIn (ownIn links (now (lower .entry)) (now (higher .entry)) (now (near .entry)) (now (far .entry)) v) j (msgOf kind level carried find) (marksIn links (now (lower .entry)) (now (higher .entry)) (now (marks .entry)) v)) r
         ≡ respond (ownIn links (now (lower .entry)) (now (higher .entry)) (now (near .entry)) (now (far .entry)) v) limit (msgOf kind level carried find) j n (marksIn links (now (lower .entry)) (now (higher .entry)) (now (marks .entry)) v)) × Formed r ⌝ }
 {
-    serve(
+    by_kind(
         links,
         lower,
         higher,

@@ -8,11 +8,11 @@ use Rattle.respond.proofs.respond.Tie as tie
 begin-requires : tie.Need-begin-requires
 begin-requires c κs = search needs
 
-serve-requires : tie.Need-serve-requires
-serve-requires c κs = (rw (c .begin .ensures) (c .before .pre .0), fresh (c .begin .ensures), c .before .pre .1)
+by-kind-requires : tie.Need-by-kind-requires
+by-kind-requires c κs = (rw (c .begin .ensures) (c .before .pre .0), fresh (c .begin .ensures), c .before .pre .1)
 
 returns : tie.Need-returns
-returns c = done (c .before .begin .ensures) (c .serve .ensures)
+returns c = done (c .before .begin .ensures) (c .by-kind .ensures)
 
 pub respond-spec : {M : Type 1} → statement M
-respond-spec = tie.close (tie.spec begin-requires serve-requires returns)
+respond-spec = tie.close (tie.spec begin-requires by-kind-requires returns)

@@ -1,4 +1,3 @@
--- `respond::serve` meets its contract.
 use borrow.Author.Needs.{needs}
 use mathlib.Core.Logic.{⊎-elim}
 use mathlib.Core.Path.{refl, sym, _∙_}
@@ -6,8 +5,8 @@ use native.Mathlib.Omega.{arith}
 use Rattle.act.specs.Laws.{told-as, then}
 use Rattle.respond.specs.Laws.{test-level, report-weight, zero-unlisted, rest-unlisted, hears, as-deaf, as-connect, as-initiate, as-test, as-accept, as-reject, as-report, as-change, msg-initiate}
 use Rattle.search.specs.Laws.{own-below}
-use Rattle.respond.proofs.serve.Statement.{statement}
-use Rattle.respond.proofs.serve.Tie as tie
+use Rattle.respond.proofs.by_kind.Statement.{statement}
+use Rattle.respond.proofs.by_kind.Tie as tie
 
 deaf-requires : tie.Need-deaf-requires
 deaf-requires c κs = search needs
@@ -91,8 +90,8 @@ returns-9 c =
     (λ w. absurd (rest-unlisted _ _ _ _ (w .rest .0 .0 .0 .0 .0 .0 .0 .1) (w .rest .0 .0 .0 .0 .0 .0 .1) (w .rest .0 .0 .0 .0 .0 .1) (w .rest .0 .0 .0 .0 .1) (w .rest .0 .0 .0 .1) (w .rest .0 .0 .1) (w .rest .0 .1) (c .before .before .before .before .pre .2)))
     (c .before .match .came)
 
-pub serve-spec : {M : Type 1} → statement M
-serve-spec =
+pub by-kind-spec : {M : Type 1} → statement M
+by-kind-spec =
     tie.close
     (tie.spec
     deaf-requires
