@@ -12,7 +12,7 @@ use Rattle.fieldcheck.specs.declared.Checked.{Checked}
 use Rattle.fieldcheck.specs.Checked.{checkOf}
 use Rattle.fieldcheck.proofs.Words.{front}
 use Rattle.store.specs.Laid.{Laid}
-use Rattle.serve.specs.Lent.{stateOf}
+use Rattle.store.specs.Hands.{stateOf}
 
 module _ (f : Field) (lent : List ℕ) (c : Checked) (e : c ≡ checkOf (record { field = f; words = lent })) where
   abbrev h : Held

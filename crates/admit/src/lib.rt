@@ -7,6 +7,7 @@ ghost use mathlib.Core.Bool.{true};
 ghost use Rattle.fieldcheck.specs.Checked.{checkOf};
 ghost use Rattle.serve.specs.Lent.{Ready};
 
+// Whether it passes, and how many words wait.
 pub fn admit(f: Field, lent: &[u64]) -> Checked
     ensures { λ r. ⌜ (r ≡ checkOf (record { field = f; words = now (lent .entry) }))
         × (r .ok ≡ true → Ready (f .plan) (f .cells) (f .marks) (now (lent .entry)) (r .waiting) (f .sent)) ⌝ }
@@ -26,4 +27,15 @@ pub fn admit(f: Field, lent: &[u64]) -> Checked
         f.sent,
         lent,
     )
+}
+
+// Field f with these cells, marks and sent count: put together again after its steps.
+pub fn rebuilt(f: Field, cells: [u16; 1728], marks: [u8; 1200], sent: u32) -> Field
+    ensures { λ r. ⌜ r ≡ record { plan = f .plan; cells = cells; marks = marks; sent = sent } ⌝ }
+{
+    let mut g = f;
+    g.cells = cells;
+    g.marks = marks;
+    g.sent = sent;
+    g
 }

@@ -11,8 +11,8 @@ use Rattle.calls.specs.Rounds.{roundsRun}
 use Rattle.calls.specs.Call.{refusedRun, laidBack, runRounds}
 use Rattle.fieldcheck.specs.declared.Checked.{Checked}
 use Rattle.fieldcheck.specs.Checked.{checkOf}
-use Rattle.store.specs.Laid.{Laid}
-use Rattle.serve.specs.Lent.{stateOf}
+use Rattle.serve.specs.declared.Done.{Done}
+use Rattle.serve.specs.Lent.{Runs}
 use Rattle.admit.specs.Admitted.{invalid, passes, starts, again}
 
 module _ (h : Held) (limit : ℕ) where
@@ -32,10 +32,9 @@ module _ (f : Field) (lent : List ℕ) (c : Checked) (e : c ≡ checkOf (record 
   run-31 limit n = run-refused h limit (invalid f lent c e n)
 
   -- the rounds, done in the arrays
-  module _ (y : not (c .ok) ≡ false) (limit done answer : ℕ) (cells marks words : List ℕ) (n sent : ℕ) where
-    pub run-done : record { done = done; answer = answer; state = stateOf cells marks words n sent } ≡ roundsRun (f .plan) limit (stateOf (f .cells) (f .marks) lent (c .waiting) (f .sent))
-        → Laid words n → length words ≡ length lent
-        → record { done = done; answer = answer; state = record { field = record { plan = f .plan; cells = cells; marks = marks; sent = sent }; words = words } } ≡ runRounds limit h
-    run-done q l k =
-        ap (λ (x : Held). record { done = done; answer = answer; state = x }) (again f lent cells marks words n sent l k)
-        ∙ ap (laidBack h) (q ∙ ap (roundsRun (f .plan) limit) (starts f lent c e)) ∙ run-goes h limit (passes f lent c e y)
+  module _ (y : not (c .ok) ≡ false) (limit done : ℕ) (d : Done) (cells marks words : List ℕ) where
+    pub run-done : Runs (λ p. roundsRun p limit) (f .plan) (f .cells) (f .marks) lent (c .waiting) (f .sent) done d cells marks words → length words ≡ length lent
+        → record { done = done; answer = d .answer; state = record { field = record { plan = f .plan; cells = cells; marks = marks; sent = d .sent }; words = words } } ≡ runRounds limit h
+    run-done q k =
+        ap (λ (x : Held). record { done = done; answer = d .answer; state = x }) (again f lent cells marks words (d .waiting) (d .sent) (q .ready .laid) k)
+        ∙ ap (laidBack h) (q .is ∙ ap (roundsRun (f .plan) limit) (starts f lent c e)) ∙ run-goes h limit (passes f lent c e y)

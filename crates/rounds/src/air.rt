@@ -1,19 +1,14 @@
 // The first half of a round: "hands over all that each directed link holds, in number order".
 use store;
-ghost use Prim.Native.Nat.{ℕ, _≤_};
-ghost use mathlib.Core.Path.{_≡_};
-ghost use mathlib.Core.List.{List};
-ghost use Rattle.plan.specs.declared.Plan.{Plan};
+ghost use Prim.Native.Nat.{_≤_};
 ghost use Rattle.calls.specs.Rounds.{handTurn, handPhase};
 ghost use Rattle.store.specs.Laid.{Laid};
-ghost use Rattle.serve.specs.Lent.{stateOf};
+ghost use Rattle.store.specs.Hands.{Hands};
 
-// All that directed link d holds is handed over, where n words wait. Only the words change, and their number stays.
+// All that directed link d holds is handed over, where n words wait.
 fn hand_turn(lent: &mut [u64], n: usize, links: u16, d: u16) -> u32
     requires { ⌜ Laid (now lent) n × (links ≤ 600) ⌝ }
-    ensures { λ r. ⌜ ((p : Plan) (cells marks : List ℕ) (sent : ℕ) → links ≡ p .links
-        → record { answer = r; state = stateOf cells marks (now (lent .exit)) n sent } ≡ handTurn p d (stateOf cells marks (now (lent .entry)) n sent))
-        × Laid (now (lent .exit)) n ⌝ }
+    ensures { λ r. ⌜ Hands (λ p. handTurn p d) links n (now (lent .entry)) r (now (lent .exit)) ⌝ }
 {
     let q = store::many_in_air(&lent[..n], d);
     let mut j: usize = 0;
@@ -30,9 +25,7 @@ fn hand_turn(lent: &mut [u64], n: usize, links: u16, d: u16) -> u32
 // The turns of all directed links.
 pub fn hand_phase(lent: &mut [u64], n: usize, links: u16) -> u32
     requires { ⌜ Laid (now lent) n × (links ≤ 600) ⌝ }
-    ensures { λ r. ⌜ ((p : Plan) (cells marks : List ℕ) (sent : ℕ) → links ≡ p .links
-        → record { answer = r; state = stateOf cells marks (now (lent .exit)) n sent } ≡ handPhase p (stateOf cells marks (now (lent .entry)) n sent))
-        × Laid (now (lent .exit)) n ⌝ }
+    ensures { λ r. ⌜ Hands handPhase links n (now (lent .entry)) r (now (lent .exit)) ⌝ }
 {
     let mut d: u16 = 0;
     while d < 2 * links {

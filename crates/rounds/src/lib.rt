@@ -15,6 +15,17 @@ pub struct Rounds {
     pub field: Field,
 }
 
+// A run's end: rounds completed, the refusal that ended it or 0, and the field that it leaves.
+fn after(rounds: u16, refusal: u32, field: Field) -> Rounds
+    ensures { λ r. ⌜ r ≡ record { rounds = rounds; refusal = refusal; field = field } ⌝ }
+{
+    Rounds {
+        rounds: rounds,
+        refusal: refusal,
+        field: field,
+    }
+}
+
 // Rounds until the field is at rest, up to the limit. 31 is checked first, and once.
 pub fn run(f: Field, words: &mut [u64], limit: u16) -> Rounds
     ensures { λ r. ⌜ record { done = r .rounds; answer = r .refusal; state = record { field = r .field; words = now (words .exit) } }
@@ -22,11 +33,7 @@ pub fn run(f: Field, words: &mut [u64], limit: u16) -> Rounds
 {
     let c = admit::admit(f, words);
     if !c.ok {
-        return Rounds {
-            rounds: 0,
-            refusal: 31,
-            field: f,
-        };
+        return after(0, 31, f);
     }
     let p = f.plan;
     let mut cells = f.cells;
@@ -45,13 +52,6 @@ pub fn run(f: Field, words: &mut [u64], limit: u16) -> Rounds
         f.sent,
         limit,
     );
-    let mut g = f;
-    g.cells = cells;
-    g.marks = marks;
-    g.sent = w.sent;
-    Rounds {
-        rounds: w.done,
-        refusal: w.answer,
-        field: g,
-    }
+    let g = admit::rebuilt(f, cells, marks, w.last.sent);
+    after(w.done, w.last.answer, g)
 }

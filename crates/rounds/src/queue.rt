@@ -4,7 +4,7 @@ use serve::Done;
 use store;
 ghost use Rattle.plan.specs.Links.{planOf};
 ghost use Rattle.calls.specs.Rounds.{serveTurn, servePhase};
-ghost use Rattle.serve.specs.Lent.{Ready, Stepped};
+ghost use Rattle.serve.specs.Lent.{Ready, Advances};
 
 // Module v serves as many as its queue holds, where n words wait.
 fn serve_turn<'a>(
@@ -22,16 +22,14 @@ fn serve_turn<'a>(
     v: u16,
 ) -> Done
     requires { ⌜ Ready (planOf modules links (now lower) (now higher) (now near) (now far)) (now cells) (now marks) (now lent) n sent ⌝ }
-    ensures { λ r. ⌜ Stepped (serveTurn (planOf modules links (now (lower .entry)) (now (higher .entry)) (now (near .entry)) (now (far .entry))) v)
-        (now (cells .entry)) (now (marks .entry)) (now (lent .entry)) n sent r (now (cells .exit)) (now (marks .exit)) (now (lent .exit))
-        × Ready (planOf modules links (now (lower .entry)) (now (higher .entry)) (now (near .entry)) (now (far .entry))) (now (cells .exit)) (now (marks .exit)) (now (lent .exit)) (r .waiting) (r .sent) ⌝ }
+    ensures { λ r. ⌜ Advances (λ p. serveTurn p v) (planOf modules links (now (lower .entry)) (now (higher .entry)) (now (near .entry)) (now (far .entry)))
+        (now (cells .entry)) (now (marks .entry)) (now (lent .entry)) n sent r (now (cells .exit)) (now (marks .exit)) (now (lent .exit)) ⌝ }
 {
     let q = store::many_in_queue(lower, higher, &lent[..n], v);
-    let mut m = n;
-    let mut t = sent;
+    let mut s = serve::left(0, n, sent);
     let mut j: usize = 0;
     while j < q {
-        let s = serve::serve(
+        s = serve::serve(
             modules,
             links,
             lower,
@@ -41,22 +39,16 @@ fn serve_turn<'a>(
             cells,
             marks,
             lent,
-            m,
-            t,
+            s.waiting,
+            s.sent,
             v,
         );
         if s.answer != 0 {
             return s;
         }
-        m = s.waiting;
-        t = s.sent;
         j += 1;
     }
-    Done {
-        answer: 0,
-        waiting: m,
-        sent: t,
-    }
+    s
 }
 
 // The turns of all modules.
@@ -74,15 +66,13 @@ pub fn serve_phase<'a>(
     sent: u32,
 ) -> Done
     requires { ⌜ Ready (planOf modules links (now lower) (now higher) (now near) (now far)) (now cells) (now marks) (now lent) n sent ⌝ }
-    ensures { λ r. ⌜ Stepped (servePhase (planOf modules links (now (lower .entry)) (now (higher .entry)) (now (near .entry)) (now (far .entry))))
-        (now (cells .entry)) (now (marks .entry)) (now (lent .entry)) n sent r (now (cells .exit)) (now (marks .exit)) (now (lent .exit))
-        × Ready (planOf modules links (now (lower .entry)) (now (higher .entry)) (now (near .entry)) (now (far .entry))) (now (cells .exit)) (now (marks .exit)) (now (lent .exit)) (r .waiting) (r .sent) ⌝ }
+    ensures { λ r. ⌜ Advances servePhase (planOf modules links (now (lower .entry)) (now (higher .entry)) (now (near .entry)) (now (far .entry)))
+        (now (cells .entry)) (now (marks .entry)) (now (lent .entry)) n sent r (now (cells .exit)) (now (marks .exit)) (now (lent .exit)) ⌝ }
 {
-    let mut m = n;
-    let mut t = sent;
+    let mut s = serve::left(0, n, sent);
     let mut v: u16 = 0;
     while v < modules {
-        let s = serve_turn(
+        s = serve_turn(
             modules,
             links,
             lower,
@@ -92,20 +82,14 @@ pub fn serve_phase<'a>(
             cells,
             marks,
             lent,
-            m,
-            t,
+            s.waiting,
+            s.sent,
             v,
         );
         if s.answer != 0 {
             return s;
         }
-        m = s.waiting;
-        t = s.sent;
         v += 1;
     }
-    Done {
-        answer: 0,
-        waiting: m,
-        sent: t,
-    }
+    s
 }

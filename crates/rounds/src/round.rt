@@ -1,18 +1,27 @@
 // A round, and rounds until the field is at rest, the limit is reached or a step is refused.
 use crate::air;
 use crate::queue;
+use serve;
 use serve::Done;
 ghost use mathlib.Core.Path.{_≡_};
 ghost use Rattle.plan.specs.Links.{planOf};
 ghost use Rattle.calls.specs.Rounds.{round, roundsRun};
-ghost use Rattle.serve.specs.Lent.{stateOf, Ready, Stepped};
+ghost use Rattle.serve.specs.Lent.{Ready, Advances, Runs};
 
-// done: rounds completed. answer: the refusal that ended them, or 0. waiting: the words that wait afterwards.
+// done: rounds completed. last: what the last one answered and left.
 pub struct Went {
     pub done: u16,
-    pub answer: u32,
-    pub waiting: usize,
-    pub sent: u32,
+    pub last: Done,
+}
+
+// After so many rounds.
+fn after(done: u16, last: Done) -> Went
+    ensures { λ r. ⌜ r ≡ record { done = done; last = last } ⌝ }
+{
+    Went {
+        done: done,
+        last: last,
+    }
 }
 
 // One round, where n words wait.
@@ -30,17 +39,12 @@ fn round<'a>(
     sent: u32,
 ) -> Done
     requires { ⌜ Ready (planOf modules links (now lower) (now higher) (now near) (now far)) (now cells) (now marks) (now lent) n sent ⌝ }
-    ensures { λ r. ⌜ Stepped (round (planOf modules links (now (lower .entry)) (now (higher .entry)) (now (near .entry)) (now (far .entry))))
-        (now (cells .entry)) (now (marks .entry)) (now (lent .entry)) n sent r (now (cells .exit)) (now (marks .exit)) (now (lent .exit))
-        × Ready (planOf modules links (now (lower .entry)) (now (higher .entry)) (now (near .entry)) (now (far .entry))) (now (cells .exit)) (now (marks .exit)) (now (lent .exit)) (r .waiting) (r .sent) ⌝ }
+    ensures { λ r. ⌜ Advances round (planOf modules links (now (lower .entry)) (now (higher .entry)) (now (near .entry)) (now (far .entry)))
+        (now (cells .entry)) (now (marks .entry)) (now (lent .entry)) n sent r (now (cells .exit)) (now (marks .exit)) (now (lent .exit)) ⌝ }
 {
     let a = air::hand_phase(lent, n, links);
     if a != 0 {
-        return Done {
-            answer: a,
-            waiting: n,
-            sent: sent,
-        };
+        return serve::left(a, n, sent);
     }
     queue::serve_phase(
         modules,
@@ -73,24 +77,16 @@ pub fn rounds<'a>(
     limit: u16,
 ) -> Went
     requires { ⌜ Ready (planOf modules links (now lower) (now higher) (now near) (now far)) (now cells) (now marks) (now lent) n sent ⌝ }
-    ensures { λ r. ⌜ (record { done = r .done; answer = r .answer; state = stateOf (now (cells .exit)) (now (marks .exit)) (now (lent .exit)) (r .waiting) (r .sent) }
-        ≡ roundsRun (planOf modules links (now (lower .entry)) (now (higher .entry)) (now (near .entry)) (now (far .entry))) limit
-        (stateOf (now (cells .entry)) (now (marks .entry)) (now (lent .entry)) n sent))
-        × Ready (planOf modules links (now (lower .entry)) (now (higher .entry)) (now (near .entry)) (now (far .entry))) (now (cells .exit)) (now (marks .exit)) (now (lent .exit)) (r .waiting) (r .sent) ⌝ }
+    ensures { λ r. ⌜ Runs (λ p. roundsRun p limit) (planOf modules links (now (lower .entry)) (now (higher .entry)) (now (near .entry)) (now (far .entry)))
+        (now (cells .entry)) (now (marks .entry)) (now (lent .entry)) n sent (r .done) (r .last) (now (cells .exit)) (now (marks .exit)) (now (lent .exit)) ⌝ }
 {
-    let mut m = n;
-    let mut t = sent;
+    let mut s = serve::left(0, n, sent);
     let mut k: u16 = 0;
     while k < limit {
-        if m == 0 {
-            return Went {
-                done: k,
-                answer: 0,
-                waiting: m,
-                sent: t,
-            };
+        if s.waiting == 0 {
+            return after(k, s);
         }
-        let s = round(
+        s = round(
             modules,
             links,
             lower,
@@ -100,25 +96,13 @@ pub fn rounds<'a>(
             cells,
             marks,
             lent,
-            m,
-            t,
+            s.waiting,
+            s.sent,
         );
         if s.answer != 0 {
-            return Went {
-                done: k,
-                answer: s.answer,
-                waiting: s.waiting,
-                sent: s.sent,
-            };
+            return after(k, s);
         }
-        m = s.waiting;
-        t = s.sent;
         k += 1;
     }
-    Went {
-        done: k,
-        answer: 0,
-        waiting: m,
-        sent: t,
-    }
+    after(k, s)
 }

@@ -4,21 +4,20 @@ use mathlib.Core.Path.{_≡_, refl, sym, ap, _∙_}
 use mathlib.Core.Logic.{_≢_}
 use mathlib.Core.Bool.{true, false, not}
 use mathlib.Core.List.{List}
-use lib.ListN.{length, take}
-use borrow.Author.Tests.{not-true, ne-eqb, eq-eqb}
-use Rattle.base.specs.Loop.{After, Ran, refused}
+use lib.ListN.{length}
+use borrow.Author.Tests.{ne-eqb, eq-eqb}
+use Rattle.base.specs.Loop.{After, refused}
 use Rattle.field.specs.declared.Field.{Field}
 use Rattle.field.specs.State.{State}
 use Rattle.field.specs.Step.{step}
-use Rattle.field.specs.Held.{Held, layout, heldOf, valid, stepAlone}
+use Rattle.field.specs.Held.{Held, heldOf, valid, stepAlone}
 use Rattle.field.specs.Held as H
 use Rattle.calls.specs.Schedule.{scheduleRefusal, scheduleRun}
 use Rattle.calls.specs.Call.{refusedRun, laidBack, runBytes}
 use Rattle.fieldcheck.specs.declared.Checked.{Checked}
 use Rattle.fieldcheck.specs.Checked.{checkOf}
-use Rattle.store.specs.Laid.{Laid}
 use Rattle.serve.specs.declared.Done.{Done}
-use Rattle.serve.specs.Lent.{stateOf, Stepped}
+use Rattle.serve.specs.Lent.{Advances, Runs}
 use Rattle.admit.specs.Admitted.{invalid, passes, starts, again}
 
 -- a step's end, with the words laid out again
@@ -58,19 +57,18 @@ module _ (f : Field) (lent : List ℕ) (c : Checked) (e : c ≡ checkOf (record 
 
   module _ (y : not (c .ok) ≡ false) where
     pub step-done : (kind number : ℕ) (d : Done) (cells marks words : List ℕ)
-        → Stepped (step (f .plan) kind number) (f .cells) (f .marks) lent (c .waiting) (f .sent) d cells marks words → length words ≡ length lent
+        → Advances (λ p. step p kind number) (f .plan) (f .cells) (f .marks) lent (c .waiting) (f .sent) d cells marks words → length words ≡ length lent
         → record { answer = d .answer; state = record { field = record { plan = f .plan; cells = cells; marks = marks; sent = d .sent }; words = words } } ≡ stepAlone kind number h
     step-done kind number d cells marks words q k =
-        ap (λ (x : Held). record { answer = d .answer; state = x }) (again f lent cells marks words (d .waiting) (d .sent) (q .laid) k)
+        ap (λ (x : Held). record { answer = d .answer; state = x }) (again f lent cells marks words (d .waiting) (d .sent) (q .ready .laid) k)
         ∙ ap (put h) (q .is ∙ ap (step (f .plan) kind number) (starts f lent c e)) ∙ step-goes h kind number (passes f lent c e y)
 
     pub run-54 : (bytes : List ℕ) (bad : ℕ) → bad ≡ scheduleRefusal bytes → bad ≢ 0 → refusedRun bad h ≡ runBytes bytes h
     run-54 bytes bad b n = ap (λ (x : ℕ). refusedRun x h) b ∙ run-bad h bytes (passes f lent c e y) (λ z. n (b ∙ z))
 
-    pub run-done : (bytes : List ℕ) (bad : ℕ) → bad ≡ scheduleRefusal bytes → bad ≡ 0 → (done answer : ℕ) (cells marks words : List ℕ) (n sent : ℕ)
-        → record { done = done; answer = answer; state = stateOf cells marks words n sent } ≡ scheduleRun (f .plan) bytes (stateOf (f .cells) (f .marks) lent (c .waiting) (f .sent))
-        → Laid words n → length words ≡ length lent
-        → record { done = done; answer = answer; state = record { field = record { plan = f .plan; cells = cells; marks = marks; sent = sent }; words = words } } ≡ runBytes bytes h
-    run-done bytes bad b z done answer cells marks words n sent q l k =
-        ap (λ (x : Held). record { done = done; answer = answer; state = x }) (again f lent cells marks words n sent l k)
-        ∙ ap (laidBack h) (q ∙ ap (scheduleRun (f .plan) bytes) (starts f lent c e)) ∙ run-goes h bytes (passes f lent c e y) (sym b ∙ z)
+    pub run-done : (bytes : List ℕ) (bad : ℕ) → bad ≡ scheduleRefusal bytes → bad ≡ 0 → (done : ℕ) (d : Done) (cells marks words : List ℕ)
+        → Runs (λ p. scheduleRun p bytes) (f .plan) (f .cells) (f .marks) lent (c .waiting) (f .sent) done d cells marks words → length words ≡ length lent
+        → record { done = done; answer = d .answer; state = record { field = record { plan = f .plan; cells = cells; marks = marks; sent = d .sent }; words = words } } ≡ runBytes bytes h
+    run-done bytes bad b z done d cells marks words q k =
+        ap (λ (x : Held). record { done = done; answer = d .answer; state = x }) (again f lent cells marks words (d .waiting) (d .sent) (q .ready .laid) k)
+        ∙ ap (laidBack h) (q .is ∙ ap (scheduleRun (f .plan) bytes) (starts f lent c e)) ∙ run-goes h bytes (passes f lent c e y) (sym b ∙ z)

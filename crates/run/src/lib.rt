@@ -21,6 +21,27 @@ pub struct Ran {
     pub field: Field,
 }
 
+// What a step answers, and the field that it leaves.
+fn with_answer(answer: u32, field: Field) -> Taken
+    ensures { λ r. ⌜ r ≡ record { answer = answer; field = field } ⌝ }
+{
+    Taken {
+        answer: answer,
+        field: field,
+    }
+}
+
+// A run's end: steps done, the refusal that ended it or 0, and the field that it leaves.
+fn after(steps: usize, refusal: u32, field: Field) -> Ran
+    ensures { λ r. ⌜ r ≡ record { steps = steps; refusal = refusal; field = field } ⌝ }
+{
+    Ran {
+        steps: steps,
+        refusal: refusal,
+        field: field,
+    }
+}
+
 // One step: kind 1 wakes module number, 2 hands over on directed link number, 3 lets module number serve.
 pub fn step(f: Field, words: &mut [u64], kind: u8, number: u16) -> Taken
     ensures { λ r. ⌜ record { answer = r .answer; state = record { field = r .field; words = now (words .exit) } }
@@ -28,10 +49,7 @@ pub fn step(f: Field, words: &mut [u64], kind: u8, number: u16) -> Taken
 {
     let c = admit::admit(f, words);
     if !c.ok {
-        return Taken {
-            answer: 31,
-            field: f,
-        };
+        return with_answer(31, f);
     }
     let p = f.plan;
     let mut cells = f.cells;
@@ -51,14 +69,8 @@ pub fn step(f: Field, words: &mut [u64], kind: u8, number: u16) -> Taken
         kind,
         number,
     );
-    let mut g = f;
-    g.cells = cells;
-    g.marks = marks;
-    g.sent = d.sent;
-    Taken {
-        answer: d.answer,
-        field: g,
-    }
+    let g = admit::rebuilt(f, cells, marks, d.sent);
+    with_answer(d.answer, g)
 }
 
 // A run of a schedule: 31, then 51 to 54, then its steps up to the first that is refused.
@@ -68,19 +80,11 @@ pub fn run(f: Field, words: &mut [u64], bytes: &[u8]) -> Ran
 {
     let c = admit::admit(f, words);
     if !c.ok {
-        return Ran {
-            steps: 0,
-            refusal: 31,
-            field: f,
-        };
+        return after(0, 31, f);
     }
     let bad = schedule::check(bytes);
     if bad != 0 {
-        return Ran {
-            steps: 0,
-            refusal: bad,
-            field: f,
-        };
+        return after(0, bad, f);
     }
     let p = f.plan;
     let mut cells = f.cells;
@@ -100,13 +104,6 @@ pub fn run(f: Field, words: &mut [u64], bytes: &[u8]) -> Ran
         bytes,
         (bytes.len() - 3) / 3,
     );
-    let mut g = f;
-    g.cells = cells;
-    g.marks = marks;
-    g.sent = w.sent;
-    Ran {
-        steps: w.done,
-        refusal: w.answer,
-        field: g,
-    }
+    let g = admit::rebuilt(f, cells, marks, w.last.sent);
+    after(w.done, w.last.answer, g)
 }

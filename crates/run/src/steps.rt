@@ -7,14 +7,22 @@ ghost use mathlib.Core.Path.{_≡_};
 ghost use Rattle.plan.specs.Links.{planOf};
 ghost use Rattle.field.specs.Step.{step};
 ghost use Rattle.calls.specs.Schedule.{stepsIn, scheduleRefusal, scheduleRun};
-ghost use Rattle.serve.specs.Lent.{stateOf, Ready, Stepped};
+ghost use Rattle.serve.specs.Lent.{Ready, Advances, Runs};
 
-// done: steps done. answer: the refusal that ended them, or 0. waiting: the words that wait afterwards.
+// done: steps done. last: what the last one answered and left.
 pub struct Went {
     pub done: usize,
-    pub answer: u32,
-    pub waiting: usize,
-    pub sent: u32,
+    pub last: Done,
+}
+
+// After so many steps.
+fn after(done: usize, last: Done) -> Went
+    ensures { λ r. ⌜ r ≡ record { done = done; last = last } ⌝ }
+{
+    Went {
+        done: done,
+        last: last,
+    }
 }
 
 // One step, where n words wait: 0, or refused by 54, 41 to 45, 32 or 33.
@@ -34,7 +42,7 @@ pub fn step<'a>(
     number: u16,
 ) -> Done
     requires { ⌜ Ready (planOf modules links (now lower) (now higher) (now near) (now far)) (now cells) (now marks) (now lent) n sent ⌝ }
-    ensures { λ r. ⌜ Stepped (step (planOf modules links (now (lower .entry)) (now (higher .entry)) (now (near .entry)) (now (far .entry))) kind number)
+    ensures { λ r. ⌜ Advances (λ p. step p kind number) (planOf modules links (now (lower .entry)) (now (higher .entry)) (now (near .entry)) (now (far .entry)))
         (now (cells .entry)) (now (marks .entry)) (now (lent .entry)) n sent r (now (cells .exit)) (now (marks .exit)) (now (lent .exit)) ⌝ }
 {
     match kind {
@@ -52,11 +60,7 @@ pub fn step<'a>(
             sent,
             number,
         ),
-        2 => Done {
-            answer: store::hand(lent, n, links, number),
-            waiting: n,
-            sent: sent,
-        },
+        2 => serve::left(store::hand(lent, n, links, number), n, sent),
         3 => serve::serve(
             modules,
             links,
@@ -71,11 +75,7 @@ pub fn step<'a>(
             sent,
             number,
         ),
-        0 | 4..=255 => Done {
-            answer: 54,
-            waiting: n,
-            sent: sent,
-        },
+        0 | 4..=255 => serve::left(54, n, sent),
     }
 }
 
@@ -97,16 +97,13 @@ pub fn steps<'a>(
 ) -> Went
     requires { ⌜ Ready (planOf modules links (now lower) (now higher) (now near) (now far)) (now cells) (now marks) (now lent) n sent
         × (scheduleRefusal (now bytes) ≡ 0) × (count ≡ stepsIn (now bytes)) ⌝ }
-    ensures { λ r. ⌜ (record { done = r .done; answer = r .answer; state = stateOf (now (cells .exit)) (now (marks .exit)) (now (lent .exit)) (r .waiting) (r .sent) }
-        ≡ scheduleRun (planOf modules links (now (lower .entry)) (now (higher .entry)) (now (near .entry)) (now (far .entry))) (now (bytes .entry))
-        (stateOf (now (cells .entry)) (now (marks .entry)) (now (lent .entry)) n sent))
-        × Ready (planOf modules links (now (lower .entry)) (now (higher .entry)) (now (near .entry)) (now (far .entry))) (now (cells .exit)) (now (marks .exit)) (now (lent .exit)) (r .waiting) (r .sent) ⌝ }
+    ensures { λ r. ⌜ Runs (λ p. scheduleRun p (now (bytes .entry))) (planOf modules links (now (lower .entry)) (now (higher .entry)) (now (near .entry)) (now (far .entry)))
+        (now (cells .entry)) (now (marks .entry)) (now (lent .entry)) n sent (r .done) (r .last) (now (cells .exit)) (now (marks .exit)) (now (lent .exit)) ⌝ }
 {
-    let mut m = n;
-    let mut t = sent;
+    let mut s = serve::left(0, n, sent);
     let mut k: usize = 0;
     while k < count {
-        let s = step(
+        s = step(
             modules,
             links,
             lower,
@@ -116,27 +113,15 @@ pub fn steps<'a>(
             cells,
             marks,
             lent,
-            m,
-            t,
+            s.waiting,
+            s.sent,
             schedule::kind(bytes, k),
             schedule::number(bytes, k),
         );
         if s.answer != 0 {
-            return Went {
-                done: k,
-                answer: s.answer,
-                waiting: s.waiting,
-                sent: s.sent,
-            };
+            return after(k, s);
         }
-        m = s.waiting;
-        t = s.sent;
         k += 1;
     }
-    Went {
-        done: k,
-        answer: 0,
-        waiting: m,
-        sent: t,
-    }
+    after(k, s)
 }

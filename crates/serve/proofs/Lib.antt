@@ -3,4 +3,7 @@ pub mod Words
 pub mod Settled
 pub mod Outs
 pub mod Parts
+pub mod Ready
 pub mod Steps
+pub mod Turns
+pub mod Going

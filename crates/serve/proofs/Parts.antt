@@ -1,13 +1,13 @@
 -- A word taken apart, and the response to what it says.
 use Prim.Native.Nat.{ℕ}
-use mathlib.Core.Path.{_≡_, sym, ap, _∙_}
+use mathlib.Core.Path.{_≡_, ap}
 use mathlib.Core.Bool.{true, and-eq-true-iff}
 use mathlib.Core.List.{List}
 use lib.Dec.{ltb}
 use Rattle.message.specs.Msg.{Msg}
 use Rattle.message.specs.Header.{kindAt, levelAt, findAt, msgOf}
 use Rattle.message.specs.Listed.{listedAs, listed}
-use Rattle.word.specs.Word.{headerIn, carriedIn, linkIn}
+use Rattle.word.specs.Word.{headerIn, carriedIn}
 use Rattle.node.specs.declared.Node.{Node}
 use Rattle.node.specs.Work.{Own}
 use Rattle.node.specs.Rules.{respond}

@@ -25,14 +25,16 @@ use Rattle.act.specs.declared.Act.{Act}
 use Rattle.act.specs.Act.{workOf, Formed}
 use Rattle.reply.specs.Copies.{copiesIn}
 use Rattle.respond.specs.Fit.{Fit}
-use Rattle.field.specs.Edges.{isOwn, ownOf, linkOf, limitOf, ceilingOf}
+use Rattle.field.specs.Edges.{ownOf, linkOf, limitOf, ceilingOf}
 use Rattle.field.specs.State.{State, nodeIn, nodeAt, markAt, msgIn}
 use Rattle.field.specs.Step.{inQueue, without, settle, backOf, wakeWork, wake, serveWork, serveAt, serve}
 use Rattle.field.specs.Valid.{carriedFits, linkFits, levelFits, wordFits}
-use Rattle.fieldlaws.specs.Lists.{NodeOk, WorkOk}
+use Rattle.fieldlaws.specs.Lists.{WorkOk}
 use Rattle.fieldlaws.specs.Keeps.{wake-ok, served-own, serve-ok}
 use Rattle.serve.specs.declared.Done.{Done}
-use Rattle.serve.specs.Lent.{stateOf, Ready, Stepped, Settles, workBy, settledBy}
+use Rattle.store.specs.Hands.{stateOf}
+use Rattle.serve.specs.Lent.{Ready, Advances, Responds, Settles, Settled, workBy}
+use Rattle.serve.proofs.Ready.{stays, advances, wake-sound, serve-sound}
 use Rattle.serve.proofs.Words.{past-length}
 use Rattle.serve.proofs.Outs.{first-ok, second-ok}
 
@@ -84,20 +86,13 @@ word-listed p x e =
 
 -- ---- in lent arrays
 
--- the ceiling, as the code works it out
-pub settles-as : {links n sent ceiling M v i : ℕ} {marks lent : List ℕ} {a : Act} → ceiling ≡ M → Settles links marks lent n sent M v i a → Settles links marks lent n sent ceiling v i a
-settles-as e h = rw e h
-
 module _ (p : Plan) (cells marks lent : List ℕ) (n sent v : ℕ) (r : Ready p cells marks lent n sent) where
   abbrev before : State
   before = stateOf cells marks lent n sent
 
   -- a refused step alters nothing
-  abbrev left : (State → After State) → ℕ → Type 0
-  left g answer = Stepped g cells marks lent n sent (record { answer = answer; waiting = n; sent = sent }) cells marks lent
-
-  stays : (g : State → After State) (answer : ℕ) → g before ≡ refused answer before → left g answer
-  stays g answer e = record { is = sym e; laid = r .laid }
+  abbrev refuses : (Plan → State → After State) → ℕ → Done → Type 0
+  refuses g answer d = d ≡ record { answer = answer; waiting = n; sent = sent } → Advances g p cells marks lent n sent d cells marks lent
 
   many : length (take n lent) ≡ n
   many = length-take-le n lent (r .laid .within)
@@ -118,43 +113,46 @@ module _ (p : Plan) (cells marks lent : List ℕ) (n sent v : ℕ) (r : Ready p 
     second = second-ok p (r .plan) v (markAt p before v) (copiesIn (ownOf p v) j msg (markAt p before v)) a f (ok .sends);
   }
 
-  pub waking-41 : p .modules ≤ v → left (wake p v) 41
-  waking-41 h = stays (wake p v) 41 (wake-41 p v before h)
+  pub waking-41 : p .modules ≤ v → {d : Done} → refuses (λ p. wake p v) 41 d
+  waking-41 h = stays p cells marks lent n sent r (λ p. wake p v) 41 (wake-41 p v before h)
 
-  pub serving-41 : p .modules ≤ v → left (serve p v) 41
-  serving-41 h = stays (serve p v) 41 (serve-41 p v before h)
+  pub serving-41 : p .modules ≤ v → {d : Done} → refuses (λ p. serve p v) 41 d
+  serving-41 h = stays p cells marks lent n sent r (λ p. serve p v) 41 (serve-41 p v before h)
 
   module _ (l : v < p .modules) where
-    pub waking-43 : (x : Node) → x ≡ nodeIn cells (v * 9) → x .status ≢ 0 → left (wake p v) 43
-    waking-43 x e h = stays (wake p v) 43 (wake-43 p v before l (λ q. h (ap (λ (y : Node). y .status) e ∙ q)))
+    pub waking-43 : (o : Node) → o ≡ nodeIn cells (v * 9) → o .status ≢ 0 → {d : Done} → refuses (λ p. wake p v) 43 d
+    waking-43 o e h = stays p cells marks lent n sent r (λ p. wake p v) 43 (wake-43 p v before l (λ q. h (ap (λ (y : Node). y .status) e ∙ q)))
 
-    module _ (x : Node) (ex : x ≡ nodeIn cells (v * 9)) (h : x .status ≡ 0) (a : Act) (f : Formed a)
-        (e : (cs : List Send) → workOf (markAt p before v) cs a ≡ wakes (ownOf p v) x (markAt p before v)) where
-      is-wake : workBy p v 0 change a before ≡ wakeWork p v before
-      is-wake = e _ ∙ ap (λ (y : Node). wakes (ownOf p v) y (markAt p before v)) ex
+    module _ (o : Node) (eo : o ≡ nodeIn cells (v * 9)) (h : o .status ≡ 0) (a : Act) (f : Formed a)
+        (e : (cs : List Send) → workOf (markAt p before v) cs a ≡ wakes (ownOf p v) o (markAt p before v)) where
+      is-wake : (j : ℕ) (msg : Msg) → workBy p v j msg a before ≡ wakeWork p v before
+      is-wake j msg = e _ ∙ ap (λ (y : Node). wakes (ownOf p v) y (markAt p before v)) eo
 
       answers : a .answer ≡ TAKEN
-      answers = ap (λ (w : Work). w .answer) (e []) ∙ wake-taken (ownOf p v) x (markAt p before v)
+      answers = ap (λ (w : Work). w .answer) (e []) ∙ wake-taken (ownOf p v) o (markAt p before v)
 
       pub waking-settles : Settles (p .links) marks lent n sent (ceilingOf p) v n a
       waking-settles =
-          settles n 0 change a l f (subst (WorkOk (ownOf p v) (limitOf p)) (sym is-wake) (wake-ok p (r .plan) before (r .sound) v l)) (inr (λ q. omega (arith, answers)))
+          settles n 0 change a l f (subst (WorkOk (ownOf p v) (limitOf p)) (sym (is-wake 0 change)) (wake-ok p (r .plan) before (r .sound) v l)) (inr (λ q. omega (arith, answers)))
 
-      pub waking : (d : Done) (cells′ marks′ lent′ : List ℕ) → Stepped (settledBy p v n 0 0 change a) cells marks lent n sent d cells′ marks′ lent′
-          → Stepped (wake p v) cells marks lent n sent d cells′ marks′ lent′
-      waking d cells′ marks′ lent′ t = record {
-        is = t .is
-            ∙ ap (λ (b : List ℕ). settle p v (workBy p v 0 change a before) before (without n (take n lent)) b) (not-put-back (workBy p v 0 change a before) 0 answers)
-            ∙ ap (λ (ws : List ℕ). settle p v (workBy p v 0 change a before) before ws []) (past-length n (take n lent) (omega (arith, many)))
-            ∙ ap (λ (w : Work). settle p v w before (take n lent) []) is-wake
-            ∙ sym (wake-on p v before l (ap (λ (y : Node). y .status) (sym ex) ∙ h));
-        laid = t .laid;
-      }
+      -- whatever word stands for the one that is not served
+      pub waking : (x : ℕ) (msg : Msg) → Means (headerIn x) (carriedIn x) msg → {d : Done} {cells′ marks′ lent′ : List ℕ}
+          → Settled p v n x msg a cells marks lent n sent d cells′ marks′ lent′ → length lent′ ≡ length lent → Advances (λ p. wake p v) p cells marks lent n sent d cells′ marks′ lent′
+      waking x msg m t = advances p cells marks lent n sent r (λ p. wake p v) (wake-sound p cells marks lent n sent r v)
+          (t .is (r .plan) m
+          ∙ ap (λ (b : List ℕ). settle p v w before (without n (take n lent)) b) (not-put-back w x answers)
+          ∙ ap (λ (ws : List ℕ). settle p v w before ws []) (past-length n (take n lent) (omega (arith, many)))
+          ∙ ap (λ (y : Work). settle p v y before (take n lent) []) (is-wake _ msg)
+          ∙ sym (wake-on p v before l (ap (λ (y : Node). y .status) (sym eo) ∙ h)))
+          (t .laid)
+        where
+          w : Work
+          w = workBy p v (linkOf (linkIn x)) msg a before
 
     -- i is the place of the first word of v's queue
     module _ (i : ℕ) (ei : i ≡ place (inQueue p v) (take n lent)) where
-      pub serving-45 : n ≤ i → left (serve p v) 45
-      serving-45 h = stays (serve p v) 45 (serve-45 p v before l (omega (arith, many)))
+      pub serving-45 : n ≤ i → {d : Done} → refuses (λ p. serve p v) 45 d
+      serving-45 h = stays p cells marks lent n sent r (λ p. serve p v) 45 (serve-45 p v before l (omega (arith, many)))
 
       module _ (k : i < n) (x : ℕ) (ex : x ≡ getD lent i 0) where
         read : getD (take n lent) (place (inQueue p v) (take n lent)) 0 ≡ x
@@ -172,9 +170,6 @@ module _ (p : Plan) (cells marks lent : List ℕ) (n sent v : ℕ) (r : Ready p 
         pub serving-listed : listed (headerIn x) (carriedIn x) ≡ true
         serving-listed = word-listed p x fits
 
-        pub serving-means : Means (headerIn x) (carriedIn x) (msgIn x)
-        serving-means = means (headerIn x) (carriedIn x) serving-listed
-
         pub serving-fit : Fit (p .links) (p .lower) (p .higher) v (linkOf (linkIn x)) (nodeIn cells (v * 9))
         serving-fit =
             let o = r .sound .fits .nodes v l in
@@ -185,18 +180,21 @@ module _ (p : Plan) (cells marks lent : List ℕ) (n sent v : ℕ) (r : Ready p 
               weight = ⊎-elim (λ e. inr e) (λ b. inl (omega (arith, r .plan .linksOk))) (o .weight);
             }
 
-        module _ (a : Act) (f : Formed a) (e : workBy p v (linkOf (linkIn x)) (msgIn x) a before ≡ serveWork p v x before) where
+        module _ (a : Act) (e : Responds p v x cells marks a) where
+          is-serve : workBy p v (linkOf (linkIn x)) (msgIn x) a before ≡ serveWork p v x before
+          is-serve = e .is lent n sent
+
           pub serving-settles : Settles (p .links) marks lent n sent (ceilingOf p) v i a
           serving-settles =
-              settles i (linkOf (linkIn x)) (msgIn x) a l f
-              (subst (WorkOk (ownOf p v) (limitOf p)) (sym e) (serve-ok p (r .plan) before (r .sound) v x l fits (first-passes first))) (inl k)
+              settles i (linkOf (linkIn x)) (msgIn x) a l (e .formed)
+              (subst (WorkOk (ownOf p v) (limitOf p)) (sym is-serve) (serve-ok p (r .plan) before (r .sound) v x l fits (first-passes first))) (inl k)
 
-          pub serving : (j : ℕ) → j ≡ linkOf (linkIn x) → (d : Done) (cells′ marks′ lent′ : List ℕ) → Stepped (settledBy p v i x j (msgIn x) a) cells marks lent n sent d cells′ marks′ lent′
-              → Stepped (serve p v) cells marks lent n sent d cells′ marks′ lent′
-          serving j ej d cells′ marks′ lent′ t = record {
-            is = t .is ∙ ap (λ (y : ℕ). settledBy p v i x y (msgIn x) a before) ej ∙ ap (λ (w : Work). settle p v w before (without i (take n lent)) (backOf w x)) e ∙ sym (serve-on p v before l (omega (arith, many)) ∙ there);
-            laid = t .laid;
-          }
+          pub serving : {d : Done} {cells′ marks′ lent′ : List ℕ} → Settled p v i x (msgIn x) a cells marks lent n sent d cells′ marks′ lent′ → length lent′ ≡ length lent
+              → Advances (λ p. serve p v) p cells marks lent n sent d cells′ marks′ lent′
+          serving t = advances p cells marks lent n sent r (λ p. serve p v) (serve-sound p cells marks lent n sent r v)
+              (t .is (r .plan) (means (headerIn x) (carriedIn x) serving-listed)
+              ∙ ap (λ (w : Work). settle p v w before (without i (take n lent)) (backOf w x)) is-serve ∙ sym (serve-on p v before l (omega (arith, many)) ∙ there))
+              (t .laid)
             where
               there : serveAt p v (place (inQueue p v) (take n lent)) before ≡ settle p v (serveWork p v x before) before (without i (take n lent)) (backOf (serveWork p v x before) x)
               there =

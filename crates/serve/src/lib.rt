@@ -1,7 +1,6 @@
 // Two steps on lent arrays: a module wakes, a module serves the first word of its queue. (A hand-over is in `store`.)
 // A response is worked out by value, then settled: 32 and 33 before anything is written.
 use act::Act;
-use base::NONE;
 use cells;
 use commit;
 use message;
@@ -9,32 +8,41 @@ use plan;
 use respond;
 use store;
 use word;
-ghost use Prim.Native.Nat.{ℕ, _+_, _*_, _<_, _≤_};
+ghost use Prim.Native.Nat.{ℕ, _+_, _*_, _<_};
 ghost use mathlib.Core.Path.{_≡_};
 ghost use mathlib.Core.Bool.{true};
 ghost use mathlib.Core.List.{List, _++_};
 ghost use lib.ListN.{length, take};
 ghost use Rattle.message.specs.Msg.{Msg};
-ghost use Rattle.message.specs.Header.{headerOf, carriedOf};
 ghost use Rattle.message.specs.Listed.{listed};
 ghost use Rattle.word.specs.Word.{headerIn, carriedIn, linkIn};
 ghost use Rattle.plan.specs.Links.{planOf};
-ghost use Rattle.plan.specs.Accepted.{Accepted};
+ghost use Rattle.plan.specs.Ceiling.{ceiling};
 ghost use Rattle.node.specs.Work.{Work, BACK};
-ghost use Rattle.field.specs.Edges.{ceilingOf, linkOf};
-ghost use Rattle.act.specs.Act.{Formed};
+ghost use Rattle.field.specs.Edges.{linkOf};
 ghost use Rattle.respond.specs.Fit.{Fit};
-ghost use Rattle.field.specs.State.{nodeIn, msgIn};
-ghost use Rattle.field.specs.Step.{without, backOf, serveWork, wake, serve};
+ghost use Rattle.field.specs.State.{nodeIn};
+ghost use Rattle.field.specs.Step.{without, backOf, wake, serve};
 ghost use Rattle.store.specs.Laid.{Laid};
 ghost use Rattle.serve.specs.Holds.{Holds};
-ghost use Rattle.serve.specs.Lent.{stateOf, Ready, Stepped, Settles, workBy, settledBy};
+ghost use Rattle.serve.specs.Lent.{Ready, Advances, Responds, Settles, Settled};
 
 // answer: 0, or the refusal's number. waiting, sent: the words that wait and the sent count afterwards.
 pub struct Done {
     pub answer: u32,
     pub waiting: usize,
     pub sent: u32,
+}
+
+// What a step answers and leaves.
+pub fn left(answer: u32, waiting: usize, sent: u32) -> Done
+    ensures { λ r. ⌜ r ≡ record { answer = answer; waiting = waiting; sent = sent } ⌝ }
+{
+    Done {
+        answer: answer,
+        waiting: waiting,
+        sent: sent,
+    }
 }
 
 // The word at place i leaves; there is none past the last.
@@ -61,9 +69,10 @@ fn put_back(lent: &mut [u64], n: usize, answer: u32, x: u64) -> usize
     n + 1
 }
 
-// Response a of module v is settled: 32 or 33 and nothing is altered, else 0. n words wait, and M is the ceiling. The served word x stands at place i
-// and came over link j with this header and carried number; a wakeup serves none, and i is n.
+// Response a of module v is settled: 32 or 33 and nothing is altered, else 0. n words wait. The served word x stands at place i; a wakeup serves
+// none, and i is n.
 fn settle<'a>(
+    modules: u16,
     links: u16,
     lower: &'a [u16; 600],
     higher: &'a [u16; 600],
@@ -72,57 +81,29 @@ fn settle<'a>(
     lent: &mut [u64],
     n: usize,
     sent: u32,
-    ceiling: u32,
     v: u16,
     i: usize,
     x: u64,
-    j: u16,
-    header: u8,
-    carried: u16,
     a: Act,
 ) -> Done
-    requires { ⌜ Settles links (now marks) (now lent) n sent ceiling v i a ⌝ }
-    ensures { λ r. ⌜ ((modules : ℕ) (near far : List ℕ) (msg : Msg) → Accepted (planOf modules links (now (lower .entry)) (now (higher .entry)) near far)
-        → ceiling ≡ ceilingOf (planOf modules links (now (lower .entry)) (now (higher .entry)) near far) → headerOf msg ≡ header → carriedOf msg ≡ carried
-        → Stepped (settledBy (planOf modules links (now (lower .entry)) (now (higher .entry)) near far) v i x j msg a)
+    requires { ⌜ Settles links (now marks) (now lent) n sent (ceiling modules links) v i a ⌝ }
+    ensures { λ r. ⌜ ((near far : List ℕ) (msg : Msg) → Settled (planOf modules links (now (lower .entry)) (now (higher .entry)) near far) v i x msg a
         (now (cells .entry)) (now (marks .entry)) (now (lent .entry)) n sent r (now (cells .exit)) (now (marks .exit)) (now (lent .exit))) ⌝ }
 {
     if a.answer == 32 {
-        return Done {
-            answer: 32,
-            waiting: n,
-            sent: sent,
-        };
+        return left(32, n, sent);
     }
+    let j = word::link(x) / 2;
     let c = commit::many(links, lower, higher, marks, v, j, a);
-    if ceiling - sent < c {
-        return Done {
-            answer: 33,
-            waiting: n,
-            sent: sent,
-        };
+    if plan::ceiling(modules, links) - sent < c {
+        return left(33, n, sent);
     }
     let l = take_out(lent, n, i);
-    let m = commit::place(
-        links,
-        lower,
-        higher,
-        cells,
-        marks,
-        lent,
-        l,
-        v,
-        j,
-        header,
-        carried,
-        a,
-    );
-    let k = put_back(lent, m, a.answer, x);
-    Done {
-        answer: 0,
-        waiting: k,
-        sent: sent + c,
-    }
+    let h = word::header(x);
+    let k = word::carried(x);
+    let m = commit::place(links, lower, higher, cells, marks, lent, l, v, j, h, k, a);
+    let w = put_back(lent, m, a.answer, x);
+    left(0, w, sent + c)
 }
 
 // Module v's response to word x, which came over a link of v.
@@ -139,9 +120,8 @@ fn response<'a>(
     x: u64,
 ) -> Act
     requires { ⌜ (v < 192) × Fit links (now lower) (now higher) v (linkOf (linkIn x)) (nodeIn (now cells) (v * 9)) × (listed (headerIn x) (carriedIn x) ≡ true) ⌝ }
-    ensures { λ r. ⌜ ((lent : List ℕ) (n sent : ℕ)
-        → workBy (planOf modules links (now (lower .entry)) (now (higher .entry)) (now (near .entry)) (now (far .entry))) v (linkOf (linkIn x)) (msgIn x) r (stateOf (now (cells .entry)) (now (marks .entry)) lent n sent)
-        ≡ serveWork (planOf modules links (now (lower .entry)) (now (higher .entry)) (now (near .entry)) (now (far .entry))) v x (stateOf (now (cells .entry)) (now (marks .entry)) lent n sent)) × Formed r ⌝ }
+    ensures { λ r. ⌜ Responds (planOf modules links (now (lower .entry)) (now (higher .entry)) (now (near .entry)) (now (far .entry))) v x
+        (now (cells .entry)) (now (marks .entry)) r ⌝ }
 {
     let limit = plan::floor_log2(modules);
     let j = word::link(x) / 2;
@@ -169,6 +149,9 @@ fn response<'a>(
     )
 }
 
+// In place of a served word where there is none: a Change-root by link 0. A wakeup puts no word back and sends no copy of one.
+const NO_WORD: u64 = 0xffff07;
+
 // Module v wakes: 0, or refused by 41, 43, 32 or 33.
 pub fn wake<'a>(
     modules: u16,
@@ -185,27 +168,19 @@ pub fn wake<'a>(
     v: u16,
 ) -> Done
     requires { ⌜ Ready (planOf modules links (now lower) (now higher) (now near) (now far)) (now cells) (now marks) (now lent) n sent ⌝ }
-    ensures { λ r. ⌜ Stepped (wake (planOf modules links (now (lower .entry)) (now (higher .entry)) (now (near .entry)) (now (far .entry))) v)
+    ensures { λ r. ⌜ Advances (λ p. wake p v) (planOf modules links (now (lower .entry)) (now (higher .entry)) (now (near .entry)) (now (far .entry)))
         (now (cells .entry)) (now (marks .entry)) (now (lent .entry)) n sent r (now (cells .exit)) (now (marks .exit)) (now (lent .exit)) ⌝ }
 {
     if modules <= v {
-        return Done {
-            answer: 41,
-            waiting: n,
-            sent: sent,
-        };
+        return left(41, n, sent);
     }
     let node = cells::load(cells, v);
     if node.status != 0 {
-        return Done {
-            answer: 43,
-            waiting: n,
-            sent: sent,
-        };
+        return left(43, n, sent);
     }
     let a = respond::wakeup(links, lower, higher, near, far, marks, v, node);
-    let m = plan::ceiling(modules, links);
     settle(
+        modules,
         links,
         lower,
         higher,
@@ -214,13 +189,9 @@ pub fn wake<'a>(
         lent,
         n,
         sent,
-        m,
         v,
         n,
-        0,
-        0,
-        7,
-        NONE,
+        NO_WORD,
         a,
     )
 }
@@ -241,31 +212,20 @@ pub fn serve<'a>(
     v: u16,
 ) -> Done
     requires { ⌜ Ready (planOf modules links (now lower) (now higher) (now near) (now far)) (now cells) (now marks) (now lent) n sent ⌝ }
-    ensures { λ r. ⌜ Stepped (serve (planOf modules links (now (lower .entry)) (now (higher .entry)) (now (near .entry)) (now (far .entry))) v)
+    ensures { λ r. ⌜ Advances (λ p. serve p v) (planOf modules links (now (lower .entry)) (now (higher .entry)) (now (near .entry)) (now (far .entry)))
         (now (cells .entry)) (now (marks .entry)) (now (lent .entry)) n sent r (now (cells .exit)) (now (marks .exit)) (now (lent .exit)) ⌝ }
 {
     if modules <= v {
-        return Done {
-            answer: 41,
-            waiting: n,
-            sent: sent,
-        };
+        return left(41, n, sent);
     }
     let i = store::first_in_queue(lower, higher, &lent[..n], v);
     if n <= i {
-        return Done {
-            answer: 45,
-            waiting: n,
-            sent: sent,
-        };
+        return left(45, n, sent);
     }
     let x = lent[i];
     let a = response(modules, links, lower, higher, near, far, cells, marks, v, x);
-    let m = plan::ceiling(modules, links);
-    let j = word::link(x) / 2;
-    let h = word::header(x);
-    let k = word::carried(x);
     settle(
+        modules,
         links,
         lower,
         higher,
@@ -274,13 +234,9 @@ pub fn serve<'a>(
         lent,
         n,
         sent,
-        m,
         v,
         i,
         x,
-        j,
-        h,
-        k,
         a,
     )
 }

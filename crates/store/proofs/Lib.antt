@@ -3,3 +3,4 @@ pub mod Queue
 pub mod Shift
 pub mod Laid
 pub mod Outcomes
+pub mod Hands

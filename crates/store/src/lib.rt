@@ -1,17 +1,15 @@
 // The waiting words of a field: where the first of a directed link or a queue stands, how one leaves and how one goes to the end.
 use word;
-ghost use Prim.Native.Nat.{ℕ, _<_, _≤_};
+ghost use Prim.Native.Nat.{_<_, _≤_};
 ghost use mathlib.Core.Path.{_≡_};
-ghost use mathlib.Core.List.{List, [], _∷_, _++_};
-ghost use lib.ListN.{length, getD, take, drop};
-ghost use Rattle.base.specs.Loop.{After};
-ghost use Rattle.plan.specs.declared.Plan.{Plan};
-ghost use Rattle.field.specs.State.{State};
-ghost use Rattle.field.specs.Step.{inAir, place, without, moved, hand};
+ghost use mathlib.Core.List.{[], _∷_, _++_};
+ghost use lib.ListN.{length, take, drop};
+ghost use Rattle.field.specs.Step.{inAir, place, without, hand};
 ghost use Rattle.field.specs.Held.{layout};
 ghost use Rattle.calls.specs.Rounds.{many};
 ghost use Rattle.store.specs.Laid.{Laid};
 ghost use Rattle.store.specs.Queue.{Columns, destIn, inQueueIn};
+ghost use Rattle.store.specs.Hands.{Hands};
 
 // Whether a word is in the air of directed link d: bit 40 is clear.
 fn in_air(d: u16, w: u64) -> bool
@@ -158,13 +156,10 @@ pub fn to_end(lent: &mut [u64], n: usize, a: usize, w: u64)
     put(lent, n - 1, w);
 }
 
-// A hand-over on directed link d, where n words wait: 0, or refused by 42 or 44. It changes the words alone, and their number stays.
+// A hand-over on directed link d, where n words wait: 0, or refused by 42 or 44.
 pub fn hand(lent: &mut [u64], n: usize, links: u16, d: u16) -> u32
     requires { ⌜ Laid (now lent) n × (links ≤ 600) ⌝ }
-    ensures { λ r. ⌜ ((p : Plan) (cells marks : List ℕ) (sent : ℕ) → links ≡ p .links
-        → record { answer = r; state = record { cells = cells; marks = marks; words = take n (now (lent .exit)); sent = sent } }
-        ≡ hand p d (record { cells = cells; marks = marks; words = take n (now (lent .entry)); sent = sent }))
-        × Laid (now (lent .exit)) n ⌝ }
+    ensures { λ r. ⌜ Hands (λ p. hand p d) links n (now (lent .entry)) r (now (lent .exit)) ⌝ }
 {
     if 2 * links <= d {
         return 42;

@@ -10,23 +10,30 @@ use Rattle.run.proofs.run.Tie as tie
 admit-requires : tie.Need-admit-requires
 admit-requires c κs = search needs
 
+after-requires : tie.Need-after-requires
+after-requires c κs = search needs
+
 same-length : tie.Need-same-length
 same-length c = search needs
 
 returns : tie.Need-returns
-returns c = run-31 _ _ _ (c .before .before .admit .ensures .0) _ (c .if1 .taken)
+returns c = let t = c .before in rw (c .after .ensures) (run-31 _ _ _ (t .before .before .admit .ensures .0) _ (t .if1 .taken))
 
 check-requires : tie.Need-check-requires
 check-requires c κs = search needs
+
+after-requires-2 : tie.Need-after-requires-2
+after-requires-2 c κs = search needs
 
 same-length-2 : tie.Need-same-length-2
 same-length-2 c = search needs
 
 returns-2 : tie.Need-returns-2
 returns-2 c =
-    let h = c .before in
+    let b = c .before in
+    let h = b .before in
     let o = h .before in
-    run-54 _ _ _ (o .before .before .admit .ensures .0) (o .if1 .left) _ _ (h .check .ensures) (c .if2 .taken)
+    rw (c .after2 .ensures) (run-54 _ _ _ (o .before .before .admit .ensures .0) (o .if1 .left) _ _ (h .check .ensures) (b .if2 .taken))
 
 sub-steps : tie.Need-sub-steps
 sub-steps c =
@@ -39,27 +46,39 @@ steps-requires c κs =
     let o = e .before .before in
     (o .before .before .admit .ensures .1 (not-false _ (o .if1 .left)), sym (e .before .check .ensures) ∙ e .if2 .left, refl)
 
+rebuilt-requires : tie.Need-rebuilt-requires
+rebuilt-requires c κs = search needs
+
+after-requires-3 : tie.Need-after-requires-3
+after-requires-3 c κs = search needs
+
 same-length-3 : tie.Need-same-length-3
 same-length-3 c = search needs
 
 returns-3 : tie.Need-returns-3
 returns-3 c =
-    let r = c .before .before in
+    let g = c .before in
+    let r = g .before .before .before in
     let e = r .before .before .before .before .before .before .before .before .before .before .before .before in
     let o = e .before .before in
-    run-done _ _ _ (o .before .before .admit .ensures .0) (o .if1 .left) _ _ (e .before .check .ensures) (e .if2 .left) _ _ _ _ _ _ _ (r .steps .ensures .0) (r .steps .ensures .1 .laid) (search needs)
+    rw (c .after3 .ensures, g .rebuilt .ensures)
+    (run-done _ _ _ (o .before .before .admit .ensures .0) (o .if1 .left) _ _ (e .before .check .ensures) (e .if2 .left) _ _ _ _ _ (r .steps .ensures) (search needs))
 
 pub run-spec : {M : Type 1} → statement M
 run-spec =
     tie.close
     (tie.spec
     admit-requires
+    after-requires
     same-length
     returns
     check-requires
+    after-requires-2
     same-length-2
     returns-2
     sub-steps
     steps-requires
+    rebuilt-requires
+    after-requires-3
     same-length-3
     returns-3)

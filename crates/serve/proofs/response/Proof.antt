@@ -50,11 +50,12 @@ returns c =
     let l = f .before in
     let d = l .before in
     let h = d .before in
-    let i = h .before in (
-      λ lent m sent. responds-as _ _ _ (i .before .floor-log2 .ensures) (ap linkOf (i .link .ensures))
-          (says _ _ _ _ _ _ (h .header .ensures) (d .kind .ensures) (l .level .ensures) (f .find .ensures) (k .carried .ensures)) (n .load .ensures) (c .respond .ensures .0),
-      c .respond .ensures .1,
-    )
+    let i = h .before in
+    record {
+      is = λ lent m sent. responds-as _ _ _ (i .before .floor-log2 .ensures) (ap linkOf (i .link .ensures))
+          (says _ _ _ _ _ _ (h .header .ensures) (d .kind .ensures) (l .level .ensures) (f .find .ensures) (k .carried .ensures)) (n .load .ensures) (c .respond .ensures .0);
+      formed = c .respond .ensures .1;
+    }
 
 pub response-spec : {M : Type 1} → statement M
 response-spec =

@@ -1,21 +1,19 @@
-use Prim.Native.Nat.{_+_, _-_, _≤_}
-use native.Mathlib.Omega.{arith}
-use mathlib.Core.Path.{_≡_, sym, _∙_}
-use lib.ListN.{length, drop}
+use Prim.Native.Nat.{_-_}
+use lib.ListN.{length}
 use borrow.Author.Needs.{needs}
-use Rattle.field.specs.Step.{place, inAir}
-use Rattle.store.proofs.Search.{place-over, place-hit, place-miss}
+use Rattle.field.specs.Step.{inAir}
+use Rattle.store.proofs.Search.{Sought, sought, found, sought-on, found-none}
 use Rattle.store.proofs.first_in_air.Statement.{statement}
 use Rattle.store.proofs.first_in_air.Tie as tie
 
 abbrev Inv-loop : tie.InvT-loop
-Inv-loop words d i₀ i = (i ≤ length words) × (place (inAir d) words ≡ i + place (inAir d) (drop i words))
+Inv-loop words d i₀ i = Sought (inAir d) words i
 
 abbrev μ-loop : tie.MeasureT-loop
 μ-loop words d i₀ i = length words - i
 
 loop-holds : tie.Need-loop-holds Inv-loop μ-loop
-loop-holds c = (search needs, omega arith)
+loop-holds c = sought _ _
 
 mul-in-air : tie.Need-mul-in-air Inv-loop μ-loop
 mul-in-air c = search needs
@@ -27,9 +25,7 @@ in-air-requires : tie.Need-in-air-requires Inv-loop μ-loop
 in-air-requires c κs = search needs
 
 returns : tie.Need-returns Inv-loop μ-loop
-returns c =
-    let e = c .before .before .before in
-    place-hit _ _ _ (e .loop-test .taken) (e .before .loop .inv .1) (sym (c .before .in-air .ensures) ∙ c .if1 .taken)
+returns c = let e = c .before .before .before in found _ _ (e .loop-test .taken) (c .before .in-air .ensures) (e .before .loop .inv) (c .if1 .taken)
 
 add-i : tie.Need-add-i Inv-loop μ-loop
 add-i c = search needs
@@ -38,12 +34,10 @@ loop-less : tie.Need-loop-less Inv-loop μ-loop
 loop-less c = search needs
 
 loop-again : tie.Need-loop-again Inv-loop μ-loop
-loop-again c =
-    let e = c .before .before .before in
-    (search needs, place-miss _ _ _ (e .loop-test .taken) (e .before .loop .inv .1) (sym (c .before .in-air .ensures) ∙ c .if1 .left))
+loop-again c = let e = c .before .before .before in sought-on _ _ (e .loop-test .taken) (c .before .in-air .ensures) (e .before .loop .inv) (c .if1 .left)
 
 returns-2 : tie.Need-returns-2 Inv-loop μ-loop
-returns-2 c = place-over _ _ _ (c .before .loop .inv .1) (c .loop-test .left)
+returns-2 c = found-none _ _ (c .before .loop .inv) (c .loop-test .left)
 
 pub first-in-air-spec : {M : Type 1} → statement M
 first-in-air-spec =

@@ -1,22 +1,19 @@
-use Prim.Native.Nat.{_+_, _-_, _≤_}
-use native.Mathlib.Omega.{arith}
-use mathlib.Core.Path.{_≡_, sym, _∙_}
-use lib.ListN.{length, drop}
+use Prim.Native.Nat.{_-_}
+use lib.ListN.{length}
 use borrow.Author.Needs.{needs}
-use Rattle.field.specs.Step.{place}
-use Rattle.store.proofs.Search.{place-over, place-hit, place-miss}
 use Rattle.store.specs.Queue.{inQueueIn}
+use Rattle.store.proofs.Search.{Sought, sought, found, sought-on, found-none}
 use Rattle.store.proofs.first_in_queue.Statement.{statement}
 use Rattle.store.proofs.first_in_queue.Tie as tie
 
 abbrev Inv-loop : tie.InvT-loop
-Inv-loop lower higher words v i₀ i = (i ≤ length words) × (place (inQueueIn lower higher v) words ≡ i + place (inQueueIn lower higher v) (drop i words))
+Inv-loop lower higher words v i₀ i = Sought (inQueueIn lower higher v) words i
 
 abbrev μ-loop : tie.MeasureT-loop
 μ-loop lower higher words v i₀ i = length words - i
 
 loop-holds : tie.Need-loop-holds Inv-loop μ-loop
-loop-holds c = (search needs, omega arith)
+loop-holds c = sought _ _
 
 mul-in-queue : tie.Need-mul-in-queue Inv-loop μ-loop
 mul-in-queue c = search needs
@@ -28,9 +25,7 @@ in-queue-requires : tie.Need-in-queue-requires Inv-loop μ-loop
 in-queue-requires c κs = search needs
 
 returns : tie.Need-returns Inv-loop μ-loop
-returns c =
-    let e = c .before .before .before in
-    place-hit _ _ _ (e .loop-test .taken) (e .before .loop .inv .1) (sym (c .before .in-queue .ensures) ∙ c .if1 .taken)
+returns c = let e = c .before .before .before in found _ _ (e .loop-test .taken) (c .before .in-queue .ensures) (e .before .loop .inv) (c .if1 .taken)
 
 add-i : tie.Need-add-i Inv-loop μ-loop
 add-i c = search needs
@@ -39,12 +34,10 @@ loop-less : tie.Need-loop-less Inv-loop μ-loop
 loop-less c = search needs
 
 loop-again : tie.Need-loop-again Inv-loop μ-loop
-loop-again c =
-    let e = c .before .before .before in
-    (search needs, place-miss _ _ _ (e .loop-test .taken) (e .before .loop .inv .1) (sym (c .before .in-queue .ensures) ∙ c .if1 .left))
+loop-again c = let e = c .before .before .before in sought-on _ _ (e .loop-test .taken) (c .before .in-queue .ensures) (e .before .loop .inv) (c .if1 .left)
 
 returns-2 : tie.Need-returns-2 Inv-loop μ-loop
-returns-2 c = place-over _ _ _ (c .before .loop .inv .1) (c .loop-test .left)
+returns-2 c = found-none _ _ (c .before .loop .inv) (c .loop-test .left)
 
 pub first-in-queue-spec : {M : Type 1} → statement M
 first-in-queue-spec =

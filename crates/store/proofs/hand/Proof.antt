@@ -7,7 +7,7 @@ use lib.Seq.{length-take-le}
 use borrow.Author.Needs.{needs}
 use Rattle.field.specs.Held.{layout}
 use Rattle.field.specs.Step.{without}
-use Rattle.store.proofs.Outcomes.{hand-42, none-in-air, handed, handed-laid}
+use Rattle.store.proofs.Outcomes.{hand-42, none-in-air, handed}
 use Rattle.store.proofs.hand.Statement.{statement}
 use Rattle.store.proofs.hand.Tie as tie
 
@@ -15,7 +15,7 @@ mul-if1 : tie.Need-mul-if1
 mul-if1 c = search needs
 
 returns : tie.Need-returns
-returns c = (λ p cells marks sent q. sym (hand-42 p _ _ (omega arith)), c .before .before .pre .0)
+returns c = record { is = λ p cells marks sent q. sym (hand-42 p _ _ (omega arith)); laid = c .before .before .pre .0 }
 
 slice-reshare-prefix-first-in-air : tie.Need-slice-reshare-prefix-first-in-air
 slice-reshare-prefix-first-in-air c = search needs
@@ -34,7 +34,7 @@ returns-2 c =
     let f = c .before in
     let o = f .before .before in
     let s = o .before .before in
-    (λ p cells marks sent q. sym (none-in-air (s .args .lent .now) (s .args .n) (s .args .d) (f .first-in-air .result) (s .pre .0) (f .first-in-air .ensures) p cells marks sent (omega (arith, o .if1 .left)) (c .if2 .taken)), s .pre .0)
+    none-in-air (s .args .lent .now) (s .args .n) (s .args .d) (f .first-in-air .result) (s .pre .0) (f .first-in-air .ensures) _ (o .if1 .left) (c .if2 .taken)
 
 mul-hand-over : tie.Need-mul-hand-over
 mul-hand-over c = search needs
@@ -62,10 +62,8 @@ returns-3 c =
     let lent = s .args .lent .now in
     let n = s .args .n in
     let a = f .first-in-air .result in
-    let q = t .to-end .ensures ∙ ap (λ (x : ℕ). layout (length lent) (without a (take n lent) ++ (x ∷ []))) (h .hand-over .ensures) in (
-      λ p cells marks sent r. sym (handed lent n (s .args .d) a (s .pre .0) (f .first-in-air .ensures) (k .if2 .left) (t .to-end .last .0) q p cells marks sent (omega (arith, o .if1 .left))),
-      handed-laid lent n (s .args .d) a (s .pre .0) (f .first-in-air .ensures) (k .if2 .left) (t .to-end .last .0) q,
-    )
+    handed lent n (s .args .d) a (s .pre .0) (f .first-in-air .ensures) _ (o .if1 .left) (k .if2 .left) (t .to-end .last .0)
+    (t .to-end .ensures ∙ ap (λ (x : ℕ). layout (length lent) (without a (take n lent) ++ (x ∷ []))) (h .hand-over .ensures))
 
 pub hand-spec : {M : Type 1} → statement M
 hand-spec =

@@ -1,23 +1,20 @@
-use Prim.Native.Nat.{_+_, _-_, _≤_}
-use native.Mathlib.Omega.{arith}
+use Prim.Native.Nat.{_-_}
 use mathlib.Core.Logic.{⊎-elim}
-use mathlib.Core.Path.{_≡_, sym, _∙_}
-use lib.ListN.{length, drop}
+use lib.ListN.{length}
 use borrow.Author.Needs.{needs}
-use Rattle.calls.specs.Rounds.{many}
 use Rattle.field.specs.Step.{inAir}
-use Rattle.store.proofs.Search.{many-over, many-hit, many-miss}
+use Rattle.store.proofs.Search.{Counted, counted, counted-one, counted-on, counted-all}
 use Rattle.store.proofs.many_in_air.Statement.{statement}
 use Rattle.store.proofs.many_in_air.Tie as tie
 
 abbrev Inv-loop : tie.InvT-loop
-Inv-loop words d m₀ i₀ m i = (i ≤ length words) × (m ≤ i) × (many (inAir d) words ≡ m + many (inAir d) (drop i words))
+Inv-loop words d m₀ i₀ m i = Counted (inAir d) words m i
 
 abbrev μ-loop : tie.MeasureT-loop
 μ-loop words d m₀ i₀ m i = length words - i
 
 loop-holds : tie.Need-loop-holds Inv-loop μ-loop
-loop-holds c = (search needs, search needs, omega arith)
+loop-holds c = counted _ _
 
 mul-in-air : tie.Need-mul-in-air Inv-loop μ-loop
 mul-in-air c = search needs
@@ -41,12 +38,12 @@ loop-again : tie.Need-loop-again Inv-loop μ-loop
 loop-again c =
     let e = c .before .before .before in
     ⊎-elim
-    (λ w. (search needs, omega arith, rw (w .1) (many-hit _ _ _ (e .loop-test .taken) _ (e .before .loop .inv .2) (sym (c .before .in-air .ensures) ∙ w .0 .taken))))
-    (λ w. (search needs, omega arith, rw (w .1) (many-miss _ _ _ (e .loop-test .taken) _ (e .before .loop .inv .2) (sym (c .before .in-air .ensures) ∙ w .0 .left))))
+    (λ w. counted-one _ _ (e .loop-test .taken) (c .before .in-air .ensures) (e .before .loop .inv) (w .0 .taken) (w .1))
+    (λ w. counted-on _ _ (e .loop-test .taken) (c .before .in-air .ensures) (e .before .loop .inv) (w .0 .left) (w .1))
     (c .if1 .came)
 
 returns : tie.Need-returns Inv-loop μ-loop
-returns c = many-over _ _ _ _ (c .before .loop .inv .2) (c .loop-test .left)
+returns c = counted-all _ _ (c .before .loop .inv) (c .loop-test .left)
 
 pub many-in-air-spec : {M : Type 1} → statement M
 many-in-air-spec =

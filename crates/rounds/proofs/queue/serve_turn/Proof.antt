@@ -1,25 +1,20 @@
 use Prim.Native.Nat.{_-_, _≤_}
-use mathlib.Core.Path.{_≡_, refl, sym, _∙_}
-use lib.ListN.{length}
+use mathlib.Core.Path.{sym}
 use lib.Seq.{length-take-le}
 use borrow.Author.Needs.{needs}
-use Rattle.base.specs.Loop.{taken, loop}
-use Rattle.base.specs.LoopLaws.{loop-zero, on, off, over}
 use Rattle.plan.specs.Links.{planOf}
 use Rattle.field.specs.Step.{serve}
-use Rattle.serve.specs.Lent.{stateOf, Ready}
-use Rattle.rounds.proofs.Ready.{served-ready}
+use Rattle.serve.proofs.Turns.{Turned, renamed, no-turn, turn-on, turn-off, turns-over}
 use Rattle.rounds.proofs.Turns as T
 use Rattle.rounds.proofs.queue.serve_turn.Statement.{statement}
 use Rattle.rounds.proofs.queue.serve_turn.Tie as tie
 
 abbrev Inv-loop : tie.InvT-loop
-Inv-loop modules links lower higher near far cells₀ marks₀ lent₀ n sent v q m₀ t₀ j₀ cells marks lent m t j =
-    (j ≤ q) × (length lent ≡ length lent₀) × Ready (planOf modules links lower higher near far) cells marks lent m t
-    × (loop j (λ i. serve (planOf modules links lower higher near far) v) (stateOf cells₀ marks₀ lent₀ n sent) ≡ taken (stateOf cells marks lent m t))
+Inv-loop modules links lower higher near far cells₀ marks₀ lent₀ n sent v q s₀ j₀ cells marks lent s j =
+    Turned (λ p i. serve p v) (planOf modules links lower higher near far) cells₀ marks₀ lent₀ n sent j s cells marks lent × (j ≤ q)
 
 abbrev μ-loop : tie.MeasureT-loop
-μ-loop modules links lower higher near far cells₀ marks₀ lent₀ n sent v q m₀ t₀ j₀ cells marks lent m t j = q - j
+μ-loop modules links lower higher near far cells₀ marks₀ lent₀ n sent v q s₀ j₀ cells marks lent s j = q - j
 
 slice-reshare-prefix-many-in-queue : tie.Need-slice-reshare-prefix-many-in-queue Inv-loop μ-loop
 slice-reshare-prefix-many-in-queue c = c .before .pre .laid .within
@@ -30,11 +25,14 @@ slice-aggregate-many-in-queue c = let s = c .before .before in sym (length-take-
 many-in-queue-requires : tie.Need-many-in-queue-requires Inv-loop μ-loop
 many-in-queue-requires c κs = c .before .before .pre .columns
 
+left-requires : tie.Need-left-requires Inv-loop μ-loop
+left-requires c κs = search needs
+
 loop-holds : tie.Need-loop-holds Inv-loop μ-loop
-loop-holds c = (search needs, refl, c .before .before .before .pre, loop-zero _ _)
+loop-holds c = (no-turn _ _ _ _ _ _ _ (c .before .before .before .before .pre) (c .left .ensures), search needs)
 
 serve-requires : tie.Need-serve-requires Inv-loop μ-loop
-serve-requires c κs = c .before .before .before .before .loop .inv .2
+serve-requires c κs = c .before .before .before .before .loop .inv .0 .2 .ready
 
 same-length : tie.Need-same-length Inv-loop μ-loop
 same-length c = search needs
@@ -44,13 +42,8 @@ returns c =
     let h = c .before .before .before .before in
     let t = h .before .before .before .before in
     let i = t .before in
-    let e = h .serve .ensures in (
-      record {
-        is = sym (T.serve-turn _ _ _ _ (i .before .many-in-queue .ensures) ∙ off _ _ _ _ _ (i .loop .inv .3) (e .is) _ (t .loop-test .taken) (c .if1 .taken));
-        laid = e .laid;
-      },
-      served-ready _ _ _ _ _ _ (i .loop .inv .2) _ _ _ _ _ _ (e .laid) (search needs) _ (e .is),
-    )
+    renamed (turn-off _ _ _ _ _ _ _ _ (i .loop .inv .0) (h .serve .ensures) _ (t .loop-test .taken) (c .if1 .taken))
+    (T.serve-turn _ _ _ _ (i .before .before .many-in-queue .ensures))
 
 add-j : tie.Need-add-j Inv-loop μ-loop
 add-j c = search needs
@@ -62,25 +55,15 @@ loop-again : tie.Need-loop-again Inv-loop μ-loop
 loop-again c =
     let h = c .before .before .before .before in
     let i = h .before .before .before .before .before in
-    let e = h .serve .ensures in (
-      search needs,
-      search needs,
-      served-ready _ _ _ _ _ _ (i .loop .inv .2) _ _ _ _ _ _ (e .laid) (search needs) _ (e .is),
-      on _ _ _ _ _ (i .loop .inv .3) (e .is) (c .if1 .left),
-    )
+    (turn-on _ _ _ _ _ _ _ _ (i .loop .inv .0) (h .serve .ensures) (search needs) (c .if1 .left), search needs)
 
 same-length-2 : tie.Need-same-length-2 Inv-loop μ-loop
 same-length-2 c = search needs
 
 returns-2 : tie.Need-returns-2 Inv-loop μ-loop
 returns-2 c =
-    let i = c .before in (
-      record {
-        is = sym (T.serve-turn _ _ _ _ (i .before .many-in-queue .ensures) ∙ over _ _ _ _ _ (i .loop .inv .3) (c .loop-test .left) (i .loop .inv .0));
-        laid = i .loop .inv .2 .laid;
-      },
-      i .loop .inv .2,
-    )
+    let i = c .before in
+    renamed (turns-over _ _ _ _ _ _ _ _ (i .loop .inv .0) _ (c .loop-test .left) (i .loop .inv .1)) (T.serve-turn _ _ _ _ (i .before .before .many-in-queue .ensures))
 
 pub serve-turn-spec : {M : Type 1} → statement M
 serve-turn-spec =
@@ -91,6 +74,7 @@ serve-turn-spec =
     slice-reshare-prefix-many-in-queue
     slice-aggregate-many-in-queue
     many-in-queue-requires
+    left-requires
     loop-holds
     serve-requires
     same-length

@@ -1,47 +1,54 @@
 use Prim.Native.Nat.{_-_, _≤_}
-use mathlib.Core.Path.{_≡_, refl, sym}
-use lib.ListN.{length}
 use borrow.Author.Needs.{needs}
-use Rattle.base.specs.LoopLaws.{went, rests, goes, breaks, limit}
 use Rattle.plan.specs.Links.{planOf}
-use Rattle.calls.specs.Rounds.{roundsRun}
-use Rattle.serve.specs.Lent.{stateOf, Ready}
-use Rattle.rounds.proofs.Turns.{no-round, rest, no-rest}
+use Rattle.calls.specs.Rounds.{atRest, round}
+use Rattle.serve.proofs.Going.{Going, not-gone, goes-rest, goes-on, goes-off, goes-over}
+use Rattle.rounds.proofs.Turns.{rest, no-rest}
 use Rattle.rounds.proofs.round.rounds.Statement.{statement}
 use Rattle.rounds.proofs.round.rounds.Tie as tie
 
 abbrev Inv-loop : tie.InvT-loop
-Inv-loop modules links lower higher near far cells₀ marks₀ lent₀ n sent limit m₀ t₀ k₀ cells marks lent m t k =
-    (k ≤ limit) × (length lent ≡ length lent₀) × Ready (planOf modules links lower higher near far) cells marks lent m t
-    × (roundsRun (planOf modules links lower higher near far) k (stateOf cells₀ marks₀ lent₀ n sent) ≡ went k (stateOf cells marks lent m t))
+Inv-loop modules links lower higher near far cells₀ marks₀ lent₀ n sent limit s₀ k₀ cells marks lent s k =
+    Going atRest (λ p i. round p) (planOf modules links lower higher near far) cells₀ marks₀ lent₀ n sent k s cells marks lent × (k ≤ limit)
 
 abbrev μ-loop : tie.MeasureT-loop
-μ-loop modules links lower higher near far cells₀ marks₀ lent₀ n sent limit m₀ t₀ k₀ cells marks lent m t k = limit - k
+μ-loop modules links lower higher near far cells₀ marks₀ lent₀ n sent limit s₀ k₀ cells marks lent s k = limit - k
+
+left-requires : tie.Need-left-requires Inv-loop μ-loop
+left-requires c κs = search needs
 
 loop-holds : tie.Need-loop-holds Inv-loop μ-loop
-loop-holds c = (search needs, refl, c .before .pre, no-round _ _)
+loop-holds c = (not-gone _ _ _ _ _ _ _ _ (c .before .before .pre) (c .left .ensures), search needs)
+
+after-requires : tie.Need-after-requires Inv-loop μ-loop
+after-requires c κs = search needs
 
 same-length : tie.Need-same-length Inv-loop μ-loop
 same-length c = search needs
 
 returns : tie.Need-returns Inv-loop μ-loop
 returns c =
-    let i = c .before .before .loop .inv in
-    (sym (rests _ _ _ _ _ (i .3) _ (i .0) (rest _ _ (i .2 .laid) (c .if1 .taken))), i .2)
+    let t = c .before in
+    let i = t .before .before .before .loop .inv in
+    rw (c .after .ensures) (goes-rest _ _ _ _ _ _ _ _ _ (i .0) _ (i .1) (rest _ _ (i .0 .2 .ready .laid) (t .if1 .taken)))
 
 round-requires : tie.Need-round-requires Inv-loop μ-loop
-round-requires c κs = c .before .before .before .before .before .loop .inv .2
+round-requires c κs = c .before .before .before .before .before .before .loop .inv .0 .2 .ready
+
+after-requires-2 : tie.Need-after-requires-2 Inv-loop μ-loop
+after-requires-2 c κs = search needs
 
 same-length-2 : tie.Need-same-length-2 Inv-loop μ-loop
 same-length-2 c = search needs
 
 returns-2 : tie.Need-returns-2 Inv-loop μ-loop
 returns-2 c =
-    let h = c .before .before .before .before in
+    let b = c .before in
+    let h = b .before .before .before .before in
     let o = h .before .before .before .before in
-    let i = o .before .before .loop .inv in
-    let e = h .round .ensures in
-    (sym (breaks _ _ _ _ _ (i .3) _ (e .0 .is) (no-rest _ _ (i .2 .laid) (o .if1 .left)) _ (o .before .loop-test .taken) (c .if2 .taken)), e .1)
+    let w = o .before .before in
+    let i = w .before .loop .inv in
+    rw (c .after2 .ensures) (goes-off _ _ _ _ _ _ _ _ _ (i .0) (no-rest _ _ (i .0 .2 .ready .laid) (o .if1 .left)) (h .round .ensures) _ (w .loop-test .taken) (b .if2 .taken))
 
 add-k : tie.Need-add-k Inv-loop μ-loop
 add-k c = search needs
@@ -53,15 +60,20 @@ loop-again : tie.Need-loop-again Inv-loop μ-loop
 loop-again c =
     let h = c .before .before .before .before in
     let o = h .before .before .before .before in
-    let i = o .before .before .loop .inv in
-    let e = h .round .ensures in
-    (search needs, search needs, e .1, goes _ _ _ _ _ (i .3) _ (e .0 .is) (no-rest _ _ (i .2 .laid) (o .if1 .left)) (c .if2 .left))
+    let i = o .before .before .before .loop .inv in
+    (goes-on _ _ _ _ _ _ _ _ _ (i .0) (no-rest _ _ (i .0 .2 .ready .laid) (o .if1 .left)) (h .round .ensures) (search needs) (c .if2 .left), search needs)
+
+after-requires-3 : tie.Need-after-requires-3 Inv-loop μ-loop
+after-requires-3 c κs = search needs
 
 same-length-3 : tie.Need-same-length-3 Inv-loop μ-loop
 same-length-3 c = search needs
 
 returns-3 : tie.Need-returns-3 Inv-loop μ-loop
-returns-3 c = let i = c .before .loop .inv in (sym (limit _ _ _ _ _ _ (i .3) (c .loop-test .left) (i .0)), i .2)
+returns-3 c =
+    let o = c .before in
+    let i = o .before .loop .inv in
+    rw (c .after3 .ensures) (goes-over _ _ _ _ _ _ _ _ _ (i .0) _ (o .loop-test .left) (i .1))
 
 pub rounds-spec : {M : Type 1} → statement M
 rounds-spec =
@@ -69,14 +81,18 @@ rounds-spec =
     (tie.spec
     Inv-loop
     μ-loop
+    left-requires
     loop-holds
+    after-requires
     same-length
     returns
     round-requires
+    after-requires-2
     same-length-2
     returns-2
     add-k
     loop-less
     loop-again
+    after-requires-3
     same-length-3
     returns-3)

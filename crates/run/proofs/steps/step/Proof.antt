@@ -1,7 +1,9 @@
 use native.Mathlib.Omega.{arith}
-use mathlib.Core.Path.{refl, _∙_}
+use mathlib.Core.Logic.{⊎-elim}
 use borrow.Author.Needs.{needs}
-use Rattle.run.proofs.Dispatch.{is-wake, is-hand, is-serve, is-none, renamed}
+use Rattle.serve.proofs.Ready.{stays, hands, hand-sound}
+use Rattle.serve.proofs.Turns.{renamed}
+use Rattle.run.proofs.Dispatch.{is-wake, is-hand, is-serve, is-none}
 use Rattle.run.proofs.steps.step.Statement.{statement}
 use Rattle.run.proofs.steps.step.Tie as tie
 
@@ -11,8 +13,14 @@ wake-requires c κs = search needs
 hand-requires : tie.Need-hand-requires
 hand-requires c κs = search needs
 
+left-requires : tie.Need-left-requires
+left-requires c κs = search needs
+
 serve-requires : tie.Need-serve-requires
 serve-requires c κs = search needs
+
+left-requires-2 : tie.Need-left-requires-2
+left-requires-2 c κs = search needs
 
 same-length : tie.Need-same-length
 same-length c = search needs
@@ -28,9 +36,10 @@ same-length-2 c = search needs
 
 returns-2 : tie.Need-returns-2
 returns-2 c =
-    let w = c .before .before in
+    let w = c .before .before .before in
     let k = w .before .before in
-    record { is = w .hand .ensures .0 _ _ _ _ refl ∙ is-hand _ _ _ _ (k .match .keys2); laid = w .hand .ensures .1 }
+    let r = k .before .before .pre in
+    renamed (hands _ _ _ _ _ _ r _ (hand-sound _ _ _ _ _ _ r _) (w .hand .ensures) (search needs) (c .left .ensures)) (is-hand _ _ _ _ (k .match .keys2))
 
 same-length-3 : tie.Need-same-length-3
 same-length-3 c = search needs
@@ -43,11 +52,13 @@ returns-3 c =
 
 returns-4 : tie.Need-returns-4
 returns-4 c =
-    let z = c .match .keys4 in
-    record { is = is-none _ _ _ _ (λ e. omega arith) (λ e. omega arith) (λ e. omega arith); laid = c .before .before .pre .laid }
-
-returns-5 : tie.Need-returns-5
-returns-5 c = let r = c .match .rest in record { is = is-none _ _ _ _ (r .0 .0 .0 .1) (r .0 .0 .1) (r .0 .1); laid = c .before .before .pre .laid }
+    let m = c .before in
+    stays _ _ _ _ _ _ (m .before .before .pre) _ 54
+    (⊎-elim
+    (λ z. let q = z .keys4 in is-none _ _ _ _ (λ e. omega arith) (λ e. omega arith) (λ e. omega arith))
+    (λ z. is-none _ _ _ _ (z .rest .0 .0 .0 .1) (z .rest .0 .0 .1) (z .rest .0 .1))
+    (m .match .came))
+    (c .left2 .ensures)
 
 pub step-spec : {M : Type 1} → statement M
 step-spec =
@@ -55,12 +66,13 @@ step-spec =
     (tie.spec
     wake-requires
     hand-requires
+    left-requires
     serve-requires
+    left-requires-2
     same-length
     returns
     same-length-2
     returns-2
     same-length-3
     returns-3
-    returns-4
-    returns-5)
+    returns-4)

@@ -1,67 +1,69 @@
 use Prim.Native.Nat.{_-_, _≤_}
 use native.Mathlib.Omega.{arith}
-use mathlib.Core.Path.{_≡_, refl, sym, ap, _∙_}
-use lib.ListN.{length}
+use mathlib.Core.Path.{_≡_, refl}
 use borrow.Author.Needs.{needs}
-use Rattle.base.specs.Loop.{runs}
-use Rattle.base.specs.LoopLaws.{went, goes, breaks, limit}
 use Rattle.plan.specs.Links.{planOf}
 use Rattle.calls.specs.Schedule.{stepsIn, stepAt, never}
 use Rattle.schedule.specs.Kinds.{taken-size}
-use Rattle.serve.specs.Lent.{stateOf, Ready}
-use Rattle.run.proofs.Dispatch.{stepped-ready, no-step, read-step}
+use Rattle.serve.proofs.Going.{Going, not-gone, goes-on, goes-off, goes-over}
+use Rattle.run.proofs.Dispatch.{read-step}
 use Rattle.run.proofs.steps.steps.Statement.{statement}
 use Rattle.run.proofs.steps.steps.Tie as tie
 
 abbrev Inv-loop : tie.InvT-loop
-Inv-loop modules links lower higher near far cells₀ marks₀ lent₀ n sent bytes count m₀ t₀ k₀ cells marks lent m t k =
-    (k ≤ count) × (count ≡ stepsIn bytes) × (length lent ≡ length lent₀) × Ready (planOf modules links lower higher near far) cells marks lent m t
-    × (runs never k (stepAt (planOf modules links lower higher near far) bytes) (stateOf cells₀ marks₀ lent₀ n sent) ≡ went k (stateOf cells marks lent m t))
+Inv-loop modules links lower higher near far cells₀ marks₀ lent₀ n sent bytes count s₀ k₀ cells marks lent s k =
+    Going never (λ p. stepAt p bytes) (planOf modules links lower higher near far) cells₀ marks₀ lent₀ n sent k s cells marks lent × (k ≤ count) × (count ≡ stepsIn bytes)
 
 abbrev μ-loop : tie.MeasureT-loop
-μ-loop modules links lower higher near far cells₀ marks₀ lent₀ n sent bytes count m₀ t₀ k₀ cells marks lent m t k =
-    count - k
+μ-loop modules links lower higher near far cells₀ marks₀ lent₀ n sent bytes count s₀ k₀ cells marks lent s k = count - k
+
+left-requires : tie.Need-left-requires Inv-loop μ-loop
+left-requires c κs = search needs
 
 loop-holds : tie.Need-loop-holds Inv-loop μ-loop
-loop-holds c =
-    let s = c .before .before in
-    let p = planOf (s .args .modules) (s .args .links) (s .args .lower .now) (s .args .higher .now) (s .args .near .now) (s .args .far .now) in
-    (search needs, s .pre .2, refl, s .pre .0, no-step p (s .args .bytes .now) (stateOf (s .args .cells .now) (s .args .marks .now) (s .args .lent .now) (s .args .n) (s .args .sent)))
+loop-holds c = let s = c .before .before .before in (not-gone _ _ _ _ _ _ _ _ (s .pre .0) (c .left .ensures), search needs, s .pre .2)
 
 kind-requires : tie.Need-kind-requires Inv-loop μ-loop
 kind-requires c κs =
     let w = c .before .before .before in
     let l = w .before in
-    let s = l .before .before .before in
-    omega (arith, w .loop-test .taken, l .loop .inv .1, taken-size (s .args .bytes .now) (s .pre .1) .1)
+    let s = l .before .before .before .before in
+    omega (arith, w .loop-test .taken, l .loop .inv .2, taken-size (s .args .bytes .now) (s .pre .1) .1)
 
 number-requires : tie.Need-number-requires Inv-loop μ-loop
 number-requires c κs =
     let w = c .before .before .before .before in
     let l = w .before in
-    let s = l .before .before .before in
-    omega (arith, w .loop-test .taken, l .loop .inv .1, taken-size (s .args .bytes .now) (s .pre .1) .1)
+    let s = l .before .before .before .before in
+    omega (arith, w .loop-test .taken, l .loop .inv .2, taken-size (s .args .bytes .now) (s .pre .1) .1)
 
 step-requires : tie.Need-step-requires Inv-loop μ-loop
-step-requires c κs = c .before .before .before .before .before .before .loop .inv .3
+step-requires c κs = c .before .before .before .before .before .before .loop .inv .0 .2 .ready
+
+after-requires : tie.Need-after-requires Inv-loop μ-loop
+after-requires c κs = search needs
 
 same-length : tie.Need-same-length Inv-loop μ-loop
 same-length c = search needs
 
 returns : tie.Need-returns Inv-loop μ-loop
 returns c =
-    let h = c .before .before .before .before in
+    let b = c .before in
+    let h = b .before .before .before .before in
     let m = h .before in
     let k = m .before in
     let w = k .before .before .before .before in
     let l = w .before in
     let i = l .loop .inv in
-    let e = read-step _ (l .before .before .before .args .bytes .now) (l .loop .k) _ _ _ (h .step .ensures .is) (k .kind .ensures) (m .number .ensures) in
-    let r = stepped-ready _ _ _ _ _ _ _ _ _ _ _ _ (i .3) (h .step .ensures) (search needs) in
-    (sym (breaks _ _ _ _ _ (i .4) _ e refl _ (omega (arith, w .loop-test .taken, i .1)) (c .if1 .taken)), r)
+    let bytes = l .before .before .before .before .args .bytes .now in
+    rw (c .after .ensures) (goes-off _ _ _ _ _ _ _ _ _ (i .0) refl (read-step bytes (l .loop .k) (h .step .ensures) (k .kind .ensures) (m .number .ensures)) _
+    (omega (arith, w .loop-test .taken, i .2)) (b .if1 .taken))
 
 add-k : tie.Need-add-k Inv-loop μ-loop
-add-k c = search needs
+add-k c =
+    let w = c .before .before .before .before .before .before .before .before .before .before in
+    let h = w .loop-test .taken in
+    search needs
 
 loop-less : tie.Need-loop-less Inv-loop μ-loop
 loop-less c = search needs
@@ -74,15 +76,20 @@ loop-again c =
     let w = k .before .before .before .before in
     let l = w .before in
     let i = l .loop .inv in
-    let e = read-step _ (l .before .before .before .args .bytes .now) (l .loop .k) _ _ _ (h .step .ensures .is) (k .kind .ensures) (m .number .ensures) in
-    let r = stepped-ready _ _ _ _ _ _ _ _ _ _ _ _ (i .3) (h .step .ensures) (search needs) in
-    (search needs, i .1, search needs, r, goes _ _ _ _ _ (i .4) _ e refl (c .if1 .left))
+    let bytes = l .before .before .before .before .args .bytes .now in
+    (goes-on _ _ _ _ _ _ _ _ _ (i .0) refl (read-step bytes (l .loop .k) (h .step .ensures) (k .kind .ensures) (m .number .ensures)) (search needs) (c .if1 .left), search needs, i .2)
+
+after-requires-2 : tie.Need-after-requires-2 Inv-loop μ-loop
+after-requires-2 c κs = search needs
 
 same-length-2 : tie.Need-same-length-2 Inv-loop μ-loop
 same-length-2 c = search needs
 
 returns-2 : tie.Need-returns-2 Inv-loop μ-loop
-returns-2 c = let i = c .before .loop .inv in (sym (limit _ _ _ _ _ _ (i .4) (omega (arith, c .loop-test .left, i .1)) (omega (arith, i .0, i .1))), i .3)
+returns-2 c =
+    let o = c .before in
+    let i = o .before .loop .inv in
+    rw (c .after2 .ensures) (goes-over _ _ _ _ _ _ _ _ _ (i .0) _ (omega (arith, o .loop-test .left, i .2)) (omega (arith, i .1, i .2)))
 
 pub steps-spec : {M : Type 1} → statement M
 steps-spec =
@@ -90,14 +97,17 @@ steps-spec =
     (tie.spec
     Inv-loop
     μ-loop
+    left-requires
     loop-holds
     kind-requires
     number-requires
     step-requires
+    after-requires
     same-length
     returns
     add-k
     loop-less
     loop-again
+    after-requires-2
     same-length-2
     returns-2)
