@@ -10,6 +10,7 @@ use Rattle.int16.specs.Int16.{at16}
 use Rattle.base.specs.Cond.{eqb-cases, eqb-diff}
 use Rattle.base.specs.Test.{every}
 use Rattle.base.specs.Loop.{After, Ran, counted, runs}
+use Rattle.base.specs.Refuse.{orElse}
 use Rattle.base.specs.LoopLaws.{by-test}
 use Rattle.plan.specs.declared.Plan.{Plan}
 use Rattle.field.specs.State.{State}
@@ -36,10 +37,10 @@ kindListed kind = leb 1 kind && leb kind 3
 -- before any step ..)"
 unfoldable pub scheduleRefusal : List ℕ → ℕ
 scheduleRefusal bytes =
-    cond (ltb (length bytes) 3) 51
-    (cond (not (eqb (getD bytes 0 0) 1)) 52
-    (cond (not (lengthFits bytes)) 53
-    (cond (not (every (stepsIn bytes) (λ i. kindListed (kindOf bytes i)))) 54 0)))
+    orElse (ltb (length bytes) 3) 51
+    (orElse (not (eqb (getD bytes 0 0) 1)) 52
+    (orElse (not (lengthFits bytes)) 53
+    (orElse (not (every (stepsIn bytes) (λ i. kindListed (kindOf bytes i)))) 54 0)))
 
 -- step i of the schedule
 abbrev pub stepAt : Plan → List ℕ → ℕ → State → After State
