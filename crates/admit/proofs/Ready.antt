@@ -10,6 +10,7 @@ use borrow.Author.Tests.{leb-true}
 use Rattle.plan.specs.Refusal.{planRefusal}
 use Rattle.field.specs.declared.Field.{Field}
 use Rattle.field.specs.Edges.{ceilingOf}
+use Rattle.field.specs.State.{CELLS}
 use Rattle.field.specs.Valid.{zeroAfter, enough, fits}
 use Rattle.field.specs.Held.{Held, layout, valid}
 use Rattle.field.specs.Held as H
@@ -25,7 +26,7 @@ use Rattle.admit.specs.Admitted.{waits, starts}
 pub record Full (f : Field) : Type 0 where
   pub lower : length (f .plan .lower) ≡ 600
   pub higher : length (f .plan .higher) ≡ 600
-  pub cells : length (f .cells) ≡ 1728
+  pub cells : length (f .cells) ≡ CELLS
   pub marks : length (f .marks) ≡ 1200
 
 module _ (f : Field) (lent : List ℕ) (c : Checked) (full : Full f) (e : c ≡ checkOf (record { field = f; words = lent })) (ok : c .ok ≡ true) where

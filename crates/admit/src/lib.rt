@@ -1,4 +1,5 @@
 // 31, "before all else": a field that a host supplies is checked once, and is then ready for steps.
+use field::CELLS;
 use field::Field;
 use fieldcheck;
 use fieldcheck::Checked;
@@ -30,7 +31,7 @@ pub fn admit(f: Field, lent: &[u64]) -> Checked
 }
 
 // Field f with these cells, marks and sent count: put together again after its steps.
-pub fn rebuilt(f: Field, cells: [u16; 1728], marks: [u8; 1200], sent: u32) -> Field
+pub fn rebuilt(f: Field, cells: [u16; CELLS], marks: [u8; 1200], sent: u32) -> Field
     ensures { λ r. ⌜ r ≡ record { plan = f .plan; cells = cells; marks = marks; sent = sent } ⌝ }
 {
     let mut g = f;

@@ -2,10 +2,11 @@
 use Prim.Native.Nat.{ℕ}
 use mathlib.Core.Path.{_≡_, refl}
 use mathlib.Core.List.{List, [], _∷_, map}
-use lib.ListN.{getD, take}
+use lib.ListN.{take}
 use Rattle.base.specs.None.{none}
 use Rattle.word.specs.Word.{packed}
 use Rattle.plan.specs.declared.Plan.{Plan}
+use Rattle.field.specs.State.{nodeAt}
 use Rattle.field.specs.Held.{Held, stateOf, setUp}
 use Rattle.calls.specs.Call.{Call, one, run, rounds, does, after}
 use Rattle.calls.specs.Trail.{trail, messagesSent, wokenIn}
@@ -92,7 +93,7 @@ shown cs h =
       sends = messagesSent (h .field .plan) t;
       woken = wokenIn (h .field .plan) t;
       marks = take 2 (l .field .marks);
-      halted = getD (l .field .cells) 8 0 ∷ getD (l .field .cells) 17 0 ∷ [];
+      halted = nodeAt (stateOf l) 0 .halted ∷ nodeAt (stateOf l) 1 .halted ∷ [];
       words = stateOf l .words;
     }
 

@@ -1,2 +1,2 @@
-pub mod Nine
+pub mod Run
 pub mod Marks

@@ -1,19 +1,21 @@
 // The cells and marks of a field: one module's values read and written, one mark written.
+use field::CELLS;
 use node::Node;
+use node::WIDTH;
 use search;
 ghost use Prim.Native.Nat.{_*_, _<_, _≤_};
 ghost use mathlib.Core.Path.{_≡_};
 ghost use Rattle.field.specs.State.{nodeIn, putNode};
 ghost use Rattle.cells.specs.Marks.{markPut};
 
-// Module v's nine values.
-pub fn load(cells: &[u16; 1728], v: u16) -> Node
+// Module v's values.
+pub fn load(cells: &[u16; CELLS], v: u16) -> Node
     requires { ⌜ v < 192 ⌝ }
-    ensures { λ r. ⌜ r ≡ nodeIn (now (cells .entry)) (v * 9) ⌝ }
+    ensures { λ r. ⌜ r ≡ nodeIn (now (cells .entry)) v ⌝ }
 {
-    let c = (v as usize) * 9;
+    let c = (v as usize) * WIDTH;
     Node {
-        status: cells[c],
+        status: cells[c + 0],
         level: cells[c + 1],
         identity: cells[c + 2],
         weight: cells[c + 3],
@@ -25,21 +27,28 @@ pub fn load(cells: &[u16; 1728], v: u16) -> Node
     }
 }
 
-// Module v's nine values become n's.
-pub fn put_node(cells: &mut [u16; 1728], v: u16, n: Node)
+// Module v's values become n's.
+pub fn put_node(cells: &mut [u16; CELLS], v: u16, n: Node)
     requires { ⌜ v < 192 ⌝ }
     ensures { λ _. ⌜ now (cells .exit) ≡ putNode (now (cells .entry)) v n ⌝ }
 {
-    let c = (v as usize) * 9;
-    cells[c] = n.status;
-    cells[c + 1] = n.level;
-    cells[c + 2] = n.identity;
-    cells[c + 3] = n.weight;
-    cells[c + 4] = n.best;
-    cells[c + 5] = n.test;
-    cells[c + 6] = n.branch;
-    cells[c + 7] = n.count;
-    cells[c + 8] = n.halted;
+    let c = (v as usize) * WIDTH;
+    let values: [u16; WIDTH] = [
+        n.status,
+        n.level,
+        n.identity,
+        n.weight,
+        n.best,
+        n.test,
+        n.branch,
+        n.count,
+        n.halted,
+    ];
+    let mut j: usize = 0;
+    while j < WIDTH {
+        cells[c + j] = values[j];
+        j += 1;
+    }
 }
 
 // Module v's mark for its link k becomes c, if k is a link of v.

@@ -3,6 +3,7 @@ use act::Act;
 use act::Out;
 use base::NONE;
 use cells;
+use field::CELLS;
 use message;
 use node::Node;
 use search;
@@ -236,7 +237,7 @@ pub fn place<'a>(
     links: u16,
     lower: &'a [u16; 600],
     higher: &'a [u16; 600],
-    cells: &mut [u16; 1728],
+    cells: &mut [u16; CELLS],
     marks: &mut [u8; 1200],
     lent: &mut [u64],
     n: usize,

@@ -27,7 +27,7 @@ use Rattle.demand_view.specs.Chans.{chans-own, chans-not}
 module _ (p : Plan) (a : Accepted p) where
   nodes-fresh : nodes p (freshCells 192) ≡ (λ v. node.setup)
   unfolding nodes
-  nodes-fresh = fun-ext (λ v. ltb-cases v (p .modules) (λ b. cond b (nodeIn (freshCells 192) (v * 9)) node.setup ≡ node.setup)
+  nodes-fresh = fun-ext (λ v. ltb-cases v (p .modules) (λ b. cond b (nodeIn (freshCells 192) v) node.setup ≡ node.setup)
       (λ l. fresh-node v (omega (arith, a .modulesOk))) (λ l. refl))
 
   marks-fresh : marksOf p (replicate 1200 0) ≡ (λ v k. 0)

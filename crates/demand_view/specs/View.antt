@@ -15,14 +15,14 @@ use Rattle.node.specs.Work.{Work, setup}
 use Rattle.search.specs.Own as O
 use Rattle.search.specs.Laws.{mark-not}
 use Rattle.field.specs.Edges.{isOwn, over}
-use Rattle.field.specs.State.{State, nodeIn, putNode, putMarks}
+use Rattle.field.specs.State.{State, WIDTH, nodeIn, putNode, putMarks}
 use Rattle.fieldlaws.specs.Chan.{chan}
 use Rattle.fieldlaws.specs.Places.{node-same, node-other, mark-same, mark-other}
 use Rattle.bridge.specs.Real.{Real, nodeOf, post, place}
 
 -- the modules: those below N, and as at setup beyond
 unfoldable pub nodes : Plan → List ℕ → ℕ → Node
-nodes p cells v = cond (ltb v (p .modules)) (nodeIn cells (v * 9)) setup
+nodes p cells v = cond (ltb v (p .modules)) (nodeIn cells v) setup
 
 -- v's marks: 0 where k is no link of v
 abbrev pub marksOf : Plan → List ℕ → ℕ → ℕ → ℕ
@@ -81,11 +81,11 @@ place-tables f m c v w = rw (
 module _ (p : Plan) where
   -- ---- modules
 
-  pub nodes-in : (cells : List ℕ) (v : ℕ) → v < p .modules → nodes p cells v ≡ nodeIn cells (v * 9)
+  pub nodes-in : (cells : List ℕ) (v : ℕ) → v < p .modules → nodes p cells v ≡ nodeIn cells v
   unfolding nodes
   nodes-in cells v l = rw (lt-ltb v (p .modules) l)
 
-  pub nodes-put : (cells : List ℕ) (v : ℕ) (n : Node) → v < p .modules → p .modules * 9 ≤ length cells
+  pub nodes-put : (cells : List ℕ) (v : ℕ) (n : Node) → v < p .modules → p .modules * WIDTH ≤ length cells
       → nodes p (putNode cells v n) ≡ upd (nodes p cells) v n
   unfolding nodes
   nodes-put cells v n l h = fun-ext (λ u. upd-elim (λ x. nodes p (putNode cells v n) u ≡ x) (nodes p cells) v n u

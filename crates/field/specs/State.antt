@@ -10,8 +10,8 @@ use Rattle.message.specs.Header.{headerOf, carriedOf, meant}
 use Rattle.word.specs.Word.{packed, headerIn, carriedIn}
 use Rattle.plan.specs.declared.Plan.{Plan}
 use Rattle.node.specs.declared.Node.{Node}
-use Rattle.node.specs.Work.{Work, Send}
-pub use Rattle.node.specs.Work.{values}
+use Rattle.node.specs.Work.{Work, Send, nodeBy}
+pub use Rattle.node.specs.Work.{WIDTH, values}
 use Rattle.search.specs.Own.{marksIn}
 use Rattle.field.specs.Edges.{over, from, linkOf}
 
@@ -21,27 +21,23 @@ pub record State : Type 0 where
   pub words : List ℕ
   pub sent : ℕ
 
--- "A module has status, level, identity, best weight, best edge, test edge, in-branch, find-count, halted": the node whose nine values stand
--- from cell c on
+-- the cells of 192 modules
+abbrev pub CELLS : ℕ
+CELLS = 192 * WIDTH
+
+-- value j of module v stands at this cell
+abbrev pub cellOf : ℕ → ℕ → ℕ
+cellOf v j = v * WIDTH + j
+
+-- "A module has status, level, identity, best weight, best edge, test edge, in-branch, find-count, halted": module v's node
 abbrev pub nodeIn : List ℕ → ℕ → Node
-nodeIn cells c =
-    record {
-      status = getD cells c 0;
-      level = getD cells (c + 1) 0;
-      identity = getD cells (c + 2) 0;
-      weight = getD cells (c + 3) 0;
-      best = getD cells (c + 4) 0;
-      test = getD cells (c + 5) 0;
-      branch = getD cells (c + 6) 0;
-      count = getD cells (c + 7) 0;
-      halted = getD cells (c + 8) 0;
-    }
+nodeIn cells v = nodeBy (λ j. getD cells (cellOf v j) 0)
 
 abbrev pub nodeAt : State → ℕ → Node
-nodeAt s v = nodeIn (s .cells) (v * 9)
+nodeAt s v = nodeIn (s .cells) v
 
 abbrev pub putNode : List ℕ → ℕ → Node → List ℕ
-putNode cells v n = sets cells (v * 9) (values n)
+putNode cells v n = sets cells (v * WIDTH) (values n)
 
 -- "and a mark for each own link": v's mark of link k, 0 where k is no link of v
 abbrev pub markAt : Plan → State → ℕ → ℕ → ℕ

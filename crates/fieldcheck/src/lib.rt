@@ -1,6 +1,7 @@
 // Refusal 31: whether a field that a host supplies is one, item by item.
 mod items;
 
+use field::CELLS;
 use plan;
 ghost use Prim.Native.Nat.{ℕ, _*_, _<_, _≤_};
 ghost use mathlib.Core.Path.{_≡_};
@@ -104,12 +105,12 @@ fn nodes_fit<'a>(
     lower: &'a [u16; 600],
     higher: &'a [u16; 600],
     ends: &'a [u16; 192],
-    cells: &'a [u16; 1728],
+    cells: &'a [u16; CELLS],
 ) -> bool
     requires { ⌜ (modules ≤ 192) × (links ≤ 600) ⌝ }
     ensures { λ r. ⌜ ((near far : List ℕ)
         → ((v : ℕ) → v < 192 → getD (now (ends .entry)) v 0 ≡ degree (ownIn links (now (lower .entry)) (now (higher .entry)) near far v))
-        → r ≡ every modules (λ v. nodeFits (planOf modules links (now (lower .entry)) (now (higher .entry)) near far) v (nodeIn (now (cells .entry)) (v * 9)))) ⌝ }
+        → r ≡ every modules (λ v. nodeFits (planOf modules links (now (lower .entry)) (now (higher .entry)) near far) v (nodeIn (now (cells .entry)) v))) ⌝ }
 {
     let mut v: u16 = modules;
     while 0 < v {
@@ -128,7 +129,7 @@ fn state_fits<'a>(
     links: u16,
     lower: &'a [u16; 600],
     higher: &'a [u16; 600],
-    cells: &'a [u16; 1728],
+    cells: &'a [u16; CELLS],
     marks: &'a [u8; 1200],
     sent: u32,
     words: &[u64],
@@ -155,7 +156,7 @@ pub fn check<'a>(
     higher: &'a [u16; 600],
     near: &'a [u16; 600],
     far: &'a [u16; 600],
-    cells: &'a [u16; 1728],
+    cells: &'a [u16; CELLS],
     marks: &'a [u8; 1200],
     sent: u32,
     lent: &[u64],

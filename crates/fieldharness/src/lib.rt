@@ -5,6 +5,7 @@ ghost use Rattle.plan.specs.Links.{planOf};
 ghost use Rattle.field.specs.Held.{stepAlone};
 ghost use Rattle.calls.specs.Call.{runBytes, runRounds};
 ghost use Rattle.fieldharness.specs.Parts.{fieldOf, heldOf};
+use field::CELLS;
 use field::Field;
 use plan::Plan;
 use rounds;
@@ -18,7 +19,7 @@ fn field_of<'a>(
     higher: &'a [u16; 600],
     near: &'a [u16; 600],
     far: &'a [u16; 600],
-    cells: &[u16; 1728],
+    cells: &[u16; CELLS],
     marks: &[u8; 1200],
     sent: u32,
 ) -> Field
@@ -56,7 +57,7 @@ pub extern "C" fn muruapy_test_step<'a>(
     higher: &'a [u16; 600],
     near: &'a [u16; 600],
     far: &'a [u16; 600],
-    cells: &mut [u16; 1728],
+    cells: &mut [u16; CELLS],
     marks: &mut [u8; 1200],
     sent: &mut u32,
     words: &mut [u64],
@@ -101,7 +102,7 @@ pub extern "C" fn muruapy_test_run<'a>(
     higher: &'a [u16; 600],
     near: &'a [u16; 600],
     far: &'a [u16; 600],
-    cells: &mut [u16; 1728],
+    cells: &mut [u16; CELLS],
     marks: &mut [u8; 1200],
     sent: &mut u32,
     words: &mut [u64],
@@ -148,7 +149,7 @@ pub extern "C" fn muruapy_test_rounds<'a>(
     higher: &'a [u16; 600],
     near: &'a [u16; 600],
     far: &'a [u16; 600],
-    cells: &mut [u16; 1728],
+    cells: &mut [u16; CELLS],
     marks: &mut [u8; 1200],
     sent: &mut u32,
     words: &mut [u64],

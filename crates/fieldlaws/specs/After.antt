@@ -1,7 +1,7 @@
 -- Setup, and lists of calls from it on: never 31, the counts are exact, an invariant of the steps holds after every list.
 use Prim.Native.Nat.{ℕ, zero, suc, _+_, _*_, _≤_, _<_}
 use native.Mathlib.Omega.{arith}
-use native.Mathlib.Nat.{not-suc-le-zero, add-zero}
+use native.Mathlib.Nat.{not-suc-le-zero}
 use mathlib.Core.Path.{_≡_, refl, sym, ap, ap₂, subst, _∙_}
 use mathlib.Core.Bool.{Bool, true, not, cond, _&&_}
 use mathlib.Core.List.{List, [], _∷_, _++_}
@@ -17,13 +17,13 @@ use Rattle.plan.specs.Refusal.{planRefusal}
 use Rattle.plan.specs.Accepted.{Accepted, accepted}
 use Rattle.node.specs.Work.{setup, ASLEEP}
 use Rattle.field.specs.Edges.{ownOf, limitOf, ceilingOf}
-use Rattle.field.specs.State.{State, values, nodeIn}
+use Rattle.node.specs.Values.{node-by}
+use Rattle.field.specs.State.{State, WIDTH, values, cellOf, nodeIn}
 use Rattle.field.specs.Step.{step}
 use Rattle.field.specs.Valid.{zeroAfter}
 use Rattle.field.specs.Held.{Held, stateOf, valid, freshCells, fresh, setUp}
 use Rattle.calls.specs.Call.{Call, does, after}
 use Rattle.calls.specs.Trail.{Taken, stepsOf, trail, ifTaken, consumed}
-use Rattle.fieldlaws.specs.Places.{node-is}
 use Rattle.fieldlaws.specs.Lists.{NodeOk, ok-fresh}
 use Rattle.fieldlaws.specs.Fits.{Fits, facts-fits}
 use Rattle.fieldlaws.specs.Keeps.{Sound, step-keeps}
@@ -34,25 +34,21 @@ use Rattle.fieldlaws.specs.Laid.{waiting-zeros, zeros-all, Live, live-pl
 -- ---- setup
 
 -- the cells of n modules: each is as at setup
-fresh-length : (n : ℕ) → length (freshCells n) ≡ n * 9
+fresh-length : (n : ℕ) → length (freshCells n) ≡ n * WIDTH
 unfolding freshCells
 fresh-length zero = refl
 fresh-length (suc n) = omega (arith, fresh-length n)
 
-fresh-at : (n v : ℕ) → v < n → (j : ℕ) → j < 9 → getD (freshCells n) (v * 9 + j) 0 ≡ getD (values setup) j 0
+fresh-at : (n v : ℕ) → v < n → (j : ℕ) → j < WIDTH → getD (freshCells n) (cellOf v j) 0 ≡ getD (values setup) j 0
 unfolding freshCells
 fresh-at zero v l j h = absurd (not-suc-le-zero l)
-fresh-at (suc n) zero l j h = let e : 0 * 9 + j ≡ j = omega arith in ap (λ i. getD (values setup ++ freshCells n) i 0) e ∙ List·getD-append (values setup) (freshCells n) 0 j h
+fresh-at (suc n) zero l j h = let e : cellOf 0 j ≡ j = omega arith in ap (λ i. getD (values setup ++ freshCells n) i 0) e ∙ List·getD-append (values setup) (freshCells n) 0 j h
 fresh-at (suc n) (suc v) l j h =
-    let e : suc v * 9 + j ≡ length (values setup) + (v * 9 + j) = omega arith in
-    ap (λ i. getD (values setup ++ freshCells n) i 0) e ∙ getD-append-add (values setup) (freshCells n) (v * 9 + j) 0 ∙ fresh-at n v (omega arith) j h
+    let e : cellOf (suc v) j ≡ length (values setup) + cellOf v j = omega arith in
+    ap (λ i. getD (values setup ++ freshCells n) i 0) e ∙ getD-append-add (values setup) (freshCells n) (cellOf v j) 0 ∙ fresh-at n v (omega arith) j h
 
-pub fresh-node : (v : ℕ) → v < 192 → nodeIn (freshCells 192) (v * 9) ≡ setup
-fresh-node v l = node-is (ap (λ i. getD (freshCells 192) i 0) (sym (add-zero (v * 9))) ∙ fresh-at 192 v l 0 (omega arith)) (at 1 (omega arith)) (at 2 (omega arith)) (at 3 (omega arith))
-    (at 4 (omega arith)) (at 5 (omega arith)) (at 6 (omega arith)) (at 7 (omega arith)) (at 8 (omega arith))
-  where
-    at : (j : ℕ) → j < 9 → getD (freshCells 192) (v * 9 + j) 0 ≡ getD (values setup) j 0
-    at j h = fresh-at 192 v l j h
+pub fresh-node : (v : ℕ) → v < 192 → nodeIn (freshCells 192) v ≡ setup
+fresh-node v l = node-by (λ j. getD (freshCells 192) (cellOf v j) 0) (λ j. getD (values setup) j 0) (fresh-at 192 v l)
 
 -- what a setup that is not refused leaves
 pub record Started (p : Plan) (lent : List ℕ) (h : Held) : Type 0 where

@@ -5,7 +5,6 @@ use mathlib.Core.Path.{_≡_, refl, sym, ap, subst}
 use mathlib.Core.Bool.{true, cond, _&&_}
 use mathlib.Core.List.{List, [], _∷_, _++_}
 use lib.ListN.{length, getD, length-append}
-use lib.Seq.{length-sets}
 use lib.Dec.{eqb, ltb}
 use Rattle.base.specs.Cond.{bool-cases, by-eq}
 use Rattle.base.specs.Loop.{After}
@@ -17,20 +16,20 @@ use Rattle.plan.specs.declared.Plan.{Plan}
 use Rattle.node.specs.Work.{Work, REJECTED, BACK}
 use Rattle.search.specs.Laws.{mark-own, mark-not}
 use Rattle.field.specs.Edges.{isOwn, ownOf, over, linkOf, from, limitOf, ceilingOf}
-use Rattle.field.specs.State.{State, values, nodeAt, markAt, placed, posted}
+use Rattle.field.specs.State.{State, WIDTH, nodeAt, markAt, placed, posted}
 use Rattle.field.specs.Step.{inQueue, wakeWork, serveWork, backOf, step}
 use Rattle.field.specs.Valid.{wordFits}
 use Rattle.plan.specs.Accepted.{Accepted}
 use Rattle.fieldlaws.specs.Chan.{queue-parts}
 use Rattle.fieldlaws.specs.Sends.{length-posted}
 use Rattle.fieldlaws.specs.Cases.{Outcome, took, kept, Step, wake-step, hand-step, serve-step, steps}
-use Rattle.fieldlaws.specs.Places.{node-same, node-other, mark-at, length-new, over-below, dest-own, own-below}
+use Rattle.fieldlaws.specs.Places.{length-put, node-same, node-other, mark-at, length-new, over-below, dest-own, own-below}
 use Rattle.fieldlaws.specs.Lists.{NodeOk, WorkOk, ok-wakeup, ok-respond}
 use Rattle.fieldlaws.specs.Fits.{Fits, word-link, word-msg, hand-fits, sends-fit}
 
 -- room for N modules and the marks of L links: so in a field, whose arrays hold 192 and 600
 pub record Sized (p : Plan) (s : State) : Type 0 where
-  pub cells : p .modules * 9 ≤ length (s .cells)
+  pub cells : p .modules * WIDTH ≤ length (s .cells)
   pub marks : 2 * p .links ≤ length (s .marks)
 
 pub record Sound (p : Plan) (s : State) : Type 0 where
@@ -78,7 +77,7 @@ module _ (p : Plan) (a : Accepted p) (s : State) (i : Sound p s) where
     pub placed-sound : Sound p (placed p v w s words back)
     placed-sound = record {
       sized = record {
-        cells = omega (arith, i .sized .cells, length-sets (s .cells) (v * 9) (values (w .node)));
+        cells = omega (arith, i .sized .cells, length-put (s .cells) v (w .node));
         marks = omega (arith, i .sized .marks, length-new p v (w .mark) 0 (s .marks));
       };
       fits = record {
@@ -139,7 +138,7 @@ pub record Alike (x y : State) : Type 0 where
 
 module _ (p : Plan) (s : State) where
   placed-alike : (v : ℕ) (w : Work) (words back : List ℕ) → Alike s (placed p v w s words back)
-  placed-alike v w words back = record { cells = length-sets (s .cells) (v * 9) (values (w .node)); marks = length-new p v (w .mark) 0 (s .marks) }
+  placed-alike v w words back = record { cells = length-put (s .cells) v (w .node); marks = length-new p v (w .mark) 0 (s .marks) }
 
   step-alike : (kind number : ℕ) (s′ : State) → Step p s kind number s′ → Alike s s′
   step-alike _ _ s′ (wake-step {v} h) = subst (Alike s) (sym (h .responds .is)) (placed-alike v (wakeWork p v s) (s .words) [])

@@ -17,7 +17,7 @@ use Rattle.plan.specs.declared.Plan.{Plan}
 use Rattle.plan.specs.Refusal.{planRefusal}
 use Rattle.plan.specs.Accepted.{Accepted, accepted}
 use Rattle.field.specs.Edges.{ceilingOf}
-use Rattle.field.specs.State.{State}
+use Rattle.field.specs.State.{State, CELLS}
 use Rattle.field.specs.Valid.{allOf, waitingIn, zeroAfter, enough, fits}
 use Rattle.field.specs.Held.{Held, layout, stateOf, heldOf, valid, stepAlone}
 use Rattle.calls.specs.Schedule.{scheduleRefusal, scheduleRun}
@@ -74,7 +74,7 @@ module _ (n : ℕ) (words : List ℕ) (l : length words ≤ n) where
 
 -- the arrays of a field hold 192 modules and 600 links; and 31 does not apply
 pub record Live (h : Held) : Type 0 where
-  pub cells : 1728 ≤ length (h .field .cells)
+  pub cells : CELLS ≤ length (h .field .cells)
   pub marks : 1200 ≤ length (h .field .marks)
   pub valid : valid h ≡ true
 

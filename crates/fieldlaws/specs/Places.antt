@@ -17,7 +17,8 @@ use Rattle.node.specs.declared.Node.{Node}
 use Rattle.search.specs.Own as O
 use Rattle.search.specs.Laws.{end-lower, end-higher, own-lower, own-higher, mark-own, mark-not}
 use Rattle.field.specs.Edges.{isOwn, over, linkOf, from, dest}
-use Rattle.field.specs.State.{values, nodeIn, putNode, newMark, newMarks, putMarks}
+use Rattle.node.specs.Values.{node-by, values-by}
+use Rattle.field.specs.State.{WIDTH, values, cellOf, nodeIn, putNode, newMark, newMarks, putMarks}
 use Rattle.plan.specs.Accepted.{Accepted}
 
 -- ---- a run of stores
@@ -42,31 +43,23 @@ module _ (d : ℕ) where
   sets-in (a ∷ vs) l i (suc j) h r =
       ap (λ k. getD (sets (set l i a) (suc i) vs) k d) (omega arith) ∙ sets-in vs (set l i a) (suc i) j (omega arith) (omega (arith, length-set l i a))
 
--- ---- a node's nine cells
-
-pub node-is : {a₁ a₂ a₃ a₄ a₅ a₆ a₇ a₈ a₉ b₁ b₂ b₃ b₄ b₅ b₆ b₇ b₈ b₉ : ℕ}
-    → a₁ ≡ b₁ → a₂ ≡ b₂ → a₃ ≡ b₃ → a₄ ≡ b₄ → a₅ ≡ b₅ → a₆ ≡ b₆ → a₇ ≡ b₇ → a₈ ≡ b₈ → a₉ ≡ b₉
-    → _≡_ {A = Node} (record { status = a₁; level = a₂; identity = a₃; weight = a₄; best = a₅; test = a₆; branch = a₇; count = a₈; halted = a₉ })
-    (record { status = b₁; level = b₂; identity = b₃; weight = b₄; best = b₅; test = b₆; branch = b₇; count = b₈; halted = b₉ })
-node-is e₁ e₂ e₃ e₄ e₅ e₆ e₇ e₈ e₉ = cc
+-- ---- a node's cells
 
 module _ (cells : List ℕ) (v : ℕ) (n : Node) where
-  pub node-same : v * 9 + 9 ≤ length cells → nodeIn (putNode cells v n) (v * 9) ≡ n
-  node-same h = node-is (ap (λ k. getD (putNode cells v n) k 0) (sym (add-zero (v * 9))) ∙ at 0 (omega arith)) (at 1 (omega arith)) (at 2 (omega arith))
-      (at 3 (omega arith)) (at 4 (omega arith)) (at 5 (omega arith)) (at 6 (omega arith)) (at 7 (omega arith)) (at 8 (omega arith))
-    where
-      at : (j : ℕ) → j < 9 → getD (putNode cells v n) (v * 9 + j) 0 ≡ getD (values n) j 0
-      at j l = sets-in 0 (values n) cells (v * 9) j l h
+  pub length-put : length (putNode cells v n) ≡ length cells
+  length-put = length-sets cells (v * WIDTH) (values n)
 
-  pub node-other : (u : ℕ) → u ≢ v → nodeIn (putNode cells v n) (u * 9) ≡ nodeIn cells (u * 9)
-  node-other u d = node-is (ap (λ k. getD (putNode cells v n) k 0) (sym (add-zero (u * 9))) ∙ at 0 (omega arith) ∙ ap (λ k. getD cells k 0) (add-zero (u * 9)))
-      (at 1 (omega arith)) (at 2 (omega arith)) (at 3 (omega arith)) (at 4 (omega arith)) (at 5 (omega arith)) (at 6 (omega arith)) (at 7 (omega arith)) (at 8 (omega arith))
+  put-at : v * WIDTH + WIDTH ≤ length cells → (j : ℕ) → j < WIDTH → getD (putNode cells v n) (cellOf v j) 0 ≡ getD (values n) j 0
+  put-at h j l = sets-in 0 (values n) cells (v * WIDTH) j l h
+
+  pub node-same : v * WIDTH + WIDTH ≤ length cells → nodeIn (putNode cells v n) v ≡ n
+  node-same h = node-by (λ j. getD (putNode cells v n) (cellOf v j) 0) (λ j. getD (values n) j 0) (put-at h)
+
+  pub node-other : (u : ℕ) → u ≢ v → nodeIn (putNode cells v n) u ≡ nodeIn cells u
+  node-other u d = node-by (λ j. getD (putNode cells v n) (cellOf u j) 0) (λ j. getD cells (cellOf u j) 0) (λ j l. sets-out 0 (values n) cells (v * WIDTH) (cellOf u j) (side j l))
     where
-      at : (j : ℕ) → j < 9 → getD (putNode cells v n) (u * 9 + j) 0 ≡ getD cells (u * 9 + j) 0
-      at j l = sets-out 0 (values n) cells (v * 9) (u * 9 + j) (side j l)
-        where
-          side : (j : ℕ) → j < 9 → (u * 9 + j < v * 9) ⊎ (v * 9 + 9 ≤ u * 9 + j)
-          side j l = ltb-cases u v (λ b. (u * 9 + j < v * 9) ⊎ (v * 9 + 9 ≤ u * 9 + j)) (λ h. inl (omega arith)) (λ h. inr (omega (arith, d)))
+      side : (j : ℕ) → j < WIDTH → (cellOf u j < v * WIDTH) ⊎ (v * WIDTH + WIDTH ≤ cellOf u j)
+      side j l = ltb-cases u v (λ b. (cellOf u j < v * WIDTH) ⊎ (v * WIDTH + WIDTH ≤ cellOf u j)) (λ h. inl (omega arith)) (λ h. inr (omega (arith, d)))
 
 -- ---- directed links
 
@@ -177,31 +170,20 @@ module _ (p : Plan) (v : ℕ) (m : ℕ → ℕ) where
 -- ---- nothing changed: what was read, put back, is what was there
 
 module _ (cells : List ℕ) (v : ℕ) where
-  values-at : (j : ℕ) → j < 9 → getD (values (nodeIn cells (v * 9))) j 0 ≡ getD cells (v * 9 + j) 0
-  values-at zero l = ap (λ k. getD cells k 0) (sym (add-zero (v * 9)))
-  values-at (suc zero) l = refl
-  values-at (suc (suc zero)) l = refl
-  values-at (suc (suc (suc zero))) l = refl
-  values-at (suc (suc (suc (suc zero)))) l = refl
-  values-at (suc (suc (suc (suc (suc zero))))) l = refl
-  values-at (suc (suc (suc (suc (suc (suc zero)))))) l = refl
-  values-at (suc (suc (suc (suc (suc (suc (suc zero))))))) l = refl
-  values-at (suc (suc (suc (suc (suc (suc (suc (suc zero)))))))) l = refl
-  values-at (suc (suc (suc (suc (suc (suc (suc (suc (suc j))))))))) l = absurd (omega arith)
-
-  pub node-back : v * 9 + 9 ≤ length cells → putNode cells v (nodeIn cells (v * 9)) ≡ cells
-  node-back h = ext-getD 0 (putNode cells v n) cells (length-sets cells (v * 9) (values n)) at
+  pub node-back : v * WIDTH + WIDTH ≤ length cells → putNode cells v (nodeIn cells v) ≡ cells
+  node-back h = ext-getD 0 (putNode cells v n) cells (length-put cells v n) at
     where
       n : Node
-      n = nodeIn cells (v * 9)
+      n = nodeIn cells v
 
       at : (k : ℕ) → k < length (putNode cells v n) → getD (putNode cells v n) k 0 ≡ getD cells k 0
-      at k l = ltb-cases k (v * 9) (λ b. getD (putNode cells v n) k 0 ≡ getD cells k 0)
-          (λ a. sets-out 0 (values n) cells (v * 9) k (inl a))
-          (λ a. ltb-cases k (v * 9 + 9) (λ b. getD (putNode cells v n) k 0 ≡ getD cells k 0)
-          (λ b. let e : v * 9 + (k - v * 9) ≡ k = omega arith in
-          ap (λ i. getD (putNode cells v n) i 0) (sym e) ∙ sets-in 0 (values n) cells (v * 9) (k - v * 9) (omega arith) h ∙ values-at (k - v * 9) (omega arith) ∙ ap (λ i. getD cells i 0) e)
-          (λ b. sets-out 0 (values n) cells (v * 9) k (inr b)))
+      at k l = ltb-cases k (v * WIDTH) (λ b. getD (putNode cells v n) k 0 ≡ getD cells k 0)
+          (λ a. sets-out 0 (values n) cells (v * WIDTH) k (inl a))
+          (λ a. ltb-cases k (v * WIDTH + WIDTH) (λ b. getD (putNode cells v n) k 0 ≡ getD cells k 0)
+          (λ b. let j : ℕ = k - v * WIDTH in
+          let e : cellOf v j ≡ k = omega arith in
+          ap (λ i. getD (putNode cells v n) i 0) (sym e) ∙ put-at cells v n h j (omega arith) ∙ values-by (λ i. getD cells (cellOf v i) 0) j (omega arith) ∙ ap (λ i. getD cells i 0) e)
+          (λ b. sets-out 0 (values n) cells (v * WIDTH) k (inr b)))
 
 module _ (p : Plan) (a : Accepted p) (v : ℕ) (marks : List ℕ) (sized : 2 * p .links ≤ length marks) where
   abbrev read : ℕ → ℕ

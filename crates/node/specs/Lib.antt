@@ -1,4 +1,5 @@
 pub mod Work
+pub mod Values
 pub mod Rules
 pub mod Table
 pub mod Samples

@@ -6,10 +6,11 @@ use lib.ListN.{length, getD}
 use lib.Dec.{eqb, ltb}
 use Rattle.message.specs.Msg.{Msg, connect, initiate, test, accept, reject, report, change, none}
 use Rattle.node.specs.declared.Node.{Node}
-use Rattle.node.specs.Work.{Own, Send, Work, values, REFUSED}
+use Rattle.node.specs.Work.{Own, Send, Work, values, nodeBy, REFUSED}
+use Rattle.node.specs.Values.{listed}
 use Rattle.node.specs.Rules.{respond}
 
--- what a response gives: answer, the nine values, the marks by edge number, the sends as (edge, kind, level, carried, find)
+-- what a response gives: answer, the node's values, the marks by edge number, the sends as (edge, kind, level, carried, find)
 pub record Outcome : Type 0 where
   pub answer : ℕ
   pub node : List ℕ
@@ -37,18 +38,7 @@ ownOf own ws =
     }
 
 abbrev pub nodeOf : List ℕ → Node
-nodeOf xs =
-    record {
-      status = getD xs 0 0;
-      level = getD xs 1 0;
-      identity = getD xs 2 0;
-      weight = getD xs 3 0;
-      best = getD xs 4 0;
-      test = getD xs 5 0;
-      branch = getD xs 6 0;
-      count = getD xs 7 0;
-      halted = getD xs 8 0;
-    }
+nodeOf xs = nodeBy (λ j. getD xs j 0)
 
 abbrev pub numbers : Msg → List ℕ
 numbers (connect l) = 1 ∷ l ∷ none ∷ 0 ∷ []
@@ -62,11 +52,6 @@ numbers change = 7 ∷ 0 ∷ none ∷ 0 ∷ []
 abbrev pub sendsOf : List Send → List (List ℕ)
 sendsOf [] = []
 sendsOf (s ∷ ss) = (s .edge ∷ numbers (s .msg)) ∷ sendsOf ss
-
--- the first n entries of a table
-abbrev pub listed : (ℕ → ℕ) → ℕ → ℕ → List ℕ
-listed f k zero = []
-listed f k (suc n) = f k ∷ listed f (suc k) n
 
 -- of a refused response only its number counts
 abbrev pub outcome : ℕ → Work → Outcome

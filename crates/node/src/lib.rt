@@ -1,4 +1,6 @@
-// A node's record: document 01's module values, nine numbers. Edges, weights and identity are edge numbers, 65535 for none.
+// A node's record: document 01's module values, WIDTH numbers. Edges, weights and identity are edge numbers, 65535 for none.
+pub const WIDTH: usize = 9;
+
 pub struct Node {
     // SN: 0 asleep, 1 Find, 2 Found
     pub status: u16,

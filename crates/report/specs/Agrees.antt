@@ -87,16 +87,14 @@ module _ (s : List ℕ) (z : readPlan s .refusal ≡ 0) where
       let c = outcome p lent set .agreed .core m in
       let cells = ran .state .field .cells in
       let o = acc .each (c .link) (c .within) in
-      let at : (v : ℕ) → v * 9 + 8 ≡ 9 * v + 8 = λ v. omega arith in
-      let told : (v : ℕ) → getD cells (9 * v + 8) 0 ≡ nodeAt (stateOf (ran .state)) v .halted = λ v. ap (λ i. getD cells i 0) (sym (at v)) in
       record {
         link = c .link;
         within = c .within;
         tree = c .tree;
         named = core-two cells (low p (c .link)) (high p (c .link)) (p .modules) (o .ordered) (o .inside)
-            (told _ ∙ c .halted (low p (c .link)) (omega (arith, o .ordered, o .inside)) .1 (inl refl))
-            (told _ ∙ c .halted (high p (c .link)) (o .inside) .1 (inr refl))
-            (λ v l a b e. ⊎-elim a b (c .halted v l .0 (sym (told v) ∙ e)))
+            (c .halted (low p (c .link)) (omega (arith, o .ordered, o .inside)) .1 (inl refl))
+            (c .halted (high p (c .link)) (o .inside) .1 (inr refl))
+            (λ v l a b e. ⊎-elim a b (c .halted v l .0 e))
             (acc .modulesOk);
       }
     where

@@ -17,6 +17,7 @@ use Rattle.planfile.specs.declared.Outcome.{Outcome}
 use Rattle.planfile.specs.Reading.{readPlan}
 use Rattle.planfile.specs.RoundTrip.{read-taken}
 use Rattle.field.specs.declared.Field.{Field}
+use Rattle.field.specs.State.{nodeIn}
 use Rattle.field.specs.Edges.{ceilingOf}
 use Rattle.field.specs.Held.{Held}
 use Rattle.settle.specs.Settled.{settled}
@@ -44,7 +45,7 @@ end-length halted v = by-test (eqb halted 1) (λ b. length (cond b (named " " v)
 ends-length : (cells : List ℕ) (v : ℕ) → length (endsText cells v) ≤ 21 * v
 unfolding endsText
 ends-length cells zero = omega arith
-ends-length cells (suc v) = rw (length-append (endsText cells v) (endText (getD cells (9 * v + 8) 0) v)) (omega (arith, ends-length cells v, end-length (getD cells (9 * v + 8) 0) v))
+ends-length cells (suc v) = rw (length-append (endsText cells v) (endText (nodeIn cells v .halted) v)) (omega (arith, ends-length cells v, end-length (nodeIn cells v .halted) v))
 
 core-length : (n : ℕ) (cells : List ℕ) → length (coreText n cells) ≤ 4037
 unfolding coreText

@@ -15,7 +15,9 @@ use Rattle.text.specs.Put.{Page, put, put-on}
 use Rattle.plan.specs.declared.Plan.{Plan}
 use Rattle.plan.specs.Weights.{cost, costOf, costIn}
 use Rattle.plan.specs.Ceiling.{ceiling}
+use Rattle.node.specs.declared.Node.{Node}
 use Rattle.field.specs.declared.Field.{Field}
+use Rattle.field.specs.State.{nodeIn}
 use Rattle.report.specs.Total.{total}
 
 abbrev pub headText : ℕ → ℕ → List ℕ
@@ -40,7 +42,7 @@ endText halted v = cond (eqb halted 1) (named " " v) []
 
 unfoldable pub endsText : List ℕ → ℕ → List ℕ
 endsText cells zero = []
-endsText cells (suc v) = endsText cells v ++ endText (getD cells (9 * v + 8) 0) v
+endsText cells (suc v) = endsText cells v ++ endText (nodeIn cells v .halted) v
 
 -- "or "core none" for N = 1"
 unfoldable pub coreText : ℕ → List ℕ → List ℕ
@@ -124,9 +126,9 @@ pub ends-none : (cells : List ℕ) → endsText cells 0 ≡ []
 unfolding endsText
 ends-none cells = refl
 
-pub ends-turn : (cells : List ℕ) (v : ℕ) → endsText cells v ++ endText (getD cells (9 * v + 8) 0) v ≡ endsText cells (v + 1)
+pub ends-turn : (cells : List ℕ) (v : ℕ) (n : Node) → n ≡ nodeIn cells v → endsText cells v ++ endText (n .halted) v ≡ endsText cells (v + 1)
 unfolding endsText
-ends-turn cells v = rw (add-one v) refl
+ends-turn cells v n e = rw (add-one v, e) refl
 
 pub capped : (n x most : ℕ) → n ≡ min x most → n ≤ most
 capped n x most e = omega arith

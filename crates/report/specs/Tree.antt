@@ -14,6 +14,7 @@ use Rattle.plan.specs.declared.Plan.{Plan}
 use Rattle.plan.specs.Links.{low, high}
 use Rattle.plan.specs.Weights.{cost}
 use Rattle.tree.specs.Tree.{treeLink}
+use Rattle.field.specs.State.{nodeIn}
 use Rattle.report.specs.Total.{total}
 use Rattle.report.specs.Text.{named, branchLine, branchText, branchLines, endsText, coreText, end-none, end-one, core-some}
 
@@ -44,7 +45,7 @@ coreLine a b = ascii "core" ++ (named " " a ++ named " " b) ++ ascii "\n"
 
 module _ (cells : List ℕ) where
   abbrev halted : ℕ → ℕ
-  halted v = getD cells (9 * v + 8) 0
+  halted v = nodeIn cells v .halted
 
   ends-skip : (m n : ℕ) → m ≤ n → ((v : ℕ) → m ≤ v → v < n → halted v ≢ 1) → endsText cells n ≡ endsText cells m
   unfolding endsText

@@ -88,7 +88,8 @@ fn ends(f: Field, out: &mut [u8], at: usize) -> usize
     let mut a = at;
     let mut v: usize = 0;
     while v < n {
-        a = end(out, a, cells[9 * v + 8], v);
+        let node = cells::load(&cells, v as u16);
+        a = end(out, a, node.halted, v);
         v += 1;
     }
     a

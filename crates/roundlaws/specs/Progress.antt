@@ -17,7 +17,7 @@ use Rattle.plan.specs.Accepted.{Accepted}
 use Rattle.node.specs.declared.Node.{Node}
 use Rattle.node.specs.Work.{Work, ASLEEP, BACK, start, putBack}
 use Rattle.field.specs.Edges.{ownOf, linkOf, dest, limitOf, ceilingOf}
-use Rattle.field.specs.State.{State, nodeAt, markAt, msgIn, posted, placed}
+use Rattle.field.specs.State.{State, WIDTH, nodeAt, markAt, msgIn, posted, placed}
 use Rattle.field.specs.Step.{serveWork, backOf}
 use Rattle.fieldlaws.specs.Chan.{queue-parts}
 use Rattle.fieldlaws.specs.Sends.{length-posted}
@@ -64,7 +64,7 @@ module _ (p : Plan) (a : Accepted p) (s s′ : State) (v : ℕ) (i : Sound p s) 
   abbrev w : Work
   w = serveWork p v x s
 
-  in-range : v * 9 + 9 ≤ length (s .cells)
+  in-range : v * WIDTH + WIDTH ≤ length (s .cells)
   in-range = omega (arith, i .sized .cells, h .within)
 
   node-after : nodeAt s′ v ≡ w .node

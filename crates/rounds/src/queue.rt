@@ -1,4 +1,5 @@
 // The second half of a round: "then lets each module in number order serve as many as its queue then held".
+use field::CELLS;
 use serve;
 use serve::Done;
 use store;
@@ -14,7 +15,7 @@ fn serve_turn<'a>(
     higher: &'a [u16; 600],
     near: &'a [u16; 600],
     far: &'a [u16; 600],
-    cells: &mut [u16; 1728],
+    cells: &mut [u16; CELLS],
     marks: &mut [u8; 1200],
     lent: &mut [u64],
     n: usize,
@@ -59,7 +60,7 @@ pub fn serve_phase<'a>(
     higher: &'a [u16; 600],
     near: &'a [u16; 600],
     far: &'a [u16; 600],
-    cells: &mut [u16; 1728],
+    cells: &mut [u16; CELLS],
     marks: &mut [u8; 1200],
     lent: &mut [u64],
     n: usize,

@@ -1,6 +1,7 @@
 // A round, and rounds until the field is at rest, the limit is reached or a step is refused.
 use crate::air;
 use crate::queue;
+use field::CELLS;
 use serve;
 use serve::Done;
 ghost use mathlib.Core.Path.{_≡_};
@@ -32,7 +33,7 @@ fn round<'a>(
     higher: &'a [u16; 600],
     near: &'a [u16; 600],
     far: &'a [u16; 600],
-    cells: &mut [u16; 1728],
+    cells: &mut [u16; CELLS],
     marks: &mut [u8; 1200],
     lent: &mut [u64],
     n: usize,
@@ -69,7 +70,7 @@ pub fn rounds<'a>(
     higher: &'a [u16; 600],
     near: &'a [u16; 600],
     far: &'a [u16; 600],
-    cells: &mut [u16; 1728],
+    cells: &mut [u16; CELLS],
     marks: &mut [u8; 1200],
     lent: &mut [u64],
     n: usize,

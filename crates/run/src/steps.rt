@@ -1,4 +1,5 @@
 // Steps on lent arrays: one by its kind, and those of a schedule one after the other.
+use field::CELLS;
 use schedule;
 use serve;
 use serve::Done;
@@ -33,7 +34,7 @@ pub fn step<'a>(
     higher: &'a [u16; 600],
     near: &'a [u16; 600],
     far: &'a [u16; 600],
-    cells: &mut [u16; 1728],
+    cells: &mut [u16; CELLS],
     marks: &mut [u8; 1200],
     lent: &mut [u64],
     n: usize,
@@ -87,7 +88,7 @@ pub fn steps<'a>(
     higher: &'a [u16; 600],
     near: &'a [u16; 600],
     far: &'a [u16; 600],
-    cells: &mut [u16; 1728],
+    cells: &mut [u16; CELLS],
     marks: &mut [u8; 1200],
     lent: &mut [u64],
     n: usize,

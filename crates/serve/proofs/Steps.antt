@@ -1,5 +1,5 @@
 -- The two steps, outcome by outcome, as the code meets them.
-use Prim.Native.Nat.{ℕ, _*_, _≤_, _<_}
+use Prim.Native.Nat.{ℕ, _≤_, _<_}
 use native.Mathlib.Omega.{arith}
 use mathlib.Core.Path.{_≡_, refl, sym, ap, subst, _∙_}
 use mathlib.Core.Logic.{_≢_, _⊎_, inl, inr, ⊎-elim}
@@ -120,10 +120,10 @@ module _ (p : Plan) (cells marks lent : List ℕ) (n sent v : ℕ) (r : Ready p 
   serving-41 h = stays p cells marks lent n sent r (λ p. serve p v) 41 (serve-41 p v before h)
 
   module _ (l : v < p .modules) where
-    pub waking-43 : (o : Node) → o ≡ nodeIn cells (v * 9) → o .status ≢ 0 → {d : Done} → refuses (λ p. wake p v) 43 d
+    pub waking-43 : (o : Node) → o ≡ nodeIn cells v → o .status ≢ 0 → {d : Done} → refuses (λ p. wake p v) 43 d
     waking-43 o e h = stays p cells marks lent n sent r (λ p. wake p v) 43 (wake-43 p v before l (λ q. h (ap (λ (y : Node). y .status) e ∙ q)))
 
-    module _ (o : Node) (eo : o ≡ nodeIn cells (v * 9)) (h : o .status ≡ 0) (a : Act) (f : Formed a)
+    module _ (o : Node) (eo : o ≡ nodeIn cells v) (h : o .status ≡ 0) (a : Act) (f : Formed a)
         (e : (cs : List Send) → workOf (markAt p before v) cs a ≡ wakes (ownOf p v) o (markAt p before v)) where
       is-wake : (j : ℕ) (msg : Msg) → workBy p v j msg a before ≡ wakeWork p v before
       is-wake j msg = e _ ∙ ap (λ (y : Node). wakes (ownOf p v) y (markAt p before v)) eo
@@ -170,7 +170,7 @@ module _ (p : Plan) (cells marks lent : List ℕ) (n sent v : ℕ) (r : Ready p 
         pub serving-listed : listed (headerIn x) (carriedIn x) ≡ true
         serving-listed = word-listed p x fits
 
-        pub serving-fit : Fit (p .links) (p .lower) (p .higher) v (linkOf (linkIn x)) (nodeIn cells (v * 9))
+        pub serving-fit : Fit (p .links) (p .lower) (p .higher) v (linkOf (linkIn x)) (nodeIn cells v)
         serving-fit =
             let o = r .sound .fits .nodes v l in
             record {

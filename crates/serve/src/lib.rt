@@ -3,12 +3,13 @@
 use act::Act;
 use cells;
 use commit;
+use field::CELLS;
 use message;
 use plan;
 use respond;
 use store;
 use word;
-ghost use Prim.Native.Nat.{ℕ, _+_, _*_, _<_};
+ghost use Prim.Native.Nat.{ℕ, _+_, _<_};
 ghost use mathlib.Core.Path.{_≡_};
 ghost use mathlib.Core.Bool.{true};
 ghost use mathlib.Core.List.{List, _++_};
@@ -76,7 +77,7 @@ fn settle<'a>(
     links: u16,
     lower: &'a [u16; 600],
     higher: &'a [u16; 600],
-    cells: &mut [u16; 1728],
+    cells: &mut [u16; CELLS],
     marks: &mut [u8; 1200],
     lent: &mut [u64],
     n: usize,
@@ -114,12 +115,12 @@ fn response<'a>(
     higher: &'a [u16; 600],
     near: &'a [u16; 600],
     far: &'a [u16; 600],
-    cells: &'a [u16; 1728],
+    cells: &'a [u16; CELLS],
     marks: &'a [u8; 1200],
     v: u16,
     x: u64,
 ) -> Act
-    requires { ⌜ (v < 192) × Fit links (now lower) (now higher) v (linkOf (linkIn x)) (nodeIn (now cells) (v * 9)) × (listed (headerIn x) (carriedIn x) ≡ true) ⌝ }
+    requires { ⌜ (v < 192) × Fit links (now lower) (now higher) v (linkOf (linkIn x)) (nodeIn (now cells) v) × (listed (headerIn x) (carriedIn x) ≡ true) ⌝ }
     ensures { λ r. ⌜ Responds (planOf modules links (now (lower .entry)) (now (higher .entry)) (now (near .entry)) (now (far .entry))) v x
         (now (cells .entry)) (now (marks .entry)) r ⌝ }
 {
@@ -160,7 +161,7 @@ pub fn wake<'a>(
     higher: &'a [u16; 600],
     near: &'a [u16; 600],
     far: &'a [u16; 600],
-    cells: &mut [u16; 1728],
+    cells: &mut [u16; CELLS],
     marks: &mut [u8; 1200],
     lent: &mut [u64],
     n: usize,
@@ -204,7 +205,7 @@ pub fn serve<'a>(
     higher: &'a [u16; 600],
     near: &'a [u16; 600],
     far: &'a [u16; 600],
-    cells: &mut [u16; 1728],
+    cells: &mut [u16; CELLS],
     marks: &mut [u8; 1200],
     lent: &mut [u64],
     n: usize,

@@ -1,11 +1,13 @@
 // Setup: the field of a plan, all modules asleep, no word waiting.
 use base::NONE;
+use field::CELLS;
 use field::Field;
 use node::Node;
 use plan::Plan;
 ghost use Prim.Native.Nat.{ℕ, _*_, _<_, _≤_};
 ghost use mathlib.Core.Path.{_≡_};
 ghost use lib.ListN.{length, replicate};
+ghost use Rattle.field.specs.State.{CELLS};
 ghost use Rattle.field.specs.Held.{freshCells, fresh, setUp};
 
 // refusal: 14 to 19, 21 or 0
@@ -15,8 +17,8 @@ pub struct Outcome {
 }
 
 // Each module's values at setup, in cells of zeros.
-fn lay_cells(cells: &mut [u16; 1728])
-    requires { ⌜ now cells ≡ replicate 1728 0 ⌝ }
+fn lay_cells(cells: &mut [u16; CELLS])
+    requires { ⌜ now cells ≡ replicate CELLS 0 ⌝ }
     ensures { λ _. ⌜ now (cells .exit) ≡ freshCells 192 ⌝ }
 {
     let n = Node {
@@ -41,7 +43,7 @@ fn lay_cells(cells: &mut [u16; 1728])
 fn fresh_field(p: Plan) -> Field
     ensures { λ r. ⌜ r ≡ fresh p ⌝ }
 {
-    let mut cells = [0u16; 1728];
+    let mut cells = [0u16; CELLS];
     lay_cells(&mut cells);
     let marks = [0u8; 1200];
     Field {

@@ -119,7 +119,7 @@ module _ (links : ℕ) (lower higher cells marks : List ℕ) where
 
   module-length : (v : ℕ) → length (moduleText links lower higher cells marks v) ≤ 400 + 42 * own v
   module-length v =
-      let n = nodeIn cells (v * 9) in
+      let n = nodeIn cells v in
       let m = marksText links lower higher marks v links in
       let most : length (moduleText links lower higher cells marks v) ≤ 27 + (150 + 150) + 42 * own v + 1 =
       both (named "module " v ++ valuesText n ++ m) (ascii "\n")

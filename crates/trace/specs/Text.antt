@@ -53,7 +53,7 @@ marksText links lower higher marks v (suc k) =
 -- "`module V` and its nine values .., then for each own link .."
 abbrev pub moduleText : ℕ → List ℕ → List ℕ → List ℕ → List ℕ → ℕ → List ℕ
 moduleText links lower higher cells marks v =
-    named "module " v ++ valuesText (nodeIn cells (v * 9)) ++ marksText links lower higher marks v links ++ ascii "\n"
+    named "module " v ++ valuesText (nodeIn cells v) ++ marksText links lower higher marks v links ++ ascii "\n"
 
 -- "for each module in order": of the modules below v
 unfoldable pub modulesText : ℕ → List ℕ → List ℕ → List ℕ → List ℕ → ℕ → List ℕ

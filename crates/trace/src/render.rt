@@ -5,6 +5,7 @@ ghost use Rattle.text.specs.Put.{page, put};
 ghost use Rattle.trace.specs.Text.{item as Text·item};
 ghost use Rattle.trace.specs.Text.{linkItem, firstText, otherText, valuesText, markText, marksText, moduleText, modulesText, wordsText, refusalText, headText};
 use base::NONE;
+use field::CELLS;
 use node::Node;
 
 // A blank and a number.
@@ -103,7 +104,7 @@ fn module_line<'a>(
     links: u16,
     lower: &'a [u16; 600],
     higher: &'a [u16; 600],
-    cells: &'a [u16; 1728],
+    cells: &'a [u16; CELLS],
     marks: &'a [u8; 1200],
     out: &mut [u8],
     at: usize,
@@ -126,7 +127,7 @@ pub fn modules<'a>(
     links: u16,
     lower: &'a [u16; 600],
     higher: &'a [u16; 600],
-    cells: &'a [u16; 1728],
+    cells: &'a [u16; CELLS],
     marks: &'a [u8; 1200],
     out: &mut [u8],
     at: usize,

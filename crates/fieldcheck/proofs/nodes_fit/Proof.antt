@@ -1,4 +1,4 @@
-use Prim.Native.Nat.{ℕ, _-_, _*_, _≤_, _<_}
+use Prim.Native.Nat.{ℕ, _-_, _≤_, _<_}
 use native.Mathlib.Omega.{arith}
 use mathlib.Core.Path.{ap, _≡_, refl, sym, _∙_}
 use mathlib.Core.List.{List}
@@ -16,7 +16,7 @@ use Rattle.fieldcheck.proofs.nodes_fit.Tie as tie
 
 abbrev Inv-loop : tie.InvT-loop
 Inv-loop modules links lower higher ends cells v₀ v = (v ≤ modules) × ((near far : List ℕ) → ((u : ℕ) → u < 192 → getD ends u 0 ≡ degree (ownIn links lower higher near far u))
-    → every modules (λ u. nodeFits (planOf modules links lower higher near far) u (nodeIn cells (u * 9))) ≡ every v (λ u. nodeFits (planOf modules links lower higher near far) u (nodeIn cells (u * 9))))
+    → every modules (λ u. nodeFits (planOf modules links lower higher near far) u (nodeIn cells u)) ≡ every v (λ u. nodeFits (planOf modules links lower higher near far) u (nodeIn cells u)))
 
 abbrev μ-loop : tie.MeasureT-loop
 μ-loop modules links lower higher ends cells v₀ v = v

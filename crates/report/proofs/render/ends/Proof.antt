@@ -22,17 +22,11 @@ loop-holds : tie.Need-loop-holds Inv-loop μ-loop
 loop-holds c =
     (omega arith, capped _ _ _ (c .at-most .ensures), refl, sym (ap (put _) (ends-none _) ∙ put-none _))
 
-mul-end : tie.Need-mul-end Inv-loop μ-loop
-mul-end c = search needs
+cast-load : tie.Need-cast-load Inv-loop μ-loop
+cast-load c = search needs
 
-add-end : tie.Need-add-end Inv-loop μ-loop
-add-end c = search needs
-
-mul-end-2 : tie.Need-mul-end-2 Inv-loop μ-loop
-mul-end-2 c = search needs
-
-array-read-end : tie.Need-array-read-end Inv-loop μ-loop
-array-read-end c = search needs
+load-requires : tie.Need-load-requires Inv-loop μ-loop
+load-requires c κs = search needs
 
 end-requires : tie.Need-end-requires Inv-loop μ-loop
 end-requires c κs = search needs
@@ -46,12 +40,13 @@ loop-less c = search needs
 loop-again : tie.Need-loop-again Inv-loop μ-loop
 loop-again c =
     let call = c .before .before in
-    let at = call .before .before .before in (
+    let read = call .before .before in
+    let at = read .before .before .before in (
       omega arith,
       at .loop .inv .1,
       search needs,
       put-on _ (endsText _ _) (endText _ _) (at .loop .inv .3) (call .end .ensures)
-          ∙ ap (put _) (ends-turn _ _),
+          ∙ ap (put _) (ends-turn _ _ _ (read .load .ensures)),
     )
 
 same-length : tie.Need-same-length Inv-loop μ-loop
@@ -71,10 +66,8 @@ ends-spec =
     μ-loop
     at-most-requires
     loop-holds
-    mul-end
-    add-end
-    mul-end-2
-    array-read-end
+    cast-load
+    load-requires
     end-requires
     add-v
     loop-less
