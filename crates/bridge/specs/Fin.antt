@@ -7,6 +7,7 @@ use mathlib.Core.List.{List, [], _∷_}
 use lib.ListN.{length, length-append}
 use Rattle.base.specs.Cond.{upd-same}
 use Rattle.message.specs.Msg.{Msg}
+use Rattle.node.specs.declared.Node.{Node}
 use Rattle.node.specs.Work.{Work, Send, start, withNode, setMark, setStatus, setBest, setTest, setCount, setHalted}
 use Rattle.node.specs.Work as W
 use Rattle.node.specs.Rules as N
@@ -15,15 +16,16 @@ use Rattle.protocol.specs.State.{State}
 use Rattle.protocol.specs.Step.{Step, Idle, pop}
 use Rattle.protocol.specs.Run.{sends, Steps, done, then}
 use Rattle.protocol.specs.Inv.{Inv}
-use Rattle.bridge.specs.Real.{Real, real, nodeOf, post, place}
-use Rattle.bridge.specs.Place.{toStatus, toBest, toTest, toCount, toHalted, toMark, toChans, toSend, toPop, toTold, toWoken, place-start, place-status, place-best, place-test, place-count, place-halted, place-mark, place-woken, place-told, place-send, place-copied, place-pop}
+use Rattle.bridge.specs.Real.{Real, real, post, place}
+use Rattle.bridge.specs.Place.{toStatus, toBest, toTest, toCount, toHalted, toMark, toChans, toSend, toPop, toTold, toWoken, place-status, place-best, place-test, place-count, place-halted, place-mark, place-woken, place-told, place-send, place-copied, place-pop}
 
 -- the tables x are r with the response w, as far as it has come, placed at v
 pub record At (r : Real) (v : ℕ) (w : Work) (x : Real) : Type 0 where
   pub is : x ≡ place r v w
 
-pub at-start : (r : Real) (v : ℕ) → At r v (start (nodeOf r v) (r.mark v)) r
-at-start r v = record { is = sym (place-start r v) }
+-- n has v's values in the tables r: a response that has done nothing changes none. (n may have values that no table has.)
+abbrev pub Shows : Real → ℕ → Node → Type 0
+Shows r v n = At r v (start n (r.mark v)) r
 
 module _ {r : Real} {v : ℕ} {w : Work} {x : Real} (a : At r v w x) where
   -- ---- v's values in the tables are those of the response
@@ -51,6 +53,9 @@ module _ {r : Real} {v : ℕ} {w : Work} {x : Real} (a : At r v w x) where
 
   pub fc-is : x.fc v ≡ w .node .count
   fc-is = ap (λ (y : Real). y.fc v) (a.is) ∙ upd-same r.fc v (w .node .count)
+
+  pub halt-is : x.halt v ≡ w .node .halted
+  halt-is = ap (λ (y : Real). y.halt v) (a.is) ∙ upd-same r.halt v (w .node .halted)
 
   pub mark-is : x.mark v ≡ w .mark
   mark-is = ap (λ (y : Real). y.mark v) (a.is) ∙ upd-same r.mark v (w .mark)

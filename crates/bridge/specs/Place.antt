@@ -6,10 +6,10 @@ use mathlib.Core.List.{List, [], _∷_, _++_}
 use Rattle.base.specs.Cond.{upd, upd-elim, upd-same, upd-other, upd2, upd2-elim}
 use Rattle.message.specs.Msg.{Msg}
 use Rattle.node.specs.declared.Node.{Node}
-use Rattle.node.specs.Work.{Work, Send, start, withNode, setMark, setStatus, setBest, setTest, setCount, setHalted}
+use Rattle.node.specs.Work.{Work, Send, withNode, setMark, setStatus, setBest, setTest, setCount, setHalted}
 use Rattle.node.specs.Work as W
 use Rattle.node.specs.Rules as N
-use Rattle.bridge.specs.Real.{Real, nodeOf, post, place}
+use Rattle.bridge.specs.Real.{Real, post, place}
 
 -- ---- assignments to v's values, in the tables
 
@@ -56,7 +56,7 @@ toWoken v n r = toCount v (n .count) (toTest v (n .test) (toTold v n r))
 upd-upd : {A : Type 0} (f : ℕ → A) (v : ℕ) (a b : A) → upd (upd f v a) v b ≡ upd f v b
 upd-upd f v a b = fun-ext (λ w. upd-elim (λ x. x ≡ upd f v b w) (upd f v a) v b w (λ e. sym (ap (upd f v b) (sym e) ∙ upd-same f v b)) (λ n. upd-other f v a w n ∙ sym (upd-other f v b w n)))
 
-upd-own : {A : Type 0} (f : ℕ → A) (v : ℕ) → upd f v (f v) ≡ f
+pub upd-own : {A : Type 0} (f : ℕ → A) (v : ℕ) → upd f v (f v) ≡ f
 upd-own f v = fun-ext (λ w. upd-elim (λ x. x ≡ f w) f v (f v) w (λ e. ap f e) (λ n. refl))
 
 upd-swap : {A : Type 0} (f : ℕ → A) (u v : ℕ) (a b : A) → u ≢ v → upd (upd f v b) u a ≡ upd (upd f u a) v b
@@ -111,42 +111,37 @@ post-else c u v k (x ∷ a) d = post-else (upd2 c v (x .edge) (c v (x .edge) ++ 
 
 -- ---- laws of `place`
 
-module _ (r : Real) (v : ℕ) where
-  -- nothing done
-  pub place-start : place r v (start (nodeOf r v) (r.mark v)) ≡ r
-  place-start = rw (upd-own r.st v, upd-own r.lev v, upd-own r.id v, upd-own r.bw v, upd-own r.be v, upd-own r.te v, upd-own r.ib v, upd-own r.fc v, upd-own r.halt v, upd-own r.mark v, post-nil r.ch v)
+module _ (r : Real) (v : ℕ) (w : Work) where
+  pub place-status : (a : ℕ) → toStatus v a (place r v w) ≡ place r v (withNode (setStatus a (w .node)) w)
+  place-status a = simp upd-upd
 
-  module _ (w : Work) where
-    pub place-status : (a : ℕ) → toStatus v a (place r v w) ≡ place r v (withNode (setStatus a (w .node)) w)
-    place-status a = simp upd-upd
+  pub place-best : (e x : ℕ) → toBest v e x (place r v w) ≡ place r v (withNode (setBest e x (w .node)) w)
+  place-best e x = simp upd-upd
 
-    pub place-best : (e x : ℕ) → toBest v e x (place r v w) ≡ place r v (withNode (setBest e x (w .node)) w)
-    place-best e x = simp upd-upd
+  pub place-test : (a : ℕ) → toTest v a (place r v w) ≡ place r v (withNode (setTest a (w .node)) w)
+  place-test a = simp upd-upd
 
-    pub place-test : (a : ℕ) → toTest v a (place r v w) ≡ place r v (withNode (setTest a (w .node)) w)
-    place-test a = simp upd-upd
+  pub place-count : (a : ℕ) → toCount v a (place r v w) ≡ place r v (withNode (setCount a (w .node)) w)
+  place-count a = simp upd-upd
 
-    pub place-count : (a : ℕ) → toCount v a (place r v w) ≡ place r v (withNode (setCount a (w .node)) w)
-    place-count a = simp upd-upd
+  pub place-halted : (a : ℕ) → toHalted v a (place r v w) ≡ place r v (withNode (setHalted a (w .node)) w)
+  place-halted a = simp upd-upd
 
-    pub place-halted : (a : ℕ) → toHalted v a (place r v w) ≡ place r v (withNode (setHalted a (w .node)) w)
-    place-halted a = simp upd-upd
+  pub place-mark : (k c : ℕ) → toMark v k c (place r v w) ≡ place r v (setMark k c w)
+  place-mark k c = simp row-upd
 
-    pub place-mark : (k c : ℕ) → toMark v k c (place r v w) ≡ place r v (setMark k c w)
-    place-mark k c = simp row-upd
+  pub place-woken : toWoken v (N.woken (w .node)) (place r v w) ≡ place r v (withNode (N.woken (w .node)) w)
+  place-woken = simp upd-upd
 
-    pub place-woken : toWoken v (N.woken (w .node)) (place r v w) ≡ place r v (withNode (N.woken (w .node)) w)
-    place-woken = simp upd-upd
+  pub place-told : (l f x k : ℕ) → toTold v (N.informed l f x k (w .node)) (place r v w) ≡ place r v (withNode (N.informed l f x k (w .node)) w)
+  place-told l f x k = simp upd-upd
 
-    pub place-told : (l f x k : ℕ) → toTold v (N.informed l f x k (w .node)) (place r v w) ≡ place r v (withNode (N.informed l f x k (w .node)) w)
-    place-told l f x k = simp upd-upd
+  pub place-send : (k : ℕ) (m : Msg) → toSend v k m (place r v w) ≡ place r v (W.send k m w)
+  place-send k m = ap (λ c. toChans c (place r v w)) (sym (post-app r.ch v (w .sends) (record { edge = k; msg = m } ∷ []) ∙ post-one (post r.ch v (w .sends)) v k m))
 
-    pub place-send : (k : ℕ) (m : Msg) → toSend v k m (place r v w) ≡ place r v (W.send k m w)
-    place-send k m = ap (λ c. toChans c (place r v w)) (sym (post-app r.ch v (w .sends) (record { edge = k; msg = m } ∷ []) ∙ post-one (post r.ch v (w .sends)) v k m))
+  pub place-copied : (cs : List Send) → toChans (post (post r.ch v (w .sends)) v cs) (place r v w) ≡ place r v (N.copied cs w)
+  place-copied cs = ap (λ c. toChans c (place r v w)) (sym (post-app r.ch v (w .sends) cs))
 
-    pub place-copied : (cs : List Send) → toChans (post (post r.ch v (w .sends)) v cs) (place r v w) ≡ place r v (N.copied cs w)
-    place-copied cs = ap (λ c. toChans c (place r v w)) (sym (post-app r.ch v (w .sends) cs))
-
-    -- another node's channel
-    pub place-pop : (u k : ℕ) (l : List Msg) → u ≢ v → toPop u k l (place r v w) ≡ place (toPop u k l r) v w
-    place-pop u k l d = ap (λ c. toChans c (place r v w)) (post-pop r.ch u v k l (w .sends) d)
+  -- another node's channel
+  pub place-pop : (u k : ℕ) (l : List Msg) → u ≢ v → toPop u k l (place r v w) ≡ place (toPop u k l r) v w
+  place-pop u k l d = ap (λ c. toChans c (place r v w)) (post-pop r.ch u v k l (w .sends) d)

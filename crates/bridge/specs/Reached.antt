@@ -8,13 +8,14 @@ use mathlib.Core.List.{List, _∷_, _++_}
 use lib.ListN.{length}
 use Rattle.base.specs.Ceiling.{ceiling}
 use Rattle.message.specs.Msg.{Msg}
+use Rattle.node.specs.declared.Node.{Node}
 use Rattle.node.specs.Work.{Work}
 use Rattle.node.specs.Rules.{wakes}
 use Rattle.protocol.specs.Prelude.{Plan, Ends, State, Idle, pop}
 use Rattle.invariant.specs.Step.{inv-step}
 use Rattle.invariant.specs.Reach.{Reach, reach-steps, reach-ceiling}
-use Rattle.bridge.specs.Real.{Real, real, nodeOf, ownP, place}
-use Rattle.bridge.specs.Fin.{Fin, Keeps}
+use Rattle.bridge.specs.Real.{Real, real, ownP, place}
+use Rattle.bridge.specs.Fin.{Shows, Fin, Keeps}
 use Rattle.bridge.specs.Bridge.{response, Waits, wakes-bridge, respond-bridge}
 
 -- every small step keeps the invariant
@@ -40,12 +41,12 @@ after-fits a = reach-ceiling a.reach
 
 module _ {p : Plan} {s : State} {n : ℕ} (h : Reach p s n) (idle : Idle s) where
   -- a wake step
-  pub wake-after : {v : ℕ} → v < p.N → s.st v ≡ 0 → After p (real s) v 0 n (wakes (ownP p v) (nodeOf (real s) v) (s.mark v))
-  wake-after {v} lt z = ends-at h (wakes-bridge p s v idle lt z)
+  pub wake-after : {x : Node} {v : ℕ} → Shows (real s) v x → v < p.N → s.st v ≡ 0 → After p (real s) v 0 n (wakes (ownP p v) x (s.mark v))
+  wake-after {x} {v} shows lt z = ends-at h (wakes-bridge p s x v shows idle lt z)
 
   -- a service of the first message of a channel: it is taken, or put back to any later place
-  pub respond-after : {u v k : ℕ} {m : Msg} {rest : List Msg} → Ends p k u v → s.ch u k ≡ m ∷ rest
-      → After p (real (pop s u k rest)) v 0 n (response p s v k m)
-      ⊎ (Waits p s u v k m rest × ((a b : List Msg) → rest ≡ a ++ b → After p (real (pop s u k (a ++ (m ∷ b)))) v 1 n (response p s v k m)))
-  respond-after ends q =
-      ⊎-elim (λ t. inl (ends-at h (t .fin))) (λ t. inr (t, λ a b e. ends-at h (t .fin a b e))) (respond-bridge (keeps p) h.inv ends q idle)
+  pub respond-after : {x : Node} {u v k : ℕ} {m : Msg} {rest : List Msg} → Shows (real s) v x → Ends p k u v → s.ch u k ≡ m ∷ rest
+      → After p (real (pop s u k rest)) v 0 n (response p s x v k m)
+      ⊎ (Waits p s x u v k m rest × ((a b : List Msg) → rest ≡ a ++ b → After p (real (pop s u k (a ++ (m ∷ b)))) v 1 n (response p s x v k m)))
+  respond-after shows ends q =
+      ⊎-elim (λ t. inl (ends-at h (t .fin))) (λ t. inr (t, λ a b e. ends-at h (t .fin a b e))) (respond-bridge (keeps p) h.inv shows ends q idle)

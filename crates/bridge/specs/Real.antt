@@ -5,12 +5,11 @@ use mathlib.Core.List.{List, [], _∷_, _++_}
 use lib.Dec.{eqb, ltb}
 use Rattle.base.specs.Cond.{upd, upd2}
 use Rattle.message.specs.Msg.{Msg}
-use Rattle.node.specs.declared.Node.{Node}
 use Rattle.node.specs.Work.{Own, Work, Send}
 use Rattle.protocol.specs.Plan.{Plan}
 use Rattle.protocol.specs.State.{State}
 
--- one table for each of document 01's values of a module, the marks, and the channels
+-- one table for each of a module's values that the protocol knows, the marks, and the channels
 pub record Real : Type 0 where
   pub st : ℕ → ℕ
   pub lev : ℕ → ℕ
@@ -26,11 +25,6 @@ pub record Real : Type 0 where
 
 abbrev pub real : State → Real
 real s = record { st = s.st; lev = s.lev; id = s.id; bw = s.bw; be = s.be; te = s.te; ib = s.ib; fc = s.fc; halt = s.halt; mark = s.mark; ch = s.ch }
-
--- module v's nine values
-abbrev pub nodeOf : Real → ℕ → Node
-nodeOf r v =
-    record { status = r.st v; level = r.lev v; identity = r.id v; weight = r.bw v; best = r.be v; test = r.te v; branch = r.ib v; count = r.fc v; halted = r.halt v }
 
 -- v's edges as its rules see them
 abbrev pub ownP : Plan → ℕ → Own

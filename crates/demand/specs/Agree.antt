@@ -9,15 +9,15 @@ use Rattle.graph.specs.Graph.{up, stop}
 use Rattle.plan.specs.declared.Plan.{Plan}
 use Rattle.plan.specs.Links.{low, high}
 use Rattle.plan.specs.Accepted.{Accepted}
-use Rattle.node.specs.declared.Node.{Node}
 use Rattle.node.specs.Work.{BRANCH, REJECTED}
 use Rattle.field.specs.State.{State, nodeAt, markAt}
 use Rattle.calls.specs.Demand.{TreeLink, BothSay, Core, Agreed}
 use Rattle.roundlaws.specs.Awake.{Awake}
 use Rattle.protocol.specs.Plan.{Ends}
 use Rattle.stuck.specs.Parts.{SamePart, PartCore, PartFinished}
+use Rattle.bridge.specs.Fin.{st-is, halt-is}
 use Rattle.demand_view.specs.Net.{net}
-use Rattle.demand.specs.Good.{Good, node-is, mark-is}
+use Rattle.demand.specs.Good.{Good, node-shown, mark-is}
 use Rattle.demand.specs.Rest.{at-rest}
 
 module _ (p : Plan) (a : Accepted p) (s : State) (g : Good p a s) where
@@ -25,7 +25,7 @@ module _ (p : Plan) (a : Accepted p) (s : State) (g : Good p a s) where
   mark-of v k = ap (λ f. f k) (mark-is p a s g v)
 
   halt-of : (v : ℕ) → v < p .modules → g.at.halt v ≡ nodeAt s v .halted
-  halt-of v l = ap (λ (n : Node). n .halted) (node-is p a s g v l)
+  halt-of v l = halt-is (node-shown p a s g v l)
 
   -- EVERY BRANCH IS A TREE LINK (M5)
   pub branch-tree : (v k : ℕ) → markAt p s v k ≡ BRANCH → TreeLink p k
@@ -37,7 +37,7 @@ module _ (p : Plan) (a : Accepted p) (s : State) (g : Good p a s) where
   -- at rest, with module w awake: its part is finished
   module _ (w : ℕ) (k : Awake p s w) (z : s .words ≡ []) where
     pub part-finished : PartFinished (net p a) (g.at) w
-    part-finished = at-rest p a s g z .awake w w stop (λ e. k .awake (sym (ap (λ (n : Node). n .status) (node-is p a s g w (k .within))) ∙ e))
+    part-finished = at-rest p a s g z .awake w w stop (λ e. k .awake (sym (st-is (node-shown p a s g w (k .within))) ∙ e))
 
     -- the plan is one part: the only use of that
     all : (v : ℕ) → v < p .modules → SamePart (net p a) w v

@@ -7,7 +7,6 @@ use lib.ListN.{length, replicate}
 use Rattle.base.specs.Cond.{by-eq}
 use Rattle.plan.specs.declared.Plan.{Plan}
 use Rattle.plan.specs.Accepted.{Accepted}
-use Rattle.node.specs.declared.Node.{Node}
 use Rattle.node.specs.Work.{Own, Work}
 use Rattle.field.specs.Edges.{isOwn, ownOf}
 use Rattle.field.specs.State.{State, nodeAt, markAt}
@@ -15,11 +14,11 @@ use Rattle.field.specs.Held.{stateOf, fresh}
 use Rattle.protocol.specs.State as protocol
 use Rattle.protocol.specs.Step.{Idle}
 use Rattle.invariant.specs.Reach.{Reach, reach-setup}
-use Rattle.bridge.specs.Real.{Real, real, nodeOf, ownP, place}
-use Rattle.bridge.specs.Fin.{mark-at}
+use Rattle.bridge.specs.Real.{Real, real, ownP, place}
+use Rattle.bridge.specs.Fin.{Shows, mark-at}
 use Rattle.bridge.specs.Reached.{After}
 use Rattle.demand_view.specs.Net.{net, own-same, ends-own}
-use Rattle.demand_view.specs.View.{view, nodes-in}
+use Rattle.demand_view.specs.View.{nodes, marksOf, chans, tables-show, view, nodes-in}
 use Rattle.demand_view.specs.Start.{view-start}
 
 pub record Good (p : Plan) (a : Accepted p) (s : State) : Type 0 where
@@ -36,16 +35,17 @@ module _ (p : Plan) (a : Accepted p) where
 
   module _ (s : State) (g : Good p a s) where
     -- the values of a module, the marks and the channels, read from the protocol's state
-    pub node-is : (v : ℕ) → v < p .modules → nodeOf (real g.at) v ≡ nodeAt s v
-    node-is v l = ap (λ (r : Real). nodeOf r v) (g.is) ∙ nodes-in p (s .cells) v l
+    pub node-shown : (v : ℕ) → v < p .modules → Shows (real g.at) v (nodeAt s v)
+    node-shown v l =
+        subst (λ r. Shows r v (nodeAt s v)) (sym g.is)
+        (subst (Shows (view p s) v) (nodes-in p (s .cells) v l) (tables-show (nodes p (s .cells)) (marksOf p (s .marks)) (chans p (s .words)) v))
 
     pub mark-is : (v : ℕ) → g.at.mark v ≡ markAt p s v
     mark-is v = ap (λ (r : Real). r.mark v) (g.is)
 
     -- a rule of one node, applied there, is applied here
-    pub rule-is : (v : ℕ) → v < p .modules → (f : Own → Node → (ℕ → ℕ) → Work)
-        → f (ownP (net p a) v) (nodeOf (real g.at) v) (g.at.mark v) ≡ f (ownOf p v) (nodeAt s v) (markAt p s v)
-    rule-is v l f = ap (λ o. f o (nodeOf (real g.at) v) (g.at.mark v)) (sym (own-same p a v)) ∙ ap₂ (f (ownOf p v)) (node-is v l) (mark-is v)
+    pub rule-is : (v : ℕ) (f : Own → (ℕ → ℕ) → Work) → f (ownP (net p a) v) (g.at.mark v) ≡ f (ownOf p v) (markAt p s v)
+    rule-is v f = ap₂ f (sym (own-same p a v)) (mark-is v)
 
     -- the protocol goes on to tables r with the response w placed at v
     module _ {v c : ℕ} {r : Real} {w : Work} (f : After (net p a) r v c (s .sent) w) where

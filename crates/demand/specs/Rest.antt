@@ -11,7 +11,6 @@ use Rattle.message.specs.Msg.{Msg}
 use Rattle.word.specs.Word.{linkIn, handedIn}
 use Rattle.plan.specs.declared.Plan.{Plan}
 use Rattle.plan.specs.Accepted.{Accepted}
-use Rattle.node.specs.declared.Node.{Node}
 use Rattle.node.specs.Work.{Work}
 use Rattle.node.specs.Rules.{respond}
 use Rattle.field.specs.Edges.{ownOf, over, linkOf, from, dest, limitOf}
@@ -29,10 +28,11 @@ use Rattle.protocol.specs.Chan.{In, first, in-nil, in-cons, in-app, in-right}
 use Rattle.protocol.specs.Step as protocol
 use Rattle.stuck.specs.Parts.{AllFinished, stuck-finished, rest-finished}
 use Rattle.bridge.specs.Real.{Real, ownP}
+use Rattle.bridge.specs.Fin.{st-is}
 use Rattle.demand_view.specs.Net.{net, ends-own, ends-of, dest-is}
 use Rattle.demand_view.specs.Chans.{chans-own}
 use Rattle.demand_view.specs.Start.{chans-none}
-use Rattle.demand.specs.Good.{Good, node-is, rule-is}
+use Rattle.demand.specs.Good.{Good, node-shown, rule-is}
 use Rattle.demand.specs.Back.{back-blocked}
 
 -- ---- words and channels
@@ -90,11 +90,11 @@ module _ (p : Plan) (a : Accepted p) (s : State) (g : Good p a s) where
       let l = end-lt (net p a) (flip e) in
       let dv : dest p (linkIn x) ≡ v = ap (dest p) q ∙ dest-is p a e in
       let kx : linkOf (linkIn x) ≡ k = ap linkOf q ∙ link-over p u k in
-      let st : g.at.st v ≡ nodeAt s v .status = ap (λ (n : Node). n .status) (node-is p a s g v l) in
+      let st : g.at.st v ≡ nodeAt s v .status = st-is (node-shown p a s g v l) in
       let awake : g.at.st v ≢ 0 = λ z. subst (λ y. nodeAt s y .status ≢ 0) dv (b .awake) (sym st ∙ z) in (
         awake,
-        back-blocked (ownP (net p a) v) (limitOf p) (g.at) v k awake (msgIn x)
-            (ap (λ (w : Work). w .answer) (rule-is p a s g v l (λ o n m. respond o (limitOf p) (msgIn x) k n m)) ∙ ap₂ (λ y j. respond (ownOf p y) (limitOf p) (msgIn x) j (nodeAt s y) (markAt p s y) .answer) (sym dv) (sym kx) ∙ b .back),
+        back-blocked (ownP (net p a) v) (limitOf p) (g.at) (node-shown p a s g v l) k awake (msgIn x)
+            (ap (λ (w : Work). w .answer) (rule-is p a s g v (λ o m. respond o (limitOf p) (msgIn x) k (nodeAt s v) m)) ∙ ap₂ (λ y j. respond (ownOf p y) (limitOf p) (msgIn x) j (nodeAt s y) (markAt p s y) .answer) (sym dv) (sym kx) ∙ b .back),
       )
 
   -- NOTHING WAITS where every waiting message is blocked

@@ -16,7 +16,6 @@ use Rattle.message.specs.Msg.{Msg}
 use Rattle.word.specs.Word.{linkIn, handOver}
 use Rattle.plan.specs.declared.Plan.{Plan}
 use Rattle.plan.specs.Accepted.{Accepted}
-use Rattle.node.specs.declared.Node.{Node}
 use Rattle.node.specs.Work.{Work, ASLEEP, BACK, REFUSED}
 use Rattle.node.specs.Rules.{respond, wakes}
 use Rattle.field.specs.Edges.{ownOf, linkOf, from, limitOf, ceilingOf}
@@ -30,6 +29,7 @@ use Rattle.fieldlaws.specs.Keeps.{Sound, wake-ok, serve-ok}
 use Rattle.protocol.specs.Plan.{Ends}
 use Rattle.bridge.specs.Real.{Real, real}
 use Rattle.bridge.specs.Place.{toPop}
+use Rattle.bridge.specs.Fin.{st-is}
 use Rattle.bridge.specs.Bridge.{response}
 use Rattle.bridge.specs.Reached as R
 use Rattle.bridge.specs.Reached.{after-fits, wake-after, respond-after}
@@ -37,7 +37,7 @@ use Rattle.demand_view.specs.Net.{net, ends-of}
 use Rattle.demand_view.specs.View.{view, tables, nodes, marksOf, chans}
 use Rattle.demand_view.specs.Chans.{chans-hand, chans-head, ahead, behind}
 use Rattle.demand_view.specs.Placed.{view-woken, view-taken, view-back, rest-cut}
-use Rattle.demand.specs.Good.{Good, node-is, rule-is, bare, good-after}
+use Rattle.demand.specs.Good.{Good, node-shown, rule-is, bare, good-after}
 
 -- what a step has to leave
 pub record Fine (p : Plan) (a : Accepted p) (r : After State) : Type 0 where
@@ -66,8 +66,8 @@ module _ (p : Plan) (a : Accepted p) (s : State) (i : Sound p s) (g : Good p a s
       let w = wakeWork p v s in
       let f : R.After (net p a) (view p s) v 0 (s .sent) w =
       subst (λ r. R.After (net p a) r v 0 (s .sent) w) (g.is)
-      (subst (R.After (net p a) (real g.at) v 0 (s .sent)) (rule-is p a s g v l wakes)
-      (wake-after (g.reach) (g.idle) l (ap (λ (n : Node). n .status) (node-is p a s g v l) ∙ z))) in
+      (subst (R.After (net p a) (real g.at) v 0 (s .sent)) (rule-is p a s g v (λ o m. wakes o (nodeAt s v) m))
+      (wake-after (g.reach) (g.idle) (node-shown p a s g v l) l (st-is (node-shown p a s g v l) ∙ z))) in
       settled v w (s .words) [] (λ e. omega (arith, f.answer)) (after-fits f)
       (good-after p a s g f (placed p v w s (s .words) []) refl (view-woken p a v w (wake-ok p a s i v l) (bare p a s g f) l s (i .sized)))
 
@@ -122,11 +122,11 @@ module _ (p : Plan) (a : Accepted p) (s : State) (i : Sound p s) (g : Good p a s
     ok : WorkOk (ownOf p v) (limitOf p) w
     ok = serve-ok p a s i v x l (All-here (first-out o) (i .fits .words)) (first-passes o)
 
-    same : response (net p a) (g.at) v k (msgIn x) ≡ w
-    same = rule-is p a s g v l (λ y n m. respond y (limitOf p) (msgIn x) k n m)
+    same : response (net p a) (g.at) (nodeAt s v) v k (msgIn x) ≡ w
+    same = rule-is p a s g v (λ y m. respond y (limitOf p) (msgIn x) k (nodeAt s v) m)
 
     -- the bridge's steps, told of the field
-    told : (c : ℕ) (t : List Msg) → R.After (net p a) (toPop u k t (real g.at)) v c (s .sent) (response (net p a) (g.at) v k (msgIn x))
+    told : (c : ℕ) (t : List Msg) → R.After (net p a) (toPop u k t (real g.at)) v c (s .sent) (response (net p a) (g.at) (nodeAt s v) v k (msgIn x))
         → R.After (net p a) (toPop u k t (view p s)) v c (s .sent) w
     told c t f = subst (λ y. R.After (net p a) (toPop u k t y) v c (s .sent) w) (g.is) (subst (R.After (net p a) (toPop u k t (real g.at)) v c (s .sent)) same f)
 
@@ -155,7 +155,7 @@ module _ (p : Plan) (a : Accepted p) (s : State) (i : Sound p s) (g : Good p a s
     served = ⊎-elim
         (λ f. consumed (told 0 (chans p r u k) f))
         (λ t. put-back (told 1 _ (t .1 (ahead p v x r (w .sends)) (behind p v x r (w .sends)) (rest-cut p a v w ok x (s .words) r o fits))))
-        (respond-after (g.reach) (g.idle) ends head)
+        (respond-after (g.reach) (g.idle) (node-shown p a s g v l) ends head)
 
   serve-fine : (v : ℕ) → Fine p a (serve p v s)
   unfolding serve

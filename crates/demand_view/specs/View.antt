@@ -11,14 +11,16 @@ use Rattle.base.specs.Cond.{bool-cases, upd, upd-elim, upd-same, upd-other}
 use Rattle.message.specs.Msg.{Msg}
 use Rattle.plan.specs.declared.Plan.{Plan}
 use Rattle.node.specs.declared.Node.{Node}
-use Rattle.node.specs.Work.{Work, setup}
+use Rattle.node.specs.Work.{Work, start, setup}
 use Rattle.search.specs.Own as O
 use Rattle.search.specs.Laws.{mark-not}
 use Rattle.field.specs.Edges.{isOwn, over}
 use Rattle.field.specs.State.{State, WIDTH, nodeIn, putNode, putMarks}
 use Rattle.fieldlaws.specs.Chan.{chan}
 use Rattle.fieldlaws.specs.Places.{node-same, node-other, mark-same, mark-other}
-use Rattle.bridge.specs.Real.{Real, nodeOf, post, place}
+use Rattle.bridge.specs.Real.{Real, post, place}
+use Rattle.bridge.specs.Place.{upd-own, post-nil}
+use Rattle.bridge.specs.Fin.{Shows}
 
 -- the modules: those below N, and as at setup beyond
 unfoldable pub nodes : Plan → List ℕ → ℕ → Node
@@ -60,9 +62,6 @@ upd-map g f v a = fun-ext (λ u. upd-elim (λ x. g x ≡ upd (λ w. g (f w)) v (
     (λ e. sym (ap (upd (λ w. g (f w)) v (g a)) (sym e) ∙ upd-same (λ w. g (f w)) v (g a)))
     (λ n. sym (upd-other (λ w. g (f w)) v (g a) u n)))
 
-pub node-of : (f : ℕ → Node) (m : ℕ → ℕ → ℕ) (c : ℕ → ℕ → List Msg) (v : ℕ) → nodeOf (tables f m c) v ≡ f v
-node-of f m c v = refl
-
 -- a response is placed in each of the three
 pub place-tables : (f : ℕ → Node) (m : ℕ → ℕ → ℕ) (c : ℕ → ℕ → List Msg) (v : ℕ) (w : Work)
     → place (tables f m c) v w ≡ tables (upd f v (w .node)) (upd m v (w .mark)) (post c v (w .sends))
@@ -77,6 +76,9 @@ place-tables f m c v w = rw (
   upd-map (λ (n : Node). n .count) f v (w .node),
   upd-map (λ (n : Node). n .halted) f v (w .node),
 )
+
+pub tables-show : (f : ℕ → Node) (m : ℕ → ℕ → ℕ) (c : ℕ → ℕ → List Msg) (v : ℕ) → Shows (tables f m c) v (f v)
+tables-show f m c v = record { is = sym (place-tables f m c v (start (f v) (m v)) ∙ rw (upd-own f v, upd-own m v, post-nil c v) refl) }
 
 module _ (p : Plan) where
   -- ---- modules
