@@ -1,5 +1,7 @@
 -- A field and the words lent with it: what the host holds. Setup, and a step given alone.
-use Prim.Native.Nat.{ℕ, zero, suc, _-_}
+use Prim.Native.Nat.{ℕ, zero, suc, _-_, _*_}
+use native.Mathlib.Omega.{arith}
+use mathlib.Core.Path.{_≡_, refl}
 use mathlib.Core.Bool.{Bool, cond, not, _&&_}
 use mathlib.Core.List.{List, [], _++_}
 use lib.ListN.{length, replicate}
@@ -10,7 +12,7 @@ use Rattle.plan.specs.Refusal.{planRefusal}
 use Rattle.node.specs.Work.{setup}
 use Rattle.field.specs.declared.Field.{Field}
 use Rattle.field.specs.Edges.{ceilingOf}
-use Rattle.field.specs.State.{State, values}
+use Rattle.field.specs.State.{State, WIDTH, values}
 use Rattle.field.specs.Step.{step}
 use Rattle.field.specs.Valid.{waitingIn, zeroAfter, enough, fits}
 
@@ -43,6 +45,11 @@ valid h =
 unfoldable pub freshCells : ℕ → List ℕ
 freshCells zero = []
 freshCells (suc n) = values setup ++ freshCells n
+
+pub fresh-length : (n : ℕ) → length (freshCells n) ≡ n * WIDTH
+unfolding freshCells
+fresh-length zero = refl
+fresh-length (suc n) = omega (arith, fresh-length n)
 
 abbrev pub fresh : Plan → Field
 fresh p = record { plan = p; cells = freshCells 192; marks = replicate 1200 0; sent = 0 }

@@ -21,7 +21,7 @@ use Rattle.node.specs.Values.{node-by}
 use Rattle.field.specs.State.{State, WIDTH, values, cellOf, nodeIn}
 use Rattle.field.specs.Step.{step}
 use Rattle.field.specs.Valid.{zeroAfter}
-use Rattle.field.specs.Held.{Held, stateOf, valid, freshCells, fresh, setUp}
+use Rattle.field.specs.Held.{Held, stateOf, valid, freshCells, fresh-length, fresh, setUp}
 use Rattle.calls.specs.Call.{Call, does, after}
 use Rattle.calls.specs.Trail.{Taken, stepsOf, trail, ifTaken, consumed}
 use Rattle.fieldlaws.specs.Lists.{NodeOk, ok-fresh}
@@ -34,11 +34,6 @@ use Rattle.fieldlaws.specs.Laid.{waiting-zeros, zeros-all, Live, live-pl
 -- ---- setup
 
 -- the cells of n modules: each is as at setup
-fresh-length : (n : ℕ) → length (freshCells n) ≡ n * WIDTH
-unfolding freshCells
-fresh-length zero = refl
-fresh-length (suc n) = omega (arith, fresh-length n)
-
 fresh-at : (n v : ℕ) → v < n → (j : ℕ) → j < WIDTH → getD (freshCells n) (cellOf v j) 0 ≡ getD (values setup) j 0
 unfolding freshCells
 fresh-at zero v l j h = absurd (not-suc-le-zero l)

@@ -8,13 +8,8 @@ use lib.ListN.{length, drop, replicate, length-append, length-replicate}
 use lib.Seq.{sets-eq, take-at, drop-append-add}
 use Rattle.node.specs.Work.{setup}
 use Rattle.field.specs.State.{WIDTH, values, putNode}
-use Rattle.field.specs.Held.{freshCells}
+use Rattle.field.specs.Held.{freshCells, fresh-length}
 use Rattle.store.proofs.Laid.{drop-zeros}
-
-length-fresh : (n : ℕ) → length (freshCells n) ≡ n * WIDTH
-unfolding freshCells
-length-fresh zero = refl
-length-fresh (suc n) = omega (arith, length-fresh n)
 
 behind : (n : ℕ) → freshCells n ++ values setup ≡ freshCells (suc n)
 unfolding freshCells
@@ -34,7 +29,7 @@ laid-none m = let e : m ≡ m - 0 * WIDTH = omega arith in ap (λ (j : ℕ). rep
 
 pub laid-more : (m v : ℕ) → v * WIDTH + WIDTH ≤ m → putNode (laid m v) v setup ≡ laid m (v + 1)
 laid-more m v h =
-    let l = length-fresh v in
+    let l = fresh-length v in
     let r : List ℕ = replicate (m - v * WIDTH) 0 in
     let k : v * WIDTH + WIDTH ≡ length (freshCells v) + WIDTH = omega arith in
     let z : m - v * WIDTH - WIDTH ≡ m - (v + 1) * WIDTH = omega arith in
