@@ -5,8 +5,8 @@
  *
  * To build, at the top of the repository:
  *
- *     rt staticlib console
- *     cc -std=c99 -O2 -Iinclude examples/check.c target/staticlib/libconsole.a -o check */
+ *     rt staticlib host_console
+ *     cc -std=c99 -O2 -Iinclude examples/check.c target/staticlib/libhost_console.a -o check */
 #include "muruapy.h"
 
 #include <stdio.h>

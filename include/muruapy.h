@@ -1,6 +1,6 @@
 /* Checks of Muruapy's plans and radio frames, for C.
  *
- * Link with libconsole.a, which `rt staticlib console` writes to target/staticlib. It needs no other library, keeps no
+ * Link with libhost_console.a, which `rt staticlib host_console` writes to target/staticlib. It needs no other library, keeps no
  * state and allocates nothing. Each function is proved to answer the number that document 01 gives for the bytes. */
 #ifndef MURUAPY_H
 #define MURUAPY_H

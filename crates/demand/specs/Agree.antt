@@ -11,11 +11,11 @@ use Rattle.plan.specs.Links.{low, high}
 use Rattle.plan.specs.Accepted.{Accepted}
 use Rattle.node.specs.Work.{BRANCH, REJECTED}
 use Rattle.field.specs.State.{State, nodeAt, markAt}
-use Rattle.calls.specs.Demand.{TreeLink, BothSay, Core, Agreed}
-use Rattle.roundlaws.specs.Awake.{Awake}
+use Rattle.field_calls.specs.Demand.{TreeLink, BothSay, Core, Agreed}
+use Rattle.field_roundlaws.specs.Awake.{Awake}
 use Rattle.protocol.specs.Plan.{Ends}
-use Rattle.stuck.specs.Parts.{SamePart, PartCore, PartFinished}
-use Rattle.bridge.specs.Fin.{st-is, halt-is}
+use Rattle.protocol_stuck.specs.Parts.{SamePart, PartCore, PartFinished}
+use Rattle.protocol_bridge.specs.Fin.{st-is, halt-is}
 use Rattle.demand_view.specs.Net.{net}
 use Rattle.demand.specs.Good.{Good, node-shown, mark-is}
 use Rattle.demand.specs.Rest.{at-rest}

@@ -3,15 +3,15 @@ use Prim.Native.Nat.{ℕ}
 use native.Mathlib.Omega.{arith}
 use mathlib.Core.Path.{_≡_, _∙_}
 use mathlib.Core.Logic.{_≢_, ⊎-elim}
-use Rattle.message.specs.Msg.{Msg, connect, initiate, test, accept, reject, report, change}
+use Rattle.format_message.specs.Msg.{Msg, connect, initiate, test, accept, reject, report, change}
 use Rattle.node.specs.declared.Node.{Node}
 use Rattle.node.specs.Work.{Own, Work, BACK, start}
 use Rattle.node.specs.Rules.{respond}
-use Rattle.roundlaws.specs.Steady.{Waits, ends-awake}
+use Rattle.field_roundlaws.specs.Steady.{Waits, ends-awake}
 use Rattle.protocol.specs.State.{State}
 use Rattle.protocol.specs.Step.{Blocked}
-use Rattle.bridge.specs.Real.{real}
-use Rattle.bridge.specs.Fin.{Shows, st-is, lev-is, ib-is}
+use Rattle.protocol_bridge.specs.Real.{real}
+use Rattle.protocol_bridge.specs.Fin.{Shows, st-is, lev-is, ib-is}
 
 module _ (o : Own) (limit : ℕ) (s : State) {n : Node} {v : ℕ} (shows : Shows (real s) v n) (j : ℕ) (up : s.st v ≢ 0) where
   abbrev w : Work

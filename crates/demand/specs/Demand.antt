@@ -1,8 +1,8 @@
 -- DEMAND 3: proved, with no premise.
 use Rattle.plan.specs.declared.Plan.{Plan}
 use Rattle.plan.specs.Accepted.{Accepted}
-use Rattle.calls.specs.Demand.{Demand3}
-use Rattle.roundlaws.specs.Reduce.{Protocol, demand3-from}
+use Rattle.field_calls.specs.Demand.{Demand3}
+use Rattle.field_roundlaws.specs.Reduce.{Protocol, demand3-from}
 use Rattle.demand.specs.Good.{Good, good-start}
 use Rattle.demand.specs.Steps.{step-fine}
 use Rattle.demand.specs.Rest.{stuck-none}

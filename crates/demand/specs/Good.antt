@@ -13,10 +13,10 @@ use Rattle.field.specs.State.{State, nodeAt, markAt}
 use Rattle.field.specs.Held.{stateOf, fresh}
 use Rattle.protocol.specs.State as protocol
 use Rattle.protocol.specs.Step.{Idle}
-use Rattle.invariant.specs.Reach.{Reach, reach-setup}
-use Rattle.bridge.specs.Real.{Real, real, ownP, place}
-use Rattle.bridge.specs.Fin.{Shows, mark-at}
-use Rattle.bridge.specs.Reached.{After}
+use Rattle.protocol_invariant.specs.Reach.{Reach, reach-setup}
+use Rattle.protocol_bridge.specs.Real.{Real, real, ownP, place}
+use Rattle.protocol_bridge.specs.Fin.{Shows, mark-at}
+use Rattle.protocol_bridge.specs.Reached.{After}
 use Rattle.demand_view.specs.Net.{net, own-same, ends-own}
 use Rattle.demand_view.specs.View.{nodes, marksOf, chans, tables-show, view, nodes-in}
 use Rattle.demand_view.specs.Start.{view-start}

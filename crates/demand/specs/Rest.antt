@@ -7,8 +7,8 @@ use mathlib.Core.List.{List, [], _∷_, _++_}
 use Rattle.base.specs.Cond.{bool-cases, eqb-same}
 use Rattle.base.specs.Pool.{All, nil, con}
 use Rattle.base.specs.Keep.{keep, keep-yes, keep-no, keep-nil}
-use Rattle.message.specs.Msg.{Msg}
-use Rattle.word.specs.Word.{linkIn, handedIn}
+use Rattle.format_message.specs.Msg.{Msg}
+use Rattle.format_word.specs.Word.{linkIn, handedIn}
 use Rattle.plan.specs.declared.Plan.{Plan}
 use Rattle.plan.specs.Accepted.{Accepted}
 use Rattle.node.specs.Work.{Work}
@@ -17,18 +17,18 @@ use Rattle.field.specs.Edges.{ownOf, over, linkOf, from, dest, limitOf}
 use Rattle.field.specs.State.{State, nodeAt, markAt, msgIn}
 use Rattle.field.specs.Step.{inAir}
 use Rattle.field.specs.Valid.{wordFits}
-use Rattle.fieldlaws.specs.Chan.{isUp, msgs, chan, up-parts, air-parts}
-use Rattle.fieldlaws.specs.Places.{link-over, over-from}
-use Rattle.fieldlaws.specs.Fits.{word-link}
-use Rattle.fieldlaws.specs.Keeps.{Sound}
-use Rattle.roundlaws.specs.Progress.{Blocked}
+use Rattle.field_laws.specs.Chan.{isUp, msgs, chan, up-parts, air-parts}
+use Rattle.field_laws.specs.Places.{link-over, over-from}
+use Rattle.field_laws.specs.Fits.{word-link}
+use Rattle.field_laws.specs.Keeps.{Sound}
+use Rattle.field_roundlaws.specs.Progress.{Blocked}
 use Rattle.graph.specs.Ways.{flip}
 use Rattle.protocol.specs.Plan.{Ends, end-lt}
 use Rattle.protocol.specs.Chan.{In, first, in-nil, in-cons, in-app, in-right}
 use Rattle.protocol.specs.Step as protocol
-use Rattle.stuck.specs.Parts.{AllFinished, stuck-finished, rest-finished}
-use Rattle.bridge.specs.Real.{Real, ownP}
-use Rattle.bridge.specs.Fin.{st-is}
+use Rattle.protocol_stuck.specs.Parts.{AllFinished, stuck-finished, rest-finished}
+use Rattle.protocol_bridge.specs.Real.{Real, ownP}
+use Rattle.protocol_bridge.specs.Fin.{st-is}
 use Rattle.demand_view.specs.Net.{net, ends-own, ends-of, dest-is}
 use Rattle.demand_view.specs.Chans.{chans-own}
 use Rattle.demand_view.specs.Start.{chans-none}

@@ -12,8 +12,8 @@ use Rattle.base.specs.Cond.{bool-cases, eqb-cases, by-eq, eqb-diff}
 use Rattle.base.specs.Loop.{After, taken, refused}
 use Rattle.base.specs.Pool.{All-here}
 use Rattle.base.specs.Keep.{First, first-out, first-passes, place, place-first}
-use Rattle.message.specs.Msg.{Msg}
-use Rattle.word.specs.Word.{linkIn, handOver}
+use Rattle.format_message.specs.Msg.{Msg}
+use Rattle.format_word.specs.Word.{linkIn, handOver}
 use Rattle.plan.specs.declared.Plan.{Plan}
 use Rattle.plan.specs.Accepted.{Accepted}
 use Rattle.node.specs.Work.{Work, ASLEEP, BACK, REFUSED}
@@ -21,18 +21,18 @@ use Rattle.node.specs.Rules.{respond, wakes}
 use Rattle.field.specs.Edges.{ownOf, linkOf, from, limitOf, ceilingOf}
 use Rattle.field.specs.State.{State, nodeAt, msgIn, placed}
 use Rattle.field.specs.Step.{inAir, inQueue, settle, wakeWork, wake, hand, serveWork, backOf, serve, step}
-use Rattle.fieldlaws.specs.Chan.{queue-parts}
-use Rattle.fieldlaws.specs.Lists.{WorkOk}
-use Rattle.fieldlaws.specs.Fits.{word-link, word-shaped}
-use Rattle.fieldlaws.specs.Cases.{Handed}
-use Rattle.fieldlaws.specs.Keeps.{Sound, wake-ok, serve-ok}
+use Rattle.field_laws.specs.Chan.{queue-parts}
+use Rattle.field_laws.specs.Lists.{WorkOk}
+use Rattle.field_laws.specs.Fits.{word-link, word-shaped}
+use Rattle.field_laws.specs.Cases.{Handed}
+use Rattle.field_laws.specs.Keeps.{Sound, wake-ok, serve-ok}
 use Rattle.protocol.specs.Plan.{Ends}
-use Rattle.bridge.specs.Real.{Real, real}
-use Rattle.bridge.specs.Place.{toPop}
-use Rattle.bridge.specs.Fin.{st-is}
-use Rattle.bridge.specs.Bridge.{response}
-use Rattle.bridge.specs.Reached as R
-use Rattle.bridge.specs.Reached.{after-fits, wake-after, respond-after}
+use Rattle.protocol_bridge.specs.Real.{Real, real}
+use Rattle.protocol_bridge.specs.Place.{toPop}
+use Rattle.protocol_bridge.specs.Fin.{st-is}
+use Rattle.protocol_bridge.specs.Bridge.{response}
+use Rattle.protocol_bridge.specs.Reached as R
+use Rattle.protocol_bridge.specs.Reached.{after-fits, wake-after, respond-after}
 use Rattle.demand_view.specs.Net.{net, ends-of}
 use Rattle.demand_view.specs.View.{view, tables, nodes, marksOf, chans}
 use Rattle.demand_view.specs.Chans.{chans-hand, chans-head, ahead, behind}

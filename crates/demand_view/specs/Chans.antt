@@ -7,19 +7,19 @@ use mathlib.Core.List.{List, [], _∷_, _++_, append-assoc, append-nil}
 use Rattle.base.specs.Cond.{bool-cases, upd2, upd2-elim}
 use Rattle.base.specs.Pool.{All, nil, con}
 use Rattle.base.specs.Keep.{First, first-passes}
-use Rattle.message.specs.Msg.{Msg}
-use Rattle.word.specs.Word.{linkIn, shaped, handOver}
+use Rattle.format_message.specs.Msg.{Msg}
+use Rattle.format_word.specs.Word.{linkIn, shaped, handOver}
 use Rattle.plan.specs.declared.Plan.{Plan}
 use Rattle.plan.specs.Accepted.{Accepted}
 use Rattle.node.specs.Work.{Send}
 use Rattle.field.specs.Edges.{isOwn, over, linkOf, from}
 use Rattle.field.specs.State.{msgIn, posted}
 use Rattle.field.specs.Step.{inAir, inQueue}
-use Rattle.fieldlaws.specs.Chan.{chan, ups, downs, hand-chan, queue-parts, take-own, take-other, back-own, back-other}
-use Rattle.fieldlaws.specs.Sends.{Packs, onto, onto-nil, onto-here, onto-else, post-chan, post-away}
-use Rattle.fieldlaws.specs.Places.{link-over, from-over, from-own, over-from, ends-apart}
-use Rattle.bridge.specs.Real.{post}
-use Rattle.bridge.specs.Place.{post-pop}
+use Rattle.field_laws.specs.Chan.{chan, ups, downs, hand-chan, queue-parts, take-own, take-other, back-own, back-other}
+use Rattle.field_laws.specs.Sends.{Packs, onto, onto-nil, onto-here, onto-else, post-chan, post-away}
+use Rattle.field_laws.specs.Places.{link-over, from-over, from-own, over-from, ends-apart}
+use Rattle.protocol_bridge.specs.Real.{post}
+use Rattle.protocol_bridge.specs.Place.{post-pop}
 use Rattle.demand_view.specs.View.{chans}
 
 module _ (p : Plan) where

@@ -12,12 +12,12 @@ use Rattle.plan.specs.declared.Plan as declared
 use Rattle.plan.specs.Links.{low, high, graphOf}
 use Rattle.plan.specs.Weights.{orderOf}
 use Rattle.plan.specs.Accepted.{Accepted}
-use Rattle.search.specs.Own as O
-use Rattle.search.specs.Laws.{own-lower, own-higher}
+use Rattle.node_edges.specs.Own as O
+use Rattle.node_edges.specs.Laws.{own-lower, own-higher}
 use Rattle.field.specs.Edges.{isOwn, ownOf, over, linkOf, from, dest}
-use Rattle.fieldlaws.specs.Places.{own-below, own-end, from-over, link-over, over-below}
+use Rattle.field_laws.specs.Places.{own-below, own-end, from-over, link-over, over-below}
 use Rattle.protocol.specs.Plan.{Plan, Ends}
-use Rattle.bridge.specs.Real.{ownP}
+use Rattle.protocol_bridge.specs.Real.{ownP}
 
 module _ (p : declared.Plan) (a : Accepted p) where
   abbrev pub net : Plan

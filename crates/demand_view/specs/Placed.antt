@@ -6,20 +6,20 @@ use mathlib.Core.List.{List, [], _∷_, _++_, append-nil}
 use Rattle.base.specs.Cond.{upd}
 use Rattle.base.specs.Pool.{All, All-map}
 use Rattle.base.specs.Keep.{First}
-use Rattle.message.specs.Msg.{Msg}
-use Rattle.word.specs.Word.{linkIn}
+use Rattle.format_message.specs.Msg.{Msg}
+use Rattle.format_word.specs.Word.{linkIn}
 use Rattle.plan.specs.declared.Plan.{Plan}
 use Rattle.plan.specs.Accepted.{Accepted}
 use Rattle.node.specs.Work.{Work}
 use Rattle.field.specs.Edges.{isOwn, ownOf, linkOf, from, limitOf}
 use Rattle.field.specs.State.{State, msgIn, posted, placed}
 use Rattle.field.specs.Step.{inQueue}
-use Rattle.fieldlaws.specs.Lists.{WorkOk}
-use Rattle.fieldlaws.specs.Fits.{sends-pack}
-use Rattle.fieldlaws.specs.Keeps.{Sized}
-use Rattle.fieldlaws.specs.Sends.{Packs}
-use Rattle.bridge.specs.Real.{post, place}
-use Rattle.bridge.specs.Place.{toPop}
+use Rattle.field_laws.specs.Lists.{WorkOk}
+use Rattle.field_laws.specs.Fits.{sends-pack}
+use Rattle.field_laws.specs.Keeps.{Sized}
+use Rattle.field_laws.specs.Sends.{Packs}
+use Rattle.protocol_bridge.specs.Real.{post, place}
+use Rattle.protocol_bridge.specs.Place.{toPop}
 use Rattle.demand_view.specs.View.{chans, tables, view, place-tables, nodes, nodes-put, marksOf, marks-put}
 use Rattle.demand_view.specs.Chans.{chans-post, chans-taken, chans-back, split, ahead, behind}
 

@@ -9,18 +9,18 @@ use Rattle.base.specs.Cond.{ltb-cases, bool-cases}
 use Rattle.plan.specs.declared.Plan.{Plan}
 use Rattle.plan.specs.Accepted.{Accepted}
 use Rattle.node.specs.Work as node
-use Rattle.search.specs.Laws.{mark-own, mark-not}
+use Rattle.node_edges.specs.Laws.{mark-own, mark-not}
 use Rattle.field.specs.Edges.{isOwn, over}
 use Rattle.field.specs.State.{nodeIn}
 use Rattle.field.specs.Held.{stateOf, freshCells, fresh}
 use Rattle.field.specs.Valid.{waitingIn}
 use Rattle.base.specs.Keep.{keep}
-use Rattle.fieldlaws.specs.Chan.{chan}
-use Rattle.fieldlaws.specs.Places.{over-below}
-use Rattle.fieldlaws.specs.Laid.{waiting-zeros}
-use Rattle.fieldlaws.specs.After.{fresh-node}
+use Rattle.field_laws.specs.Chan.{chan}
+use Rattle.field_laws.specs.Places.{over-below}
+use Rattle.field_laws.specs.Laid.{waiting-zeros}
+use Rattle.field_laws.specs.After.{fresh-node}
 use Rattle.protocol.specs.State.{setup}
-use Rattle.bridge.specs.Real.{real}
+use Rattle.protocol_bridge.specs.Real.{real}
 use Rattle.demand_view.specs.View.{nodes, marksOf, chans, tables, view}
 use Rattle.demand_view.specs.Chans.{chans-own, chans-not}
 

@@ -8,19 +8,19 @@ use lib.ListN.{length}
 use lib.Dec.{ltb}
 use borrow.Author.Tests.{lt-ltb}
 use Rattle.base.specs.Cond.{bool-cases, upd, upd-elim, upd-same, upd-other}
-use Rattle.message.specs.Msg.{Msg}
+use Rattle.format_message.specs.Msg.{Msg}
 use Rattle.plan.specs.declared.Plan.{Plan}
 use Rattle.node.specs.declared.Node.{Node}
 use Rattle.node.specs.Work.{Work, start, setup}
-use Rattle.search.specs.Own as O
-use Rattle.search.specs.Laws.{mark-not}
+use Rattle.node_edges.specs.Own as O
+use Rattle.node_edges.specs.Laws.{mark-not}
 use Rattle.field.specs.Edges.{isOwn, over}
 use Rattle.field.specs.State.{State, WIDTH, nodeIn, putNode, putMarks}
-use Rattle.fieldlaws.specs.Chan.{chan}
-use Rattle.fieldlaws.specs.Places.{node-same, node-other, mark-same, mark-other}
-use Rattle.bridge.specs.Real.{Real, post, place}
-use Rattle.bridge.specs.Place.{upd-own, post-nil}
-use Rattle.bridge.specs.Fin.{Shows}
+use Rattle.field_laws.specs.Chan.{chan}
+use Rattle.field_laws.specs.Places.{node-same, node-other, mark-same, mark-other}
+use Rattle.protocol_bridge.specs.Real.{Real, post, place}
+use Rattle.protocol_bridge.specs.Place.{upd-own, post-nil}
+use Rattle.protocol_bridge.specs.Fin.{Shows}
 
 -- the modules: those below N, and as at setup beyond
 unfoldable pub nodes : Plan → List ℕ → ℕ → Node

@@ -6,9 +6,9 @@ use Rattle.base.specs.Log.{log2}
 use Rattle.plan.specs.declared.Plan.{Plan}
 use Rattle.plan.specs.Links.{low, high}
 use Rattle.plan.specs.Ceiling.{ceiling}
-use Rattle.search.specs.Own as O
-use Rattle.search.specs.Own.{endIn}
-pub use Rattle.search.specs.Own.{ownOf}
+use Rattle.node_edges.specs.Own as O
+use Rattle.node_edges.specs.Own.{endIn}
+pub use Rattle.node_edges.specs.Own.{ownOf}
 
 -- `ownOf p v`: the links of module v and their order, as the rules of one node take them.
 

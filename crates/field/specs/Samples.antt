@@ -4,7 +4,7 @@ use mathlib.Core.Path.{_≡_, refl}
 use mathlib.Core.List.{List, [], _∷_, _++_, map}
 use Rattle.base.specs.None.{none}
 use Rattle.base.specs.Loop.{After}
-use Rattle.word.specs.Word.{packed}
+use Rattle.format_word.specs.Word.{packed}
 use Rattle.plan.specs.declared.Plan.{Plan}
 use Rattle.field.specs.Held.{Held, stepAlone}
 use Rattle.base.specs.Cond as base1
@@ -12,13 +12,13 @@ use Rattle.base.specs.Keep as base2
 use Rattle.base.specs.Log as base3
 use Rattle.base.specs.Test as base5
 use Rattle.graph.specs.Decide as graph1
-use Rattle.message.specs.Header as message1
-use Rattle.message.specs.Listed as message2
+use Rattle.format_message.specs.Header as message1
+use Rattle.format_message.specs.Listed as message2
 use Rattle.plan.specs.Refusal as plan1
 use Rattle.plan.specs.Weights as plan2
 use Rattle.node.specs.Rules as node1
 use Rattle.node.specs.Work as node2
-use Rattle.search.specs.Own as search1
+use Rattle.node_edges.specs.Own as search1
 use Rattle.field.specs.State as field1
 use Rattle.field.specs.Step as field2
 use Rattle.field.specs.Valid as field3

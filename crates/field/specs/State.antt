@@ -5,14 +5,14 @@ use mathlib.Core.List.{List, [], _∷_, _++_, map}
 use lib.ListN.{length, getD}
 use lib.Seq.{sets}
 use lib.Dec.{eqb, ltb}
-use Rattle.message.specs.Msg.{Msg}
-use Rattle.message.specs.Header.{headerOf, carriedOf, meant}
-use Rattle.word.specs.Word.{packed, headerIn, carriedIn}
+use Rattle.format_message.specs.Msg.{Msg}
+use Rattle.format_message.specs.Header.{headerOf, carriedOf, meant}
+use Rattle.format_word.specs.Word.{packed, headerIn, carriedIn}
 use Rattle.plan.specs.declared.Plan.{Plan}
 use Rattle.node.specs.declared.Node.{Node}
 use Rattle.node.specs.Work.{Work, Send, nodeBy}
 pub use Rattle.node.specs.Work.{WIDTH, values}
-use Rattle.search.specs.Own.{marksIn}
+use Rattle.node_edges.specs.Own.{marksIn}
 use Rattle.field.specs.Edges.{over, from, linkOf}
 
 pub record State : Type 0 where

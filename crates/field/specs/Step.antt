@@ -6,7 +6,7 @@ use lib.ListN.{length, getD, take, drop}
 use lib.Dec.{eqb, ltb, leb}
 use Rattle.base.specs.Loop.{After, taken, refused}
 pub use Rattle.base.specs.Keep.{place}
-use Rattle.word.specs.Word.{linkIn, handedIn, handOver}
+use Rattle.format_word.specs.Word.{linkIn, handedIn, handOver}
 use Rattle.plan.specs.declared.Plan.{Plan}
 use Rattle.node.specs.Work.{Work, ASLEEP, BACK, REFUSED}
 use Rattle.node.specs.Rules.{respond, wakes}

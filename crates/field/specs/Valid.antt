@@ -8,8 +8,8 @@ use lib.ListN.{length, getD, drop}
 use lib.Dec.{eqb, ltb, leb}
 use Rattle.base.specs.None.{none}
 use Rattle.base.specs.Test.{every}
-use Rattle.message.specs.Header.{levelAt}
-use Rattle.word.specs.Word.{headerIn, carriedIn, linkIn, laidOut}
+use Rattle.format_message.specs.Header.{levelAt}
+use Rattle.format_word.specs.Word.{headerIn, carriedIn, linkIn, laidOut}
 use Rattle.plan.specs.declared.Plan.{Plan}
 use Rattle.node.specs.declared.Node.{Node}
 use Rattle.node.specs.Work.{FOUND, REJECTED, degree}

@@ -8,7 +8,7 @@ use mathlib.Core.Bool.{Bool, true, false, cond, _&&_, false≢true}
 use borrow.Author.Tests.{eq-eqb, ne-eqb}
 use Rattle.base.specs.Cond.{bool-cases, by-eq}
 use Rattle.base.specs.Search.{lt-suc-cases}
-use Rattle.message.specs.Msg.{none}
+use Rattle.format_message.specs.Msg.{none}
 use Rattle.node.specs.Work.{Own, before, earliest}
 
 -- k is an own edge below n for which f holds, and the earliest of these

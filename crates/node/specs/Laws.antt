@@ -5,7 +5,7 @@ use mathlib.Core.Logic.{_≢_}
 use mathlib.Core.Bool.{Bool, true, false, cond, _&&_, and-false}
 use lib.Dec.{eqb, ltb, leb}
 use borrow.Author.Tests.{eq-eqb, ne-eqb, lt-ltb, le-ltb, le-leb, lt-leb}
-use Rattle.message.specs.Msg.{Msg, none, connect, initiate, test, accept, reject, report, change}
+use Rattle.format_message.specs.Msg.{Msg, none, connect, initiate, test, accept, reject, report, change}
 use Rattle.node.specs.declared.Node.{Node}
 use Rattle.node.specs.Work.{Own, Work, ASLEEP, FIND, FOUND, BASIC, BRANCH, before, putBack, refused, send, setMark, withNode, setStatus, setTest, setCount, setHalted, number, branches, degree}
 use Rattle.node.specs.Rules.{woken, wakeOn, wakeup, awake, doReport, testOn, doTest, changeRoot, countUp, joined, absorb, coreEnd, onConnect, told, seek, onInitiate, strike, onTest, better, childReport, coreReport, onReport, unlessAsleep}

@@ -3,7 +3,7 @@ use Prim.Native.Nat.{ℕ, zero, suc, _+_, _-_}
 use mathlib.Core.Bool.{Bool, true, false, cond, _&&_}
 use mathlib.Core.List.{List, [], _∷_, _++_}
 use lib.Dec.{eqb, ltb, leb}
-use Rattle.message.specs.Msg.{Msg, none, connect, initiate, test, accept, reject, report, change}
+use Rattle.format_message.specs.Msg.{Msg, none, connect, initiate, test, accept, reject, report, change}
 use Rattle.node.specs.declared.Node.{Node}
 use Rattle.node.specs.Work.{Own, Work, Send, ASLEEP, FIND, FOUND, BASIC, BRANCH, REJECTED, before, start, putBack, refused, send, setMark, withNode, setStatus, setBest, setTest, setCount, setHalted, earliest, number, onEach, anyEdge, basic, branches, degree}
 

@@ -3,7 +3,7 @@ use Prim.Native.Nat.{ℕ}
 use mathlib.Core.Path.{_≡_, refl}
 use mathlib.Core.List.{List, [], _∷_}
 use Rattle.base.specs.Cond.{upd}
-use Rattle.message.specs.Msg.{Msg, none, connect, initiate, test, accept, reject, report, change}
+use Rattle.format_message.specs.Msg.{Msg, none, connect, initiate, test, accept, reject, report, change}
 use Rattle.node.specs.Work.{before, earliest, number, onEach}
 use Rattle.node.specs.Rules.{wakeOn, awake, doReport, testOn, changeRoot, countUp, absorb, coreEnd, onConnect, seek, onInitiate, onTest, childReport, coreReport, onReport, unlessAsleep, respondTo}
 use Rattle.node.specs.Table.{Row, Outcome, gots, wants}

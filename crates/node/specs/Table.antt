@@ -4,7 +4,7 @@ use mathlib.Core.Bool.{Bool, true, false, cond, _&&_, _||_}
 use mathlib.Core.List.{List, [], _∷_}
 use lib.ListN.{length, getD}
 use lib.Dec.{eqb, ltb}
-use Rattle.message.specs.Msg.{Msg, connect, initiate, test, accept, reject, report, change, none}
+use Rattle.format_message.specs.Msg.{Msg, connect, initiate, test, accept, reject, report, change, none}
 use Rattle.node.specs.declared.Node.{Node}
 use Rattle.node.specs.Work.{Own, Send, Work, values, nodeBy, REFUSED}
 use Rattle.node.specs.Values.{listed}

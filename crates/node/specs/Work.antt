@@ -5,7 +5,7 @@ use mathlib.Core.Bool.{Bool, true, false, not, cond, _&&_}
 use mathlib.Core.List.{List, [], _∷_, _++_}
 use lib.Dec.{eqb}
 use Rattle.base.specs.Cond.{bit, upd}
-use Rattle.message.specs.Msg.{Msg, none}
+use Rattle.format_message.specs.Msg.{Msg, none}
 use Rattle.node.specs.declared.Node.{Node}
 
 -- "status (0 asleep, 1 Find, 2 Found)"

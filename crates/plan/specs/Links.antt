@@ -4,7 +4,7 @@ use mathlib.Core.List.{List}
 use lib.ListN.{getD}
 use Rattle.plan.specs.declared.Plan.{Plan}
 use Rattle.graph.specs.Graph.{Graph}
-pub use Rattle.labels.specs.Columns.{edges}
+pub use Rattle.plan_labels.specs.Columns.{edges}
 
 -- "for each link lower module, higher module, reading at the lower, reading at the higher"
 abbrev pub low : Plan → ℕ → ℕ

@@ -28,6 +28,6 @@ pub fn connected<'a>(n: usize, l: usize, lower: &'a [u16; 600], higher: &'a [u16
     ensures { λ r. ⌜ r ≡ connected (edges l (now (lower .entry)) (now (higher .entry))) n ⌝ }
 {
     let mut parts = [0u8; 192];
-    labels::merge(l, lower, higher, &mut parts);
+    plan_labels::merge(l, lower, higher, &mut parts);
     one_part(&parts, n)
 }

@@ -2,7 +2,7 @@
 use Prim.Native.Nat.{ℕ, suc, _≤_}
 use mathlib.Core.Path.{_≡_}
 use mathlib.Core.Logic.{_≢_}
-use Rattle.message.specs.Msg.{none}
+use Rattle.format_message.specs.Msg.{none}
 use Rattle.protocol.specs.Plan.{Plan, Ends, key, rank}
 use Rattle.protocol.specs.Notion.{Informed, Both, Bounding, Decision, Rooting}
 

@@ -7,7 +7,7 @@ use mathlib.Core.List.{List, _∷_}
 use Rattle.base.specs.Cond.{by-eq}
 use Rattle.base.specs.Pool.{sumL}
 use Rattle.graph.specs.Ways.{flip}
-use Rattle.message.specs.Msg.{Msg, none, connect, initiate, test, report}
+use Rattle.format_message.specs.Msg.{Msg, none, connect, initiate, test, report}
 use Rattle.protocol.specs.Plan.{Plan, Ends, edge-some, ends-irr}
 use Rattle.protocol.specs.State.{State}
 use Rattle.protocol.specs.Kind.{isC, isA, Fits}

@@ -2,7 +2,7 @@
 -- A step of the search carries them over as a whole, by what it does to the channels and tables: `flow-take`, `flow-post`, `flow-open` ..
 use Prim.Native.Nat.{ℕ}
 use mathlib.Core.List.{List}
-use Rattle.message.specs.Msg.{Msg}
+use Rattle.format_message.specs.Msg.{Msg}
 use Rattle.protocol.specs.Plan.{Plan}
 use Rattle.protocol.specs.State.{State, set-te, set-ch, set-ot, set-op}
 use Rattle.protocol.specs.Search.{Pending, Tests}

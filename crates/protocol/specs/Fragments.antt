@@ -4,7 +4,7 @@ use Prim.Native.Nat.{ℕ, _^_, _≤_, _<_}
 use mathlib.Core.Path.{_≡_}
 use mathlib.Core.Logic.{_≢_, _⊎_}
 use Rattle.graph.specs.Graph.{Way}
-use Rattle.message.specs.Msg.{none}
+use Rattle.format_message.specs.Msg.{none}
 use Rattle.protocol.specs.Plan.{Plan, Ends, Tree}
 use Rattle.protocol.specs.Notion.{Informed, Both, Joined, members}
 

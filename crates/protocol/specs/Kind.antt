@@ -4,7 +4,7 @@ use native.Mathlib.Omega.{arith}
 use mathlib.Core.Path.{_≡_, refl, ap}
 use mathlib.Core.Logic.{_≢_, _⊎_, inl, inr}
 use mathlib.Core.List.{List, [], _∷_}
-use Rattle.message.specs.Msg.{Msg, connect, initiate, test, accept, reject, report, change}
+use Rattle.format_message.specs.Msg.{Msg, connect, initiate, test, accept, reject, report, change}
 
 -- a value for each kind of message: Connect, Initiate, Test, Accept, Reject, Report, Change-root
 abbrev pub pick : (c i t a j r k : ℕ) → Msg → ℕ

@@ -11,7 +11,7 @@ use Rattle.base.specs.Pool.{sumL, sumL-app}
 use Rattle.base.specs.Sum.{sum, sum-change, sum-eq, le-sum}
 use Rattle.graph.specs.Graph.{Graph, Joins, up, down}
 use Rattle.graph.specs.Ways.{ends-same, ends-two}
-use Rattle.message.specs.Msg.{Msg, connect, initiate, test, accept, reject, report, change}
+use Rattle.format_message.specs.Msg.{Msg, connect, initiate, test, accept, reject, report, change}
 use Rattle.protocol.specs.Plan.{Plan, Ends}
 use Rattle.protocol.specs.State.{State}
 use Rattle.protocol.specs.Step.{bulk, fan, fill, copy}

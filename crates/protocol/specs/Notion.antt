@@ -4,7 +4,7 @@ use mathlib.Core.Path.{_≡_}
 use mathlib.Core.Logic.{_≢_, _⊎_}
 use Rattle.base.specs.Pool.{sumL}
 use Rattle.graph.specs.Size.{size}
-use Rattle.message.specs.Msg.{Msg, none, initiate, report}
+use Rattle.format_message.specs.Msg.{Msg, none, initiate, report}
 use Rattle.protocol.specs.Plan.{Plan, Ends, key, rank}
 use Rattle.protocol.specs.State.{State}
 use Rattle.protocol.specs.Kind.{isCI, isR}

@@ -10,7 +10,7 @@ use Rattle.graph.specs.Graph.{Graph, Joins, up, down}
 use Rattle.graph.specs.Order.{Order, InTree}
 use Rattle.graph.specs.Ways.{joins-lt, ends-diff}
 use Rattle.graph.specs.Rank as R
-use Rattle.message.specs.Msg.{none}
+use Rattle.format_message.specs.Msg.{none}
 
 pub record Plan : Type 0 where
   pub g : Graph

@@ -5,7 +5,7 @@ use mathlib.Core.Path.{_≡_, sym, ap, subst, _∙_}
 use mathlib.Core.Logic.{_≢_, inl, inr, ⊎-elim}
 use mathlib.Core.List.{List}
 use Rattle.base.specs.Pool.{sumL}
-use Rattle.message.specs.Msg.{Msg}
+use Rattle.format_message.specs.Msg.{Msg}
 use Rattle.protocol.specs.Plan.{Plan, Ends}
 use Rattle.protocol.specs.State.{State, set-ch}
 use Rattle.protocol.specs.Kind.{isC, isI, isCI, isR, isK, Only, Rouse, Fits, call-parts}

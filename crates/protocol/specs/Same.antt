@@ -6,7 +6,7 @@ use mathlib.Core.Path.{_≡_, refl, sym, subst, _∙_}
 use mathlib.Core.Logic.{_⊎_, inl, inr, ⊎-elim}
 use mathlib.Core.List.{List}
 use Rattle.base.specs.Pool.{sumL}
-use Rattle.message.specs.Msg.{Msg, connect, initiate, test, accept, reject, report}
+use Rattle.format_message.specs.Msg.{Msg, connect, initiate, test, accept, reject, report}
 use Rattle.protocol.specs.Plan.{Plan, Ends, rank}
 use Rattle.protocol.specs.State.{State, set-ch}
 use Rattle.protocol.specs.Kind.{isCI, isT, isA, isR}

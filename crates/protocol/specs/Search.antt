@@ -3,7 +3,7 @@ use Prim.Native.Nat.{ℕ, suc, _+_, _≤_, _<_}
 use mathlib.Core.Path.{_≡_}
 use mathlib.Core.Logic.{_≢_, _⊎_}
 use Rattle.base.specs.Sum.{sum}
-use Rattle.message.specs.Msg.{none}
+use Rattle.format_message.specs.Msg.{none}
 use Rattle.protocol.specs.Plan.{Plan, Ends, rank}
 use Rattle.protocol.specs.Notion.{Informed, Both, Awaits}
 

@@ -3,7 +3,7 @@
 -- An edge that may be missing is a number, 65535 (`none`) for none.
 use Prim.Native.Nat.{ℕ}
 use mathlib.Core.List.{List, []}
-use Rattle.message.specs.Msg.{Msg, none}
+use Rattle.format_message.specs.Msg.{Msg, none}
 
 pub record State : Type 0 where
   -- status: 0 asleep, 1 Find, 2 Found

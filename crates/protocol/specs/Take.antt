@@ -6,7 +6,7 @@ use mathlib.Core.Logic.{inl, inr, ⊎-elim}
 use mathlib.Core.List.{List, [], _∷_}
 use Rattle.base.specs.Cond.{upd2, upd2-elim}
 use Rattle.base.specs.Pool.{sumL}
-use Rattle.message.specs.Msg.{Msg, test, accept, reject}
+use Rattle.format_message.specs.Msg.{Msg, test, accept, reject}
 use Rattle.protocol.specs.Plan.{Plan}
 use Rattle.protocol.specs.State.{State, set-ch}
 use Rattle.protocol.specs.Kind.{isC, isI, isCI, isR, isK, call-parts}

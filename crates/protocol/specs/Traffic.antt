@@ -4,7 +4,7 @@ use mathlib.Core.Path.{_≡_}
 use mathlib.Core.Logic.{_≢_, _⊎_}
 use mathlib.Core.List.{[]}
 use Rattle.base.specs.Pool.{All, sumL}
-use Rattle.message.specs.Msg.{Msg, none, connect, initiate, test, accept, reject, report, change}
+use Rattle.format_message.specs.Msg.{Msg, none, connect, initiate, test, accept, reject, report, change}
 use Rattle.protocol.specs.Plan.{Plan, Ends, key, rank}
 use Rattle.protocol.specs.State.{State}
 use Rattle.protocol.specs.Kind.{isC, isT, isA, isR, Only, Rouse, Fits, top}

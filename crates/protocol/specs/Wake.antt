@@ -2,7 +2,7 @@
 use Prim.Native.Nat.{ℕ}
 use mathlib.Core.Path.{_≡_, refl, sym, ap, _∙_, fun-ext}
 use Rattle.base.specs.Cond.{upd, upd-elim}
-use Rattle.message.specs.Msg.{none}
+use Rattle.format_message.specs.Msg.{none}
 use Rattle.protocol.specs.Plan.{Plan}
 use Rattle.protocol.specs.State.{State, set-st, set-lev, set-id, set-bw, set-be, set-te, set-ib, set-fc}
 use Rattle.protocol.specs.Step.{woken}

@@ -4,12 +4,6 @@ use borrow.Author.Needs.{needs}
 use Rattle.plan.proofs.ceiling.Statement.{statement}
 use Rattle.plan.proofs.ceiling.Tie as tie
 
-first-term-requires : tie.Need-first-term-requires
-first-term-requires c κs = search needs
-
-mul-result : tie.Need-mul-result
-mul-result c = search needs
-
 add-result : tie.Need-add-result
 add-result c = omega (arith, c .first-term .ensures, first-term-fits (c .before .args .n) (omega arith))
 
@@ -17,4 +11,4 @@ returns : tie.Need-returns
 returns c = rw (c .first-term .ensures)
 
 pub ceiling-spec : {M : Type 1} → statement M
-ceiling-spec = tie.close (tie.spec first-term-requires mul-result add-result returns)
+ceiling-spec = tie.close (tie.spec (λ c κs. search needs) (λ c. search needs) add-result returns)

@@ -4,9 +4,6 @@ use borrow.Author.Needs.{needs}
 use Rattle.plan.proofs.check_columns.Statement.{statement}
 use Rattle.plan.proofs.check_columns.Tie as tie
 
-counts-check-requires : tie.Need-counts-check-requires
-counts-check-requires c κs = search needs
-
 returns : tie.Need-returns
 returns c = p-counts _ _ (c .before .counts-check .ensures) (c .if1 .taken)
 
@@ -46,7 +43,7 @@ pub check-columns-spec : {M : Type 1} → statement M
 check-columns-spec =
     tie.close
     (tie.spec
-    counts-check-requires
+    (λ c κs. search needs)
     returns
     links-check-requires
     returns-2

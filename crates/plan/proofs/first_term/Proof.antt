@@ -10,15 +10,6 @@ use Rattle.plan.proofs.first_term.Tie as tie
 fits : (n t : ℕ) → n < 2 ^ 16 → t ≡ log2 n → 5 * n * t ≤ 4915125
 fits n t h e = rw e (first-term-fits n h)
 
-mul-result : tie.Need-mul-result
-mul-result c = search needs
-
-floor-log2-requires : tie.Need-floor-log2-requires
-floor-log2-requires c κs = search needs
-
-cast-result : tie.Need-cast-result
-cast-result c = search needs
-
 mul-result-2 : tie.Need-mul-result-2
 mul-result-2 c = omega (arith, fits (c .before .args .n) (c .floor-log2 .result) (omega arith) (c .floor-log2 .ensures))
 
@@ -27,4 +18,4 @@ returns c = rw (c .floor-log2 .ensures)
 
 pub first-term-spec : {M : Type 1} → statement M
 first-term-spec =
-    tie.close (tie.spec mul-result floor-log2-requires cast-result mul-result-2 returns)
+    tie.close (tie.spec (λ c. search needs) (λ c κs. search needs) (λ c. search needs) mul-result-2 returns)

@@ -11,11 +11,8 @@ returns c = rw (c .if1 .taken)
 sub-result : tie.Need-sub-result
 sub-result c = omega (arith, leading (c .before .args .n) (c .if1 .left) (omega arith) .0)
 
-cast-result : tie.Need-cast-result
-cast-result c = search needs
-
 returns-2 : tie.Need-returns-2
 returns-2 c = leading (c .before .args .n) (c .if1 .left) (omega arith) .1
 
 pub floor-log2-spec : {M : Type 1} → statement M
-floor-log2-spec = tie.close (tie.spec returns sub-result cast-result returns-2)
+floor-log2-spec = tie.close (tie.spec returns sub-result (λ c. search needs) returns-2)

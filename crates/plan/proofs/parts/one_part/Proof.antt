@@ -24,20 +24,8 @@ abbrev μ-loop : tie.MeasureT-loop
 loop-holds : tie.Need-loop-holds Inv-loop μ-loop
 loop-holds c = (omega arith, refl)
 
-sub-v : tie.Need-sub-v Inv-loop μ-loop
-sub-v c = search needs
-
-element-copy-out-if1 : tie.Need-element-copy-out-if1 Inv-loop μ-loop
-element-copy-out-if1 c = search needs
-
-element-copy-out-if1-2 : tie.Need-element-copy-out-if1-2 Inv-loop μ-loop
-element-copy-out-if1-2 c = search needs
-
 returns : tie.Need-returns Inv-loop μ-loop
 returns c = let e = c .before .before .before .before in sym (e .loop .inv .1 ∙ every-stops _ _ (c .before .before .before .loop-test .taken) (ne-eqb _ _ (c .if1 .taken)))
-
-loop-less : tie.Need-loop-less Inv-loop μ-loop
-loop-less c = search needs
 
 loop-again : tie.Need-loop-again Inv-loop μ-loop
 loop-again c = let e = c .before .before .before .before in (omega arith, e .loop .inv .1 ∙ every-goes-on _ _ (c .before .before .before .loop-test .taken) (eq-eqb _ _ (c .if1 .left)))
@@ -52,10 +40,10 @@ one-part-spec =
     Inv-loop
     μ-loop
     loop-holds
-    sub-v
-    element-copy-out-if1
-    element-copy-out-if1-2
+    (λ c. search needs)
+    (λ c. search needs)
+    (λ c. search needs)
     returns
-    loop-less
+    (λ c. search needs)
     loop-again
     returns-2)

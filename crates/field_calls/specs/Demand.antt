@@ -1,0 +1,77 @@
+-- Demand 3, as one type.
+use Prim.Native.Nat.{ℕ, _+_, _≤_, _<_}
+use mathlib.Core.Path.{_≡_}
+use mathlib.Core.Logic.{_≢_, _⊎_, _↔_}
+use mathlib.Core.List.{List, []}
+use lib.ListN.{length}
+use Rattle.base.specs.Pool.{All}
+use Rattle.base.specs.Loop.{Ran}
+use Rattle.graph.specs.Order.{InTree}
+use Rattle.plan.specs.declared.Plan.{Plan}
+use Rattle.plan.specs.Links.{low, high, graphOf}
+use Rattle.plan.specs.Weights.{earlier}
+use Rattle.node.specs.Work.{BRANCH, REJECTED}
+use Rattle.field.specs.Edges.{ceilingOf}
+use Rattle.field.specs.State.{State, nodeAt, markAt}
+use Rattle.field.specs.Held.{Held, stateOf, setUp}
+use Rattle.field_calls.specs.Call.{Call, one, run, rounds, after, answers, runRounds}
+use Rattle.field_calls.specs.Trail.{trail, messagesSent, consumed, wokenIn}
+
+-- "A link is a tree link exactly if no other way between its ends, over the plan's links, uses only earlier links."
+abbrev pub TreeLink : Plan → ℕ → Type 0
+TreeLink p k = InTree (graphOf p) (earlier p) k
+
+-- "An end of a link says branch or rejected if that module's mark for it is 1 or 2."
+-- both ends of link k have this mark
+pub record BothSay (p : Plan) (s : State) (mark k : ℕ) : Type 0 where
+  pub lower : markAt p s (low p k) k ≡ mark
+  pub higher : markAt p s (high p k) k ≡ mark
+
+-- "Of the refusals only 41 to 45 and 51 to 54 can occur, and none in a run of rounds." (0 is no refusal.)
+abbrev pub Allowed : Call → ℕ → Type 0
+Allowed (one kind number) r = (r ≡ 0) ⊎ ((41 ≤ r) × (r ≤ 45)) ⊎ ((51 ≤ r) × (r ≤ 54))
+Allowed (run bytes) r = (r ≡ 0) ⊎ ((41 ≤ r) × (r ≤ 45)) ⊎ ((51 ≤ r) × (r ≤ 54))
+Allowed (rounds limit) r = r ≡ 0
+
+-- "exactly two modules have halted, the ends of one tree link"
+pub record Core (p : Plan) (s : State) : Type 0 where
+  pub link : ℕ
+  pub within : link < p .links
+  pub tree : TreeLink p link
+  pub apart : low p link ≢ high p link
+  pub halted : (v : ℕ) → v < p .modules → (nodeAt s v .halted ≡ 1) ↔ ((v ≡ low p link) ⊎ (v ≡ high p link))
+
+-- "both ends of each tree link say branch, both ends of all others say rejected, and for N of 2 or more exactly two modules have halted, the
+-- ends of one tree link"
+pub record Agreed (p : Plan) (s : State) : Type 0 where
+  pub tree : (k : ℕ) → k < p .links → TreeLink p k → BothSay p s BRANCH k
+  pub others : (k : ℕ) → k < p .links → ¬ TreeLink p k → BothSay p s REJECTED k
+  pub core : 2 ≤ p .modules → Core p s
+
+-- "comes to rest unrefused within N more rounds than the ceiling"
+pub record Settles (p : Plan) (r : Ran Held) : Type 0 where
+  pub rest : stateOf (r .state) .words ≡ []
+  pub unrefused : r .answer ≡ 0
+  pub within : r .done ≤ ceilingOf p + p .modules
+
+-- what demand 3 says of one list of calls on the field and words of a setup
+pub record Claim (p : Plan) (start : Held) (calls : List Call) : Type 0 where
+  -- "after it, every link that a module marks branch is in that tree;"
+  pub branches : (v k : ℕ) → markAt p (stateOf (after calls start)) v k ≡ BRANCH → TreeLink p k
+  -- "the sent count equals the number of messages sent"
+  pub exact : stateOf (after calls start) .sent ≡ messagesSent p (trail calls start)
+  -- ("A message waits, in one word, from its send until a service that does not put it back.": what waits and what was consumed is what was sent)
+  pub waiting : length (stateOf (after calls start) .words) + consumed p (trail calls start) ≡ stateOf (after calls start) .sent
+  -- "and is at most the ceiling, 5 × N × ⌊log2 N⌋ + 2 × L;"
+  pub ceiling : stateOf (after calls start) .sent ≤ ceilingOf p
+  -- "and nothing in the list was refused by 31, 32 or 33."
+  pub refusals : All (λ a. Allowed (a .call) (a .refusal)) (answers calls start)
+  -- "If a module was woken and the field is at rest, .."
+  pub agreed : wokenIn p (trail calls start) ≢ [] → stateOf (after calls start) .words ≡ [] → Agreed p (stateOf (after calls start))
+  -- "Whatever such a list leaves, a run of rounds from there, its limit the ceiling plus N or more, comes to rest .."
+  pub settles : (limit : ℕ) → ceilingOf p + p .modules ≤ limit → Settles p (runRounds limit (after calls start))
+
+-- "For every accepted plan of N modules and L links, and every list of wakeups, hand-overs and services from its setup on, given singly or in
+-- runs, refused ones included": accepted, and lent M words or more, is a setup that is not refused.
+abbrev pub Demand3 : Type 0
+Demand3 = (p : Plan) (lent : List ℕ) → setUp p lent .answer ≡ 0 → (calls : List Call) → Claim p (setUp p lent .state) calls

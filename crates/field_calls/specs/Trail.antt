@@ -1,0 +1,94 @@
+-- The steps that a list of calls takes, each with the state it was taken in; the messages sent and consumed and the modules woken in them.
+use Prim.Native.Nat.{ℕ, _*_}
+use mathlib.Core.Bool.{Bool, cond, not, _&&_, _||_}
+use mathlib.Core.List.{List, [], _∷_, _++_}
+use lib.ListN.{length, getD}
+use lib.Dec.{eqb}
+use Rattle.base.specs.Cond.{bit}
+use Rattle.base.specs.Loop.{loopTrace, runsTrace}
+use Rattle.base.specs.Pool.{sumL}
+use Rattle.format_message.specs.Header.{kindAt}
+use Rattle.format_word.specs.Word.{headerIn}
+use Rattle.plan.specs.declared.Plan.{Plan}
+use Rattle.node.specs.Work.{ASLEEP, BACK}
+use Rattle.field.specs.State.{State, nodeAt}
+use Rattle.field.specs.Step.{place, inAir, inQueue, wakeWork, serveWork, hand, serve, step}
+use Rattle.field.specs.Held.{Held, stateOf, valid}
+use Rattle.field_calls.specs.Schedule.{scheduleRefusal, stepsIn, kindOf, numberOf, stepAt, never}
+use Rattle.field_calls.specs.Rounds.{many, handTurn, handPhase, serveTurn, round, atRest}
+use Rattle.field_calls.specs.Call.{Call, one, run, rounds, does}
+
+-- a step that was taken, in a state
+pub record Taken : Type 0 where
+  pub kind : ℕ
+  pub number : ℕ
+  pub at : State
+
+-- the step itself where it is taken, nothing where it is refused
+unfoldable pub ifTaken : Plan → ℕ → ℕ → State → List Taken
+ifTaken p kind number s =
+    cond (eqb (step p kind number s .answer) 0) (record { kind = kind; number = number; at = s } ∷ []) []
+
+-- the steps of a round, in the shape of `round`
+unfoldable pub handTurnSteps : Plan → ℕ → State → List Taken
+handTurnSteps p d s = loopTrace (many (inAir d) (s .words)) (λ j. hand p d) (λ j. ifTaken p 2 d) s
+
+unfoldable pub serveTurnSteps : Plan → ℕ → State → List Taken
+serveTurnSteps p v s = loopTrace (many (inQueue p v) (s .words)) (λ j. serve p v) (λ j. ifTaken p 3 v) s
+
+unfoldable pub roundSteps : Plan → State → List Taken
+roundSteps p s =
+    loopTrace (2 * p .links) (handTurn p) (handTurnSteps p) s
+    ++ cond (eqb (handPhase p s .answer) 0) (loopTrace (p .modules) (serveTurn p) (serveTurnSteps p) (handPhase p s .state)) []
+
+-- the steps that a call takes in a field that 31 does not refuse
+unfoldable pub stepsOf : Plan → Call → State → List Taken
+stepsOf p (one kind number) s = ifTaken p kind number s
+stepsOf p (run bytes) s =
+    cond (eqb (scheduleRefusal bytes) 0)
+    (runsTrace never (stepsIn bytes) (stepAt p bytes) (λ i. ifTaken p (kindOf bytes i) (numberOf bytes i)) s)
+    []
+stepsOf p (rounds limit) s = runsTrace atRest limit (λ i. round p) (λ i. roundSteps p) s
+
+-- the steps that a list of calls takes, in order
+unfoldable pub trail : List Call → Held → List Taken
+trail [] h = []
+trail (c ∷ cs) h = cond (valid h) (stepsOf (h .field .plan) c (stateOf h)) [] ++ trail cs (does c h .state)
+
+-- the word that a service takes
+abbrev pub servedWord : Plan → ℕ → State → ℕ
+servedWord p v s = getD (s .words) (place (inQueue p v) (s .words)) 0
+
+-- "Messages sent are the sends of the responses to the steps taken, in runs too; a put-back is no send."
+unfoldable pub sendsOf : Plan → Taken → ℕ
+sendsOf p t =
+    cond (eqb (t .kind) 1) (length (wakeWork p (t .number) (t .at) .sends))
+    (cond (eqb (t .kind) 3) (length (serveWork p (t .number) (servedWord p (t .number) (t .at)) (t .at) .sends)) 0)
+
+abbrev pub messagesSent : Plan → List Taken → ℕ
+messagesSent p l = sumL (sendsOf p) l
+
+-- 1 for "a service that does not put it back"
+unfoldable pub consumes : Plan → Taken → ℕ
+consumes p t =
+    bit (eqb (t .kind) 3 && not (eqb (serveWork p (t .number) (servedWord p (t .number) (t .at)) (t .at) .answer) BACK))
+
+-- how many messages were consumed
+abbrev pub consumed : Plan → List Taken → ℕ
+consumed p l = sumL (consumes p) l
+
+-- "A module is woken by a wake step that is taken, or by serving a Connect or Test asleep."
+abbrev pub connectOrTest : ℕ → Bool
+connectOrTest x = eqb (kindAt (headerIn x)) 1 || eqb (kindAt (headerIn x)) 3
+
+abbrev pub asleep : State → ℕ → Bool
+asleep s v = eqb (nodeAt s v .status) ASLEEP
+
+unfoldable pub wakesOne : Plan → Taken → Bool
+wakesOne p t =
+    eqb (t .kind) 1 || (eqb (t .kind) 3 && asleep (t .at) (t .number) && connectOrTest (servedWord p (t .number) (t .at)))
+
+-- the modules woken, in order
+unfoldable pub wokenIn : Plan → List Taken → List ℕ
+wokenIn p [] = []
+wokenIn p (t ∷ l) = cond (wakesOne p t) (t .number ∷ wokenIn p l) (wokenIn p l)

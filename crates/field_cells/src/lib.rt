@@ -1,0 +1,75 @@
+// The cells and marks of a field: one module's values read and written, one mark written.
+use field::CELLS;
+use node::Node;
+use node::WIDTH;
+use node_edges;
+ghost use Prim.Native.Nat.{_*_, _<_, _≤_};
+ghost use mathlib.Core.Path.{_≡_};
+ghost use Rattle.field.specs.State.{nodeIn, putNode};
+ghost use Rattle.field_cells.specs.Marks.{markPut};
+
+// Module v's values.
+pub fn load(cells: &[u16; CELLS], v: u16) -> Node
+    requires { ⌜ v < 192 ⌝ }
+    ensures { λ r. ⌜ r ≡ nodeIn (now (cells .entry)) v ⌝ }
+{
+    let c = (v as usize) * WIDTH;
+    Node {
+        status: cells[c + 0],
+        level: cells[c + 1],
+        identity: cells[c + 2],
+        weight: cells[c + 3],
+        best: cells[c + 4],
+        test: cells[c + 5],
+        branch: cells[c + 6],
+        count: cells[c + 7],
+        halted: cells[c + 8],
+    }
+}
+
+// Module v's values become n's.
+pub fn put_node(cells: &mut [u16; CELLS], v: u16, n: Node)
+    requires { ⌜ v < 192 ⌝ }
+    ensures { λ _. ⌜ now (cells .exit) ≡ putNode (now (cells .entry)) v n ⌝ }
+{
+    let c = (v as usize) * WIDTH;
+    let values: [u16; WIDTH] = [
+        n.status,
+        n.level,
+        n.identity,
+        n.weight,
+        n.best,
+        n.test,
+        n.branch,
+        n.count,
+        n.halted,
+    ];
+    let mut j: usize = 0;
+    while j < WIDTH {
+        cells[c + j] = values[j];
+        j += 1;
+    }
+}
+
+// Module v's mark for its link k becomes c, if k is a link of v.
+pub fn put_mark<'a>(
+    links: u16,
+    lower: &'a [u16; 600],
+    higher: &'a [u16; 600],
+    marks: &mut [u8; 1200],
+    v: u16,
+    k: u16,
+    c: u8,
+)
+    requires { ⌜ links ≤ 600 ⌝ }
+    ensures { λ _. ⌜ now (marks .exit) ≡ markPut links (now (lower .entry)) (now (higher .entry)) (now (marks .entry)) v k c ⌝ }
+{
+    if links <= k {
+        return;
+    }
+    if !node_edges::owns(links, lower, higher, v, k) {
+        return;
+    }
+    let i = node_edges::end_at(lower, v, k) as usize;
+    marks[i] = c;
+}

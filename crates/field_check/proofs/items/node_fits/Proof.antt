@@ -1,0 +1,12 @@
+use borrow.Author.Needs.{needs}
+use Rattle.field.specs.Valid.{nodeFits}
+use Rattle.field_check.proofs.items.node_fits.Statement.{statement}
+use Rattle.field_check.proofs.items.node_fits.Tie as tie
+
+returns : tie.Need-returns
+unfolding nodeFits
+returns c = λ near far e. cc (c .before .before .before .before .values-listed .ensures (c .before .before .before .before .before .args .modules) near far)
+
+pub node-fits-spec : {M : Type 1} → statement M
+node-fits-spec =
+    tie.close (tie.spec (λ c κs. search needs) (λ c κs. search needs) (λ c κs. search needs) returns)

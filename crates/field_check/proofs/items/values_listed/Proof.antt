@@ -1,0 +1,17 @@
+use borrow.Author.Needs.{needs}
+use Rattle.field_check.proofs.items.values_listed.Statement.{statement}
+use Rattle.field_check.proofs.items.values_listed.Tie as tie
+
+returns : tie.Need-returns
+returns c = λ modules near far. cc
+
+pub values-listed-spec : {M : Type 1} → statement M
+values-listed-spec =
+    tie.close
+    (tie.spec
+    (λ c κs. search needs)
+    (λ c κs. search needs)
+    (λ c κs. search needs)
+    (λ c κs. search needs)
+    (λ c κs. search needs)
+    returns)

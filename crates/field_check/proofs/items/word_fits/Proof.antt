@@ -1,0 +1,22 @@
+use borrow.Author.Needs.{needs}
+use Rattle.field.specs.Valid.{wordFits}
+use Rattle.field_check.proofs.items.word_fits.Statement.{statement}
+use Rattle.field_check.proofs.items.word_fits.Tie as tie
+
+returns : tie.Need-returns
+unfolding wordFits
+returns c = λ lower higher near far. cc
+
+pub word-fits-spec : {M : Type 1} → statement M
+word-fits-spec =
+    tie.close
+    (tie.spec
+    (λ c κs. search needs)
+    (λ c κs. search needs)
+    (λ c κs. search needs)
+    (λ c κs. search needs)
+    (λ c. search needs)
+    (λ c κs. search needs)
+    (λ c κs. search needs)
+    (λ c κs. search needs)
+    returns)

@@ -1,0 +1,161 @@
+-- THE way to reason on a step: it is refused and leaves the state, or it is taken and these are the facts.
+use Prim.Native.Nat.{ℕ, _+_, _*_, _≤_, _<_}
+use native.Mathlib.Omega.{arith}
+use mathlib.Core.Path.{_≡_, refl}
+use mathlib.Core.Logic.{_≢_, _⊎_, inl, inr}
+use mathlib.Core.Bool.{not, cond}
+use mathlib.Core.List.{List, [], _∷_, _++_}
+use lib.ListN.{length, getD}
+use lib.Dec.{eqb, ltb, leb}
+use borrow.Author.Tests.{leb-false, lt-leb}
+use Rattle.base.specs.Cond.{bool-cases, eqb-cases, ltb-cases, eqb-diff, by-eq}
+use Rattle.base.specs.Loop.{After, taken, refused}
+use Rattle.base.specs.Keep.{keep, First, place, place-first, place-some}
+use Rattle.format_word.specs.Word.{handOver}
+use Rattle.plan.specs.declared.Plan.{Plan}
+use Rattle.node.specs.Work.{Work, ASLEEP, REFUSED}
+use Rattle.field.specs.Edges.{ceilingOf}
+use Rattle.field.specs.State.{State, nodeAt, placed}
+use Rattle.field.specs.Step.{inAir, inQueue, without, settle, wakeWork, wake, hand, serveWork, backOf, serve, step}
+
+-- a response that was placed
+pub record Placed (p : Plan) (v : ℕ) (w : Work) (s : State) (words back : List ℕ) (s′ : State) : Type 0 where
+  pub fine : w .answer ≢ REFUSED
+  pub room : s .sent + length (w .sends) ≤ ceilingOf p
+  pub is : s′ ≡ placed p v w s words back
+
+pub record Woke (p : Plan) (v : ℕ) (s s′ : State) : Type 0 where
+  pub within : v < p .modules
+  pub asleep : nodeAt s v .status ≡ ASLEEP
+  pub responds : Placed p v (wakeWork p v s) s (s .words) [] s′
+
+pub record Handed (p : Plan) (d : ℕ) (s s′ : State) : Type 0 where
+  pub within : d < 2 * p .links
+  pub word : ℕ
+  pub rest : List ℕ
+  pub first : First (inAir d) (s .words) word rest
+  pub is : s′ ≡ record { cells = s .cells; marks = s .marks; words = rest ++ (handOver word ∷ []); sent = s .sent }
+
+pub record Served (p : Plan) (v : ℕ) (s s′ : State) : Type 0 where
+  pub within : v < p .modules
+  pub word : ℕ
+  pub rest : List ℕ
+  pub first : First (inQueue p v) (s .words) word rest
+  pub at : word ≡ getD (s .words) (place (inQueue p v) (s .words)) 0
+  pub responds : Placed p v (serveWork p v word s) s rest (backOf (serveWork p v word s) word) s′
+
+-- "A refused call alters no field": a step refused by one of these numbers
+abbrev pub Refusal : ℕ → Type 0
+Refusal r = (r ≡ 32) ⊎ (r ≡ 33) ⊎ ((41 ≤ r) × (r ≤ 45)) ⊎ (r ≡ 54)
+
+pub refusal-some : (r : ℕ) → Refusal r → r ≢ 0
+refusal-some r (inl h) = λ e. omega arith
+refusal-some r (inr (inl h)) = λ e. omega arith
+refusal-some r (inr (inr (inl h))) = λ e. omega (arith, h .0)
+refusal-some r (inr (inr (inr h))) = λ e. omega arith
+
+usual : (r : ℕ) → 41 ≤ r → r ≤ 45 → Refusal r
+usual r l h = inr (inr (inl (l, h)))
+
+pub data Outcome (s : State) (Took : State → Type 0) : After State → Type 0 where
+  took : {s′ : State} → Took s′ → Outcome s Took (taken s′)
+  kept : (r : ℕ) → Refusal r → Outcome s Took (refused r s)
+
+module _ (p : Plan) (v : ℕ) (w : Work) (s : State) (words back : List ℕ) where
+  pub settled : Outcome s (Placed p v w s words back) (settle p v w s words back)
+  unfolding settle
+  settled = eqb-cases (w .answer) REFUSED (λ b. Outcome s (Placed p v w s words back) (cond b (refused 32 s) (cond (ltb (ceilingOf p) (s .sent + length (w .sends))) (refused 33 s) (taken (placed p v w s words back)))))
+      (λ e. kept 32 (inl refl))
+      (λ n. ltb-cases (ceilingOf p) (s .sent + length (w .sends)) (λ b. Outcome s (Placed p v w s words back) (cond b (refused 33 s) (taken (placed p v w s words back))))
+      (λ l. kept 33 (inr (inl refl)))
+      (λ l. took (record { fine = n; room = l; is = refl })))
+
+  settled-answer : (settle p v w s words back .answer ≡ 0) ⊎ (settle p v w s words back .answer ≡ 32) ⊎ (settle p v w s words back .answer ≡ 33)
+  unfolding settle
+  settled-answer = bool-cases (eqb (w .answer) REFUSED) (λ e. rw e (inr (inl refl)))
+      (λ e. rw e (bool-cases (ltb (ceilingOf p) (s .sent + length (w .sends))) (λ b. rw b (inr (inr refl))) (λ b. rw b (inl refl))))
+
+-- the same outcome, told with more facts
+pub outcome-map : {s : State} {P Q : State → Type 0} {a : After State} → ((s′ : State) → P s′ → Q s′) → Outcome s P a → Outcome s Q a
+outcome-map f (took {s′} h) = took (f s′ h)
+outcome-map f (kept r h) = kept r h
+
+module _ (p : Plan) (s : State) where
+  pub wakes : (v : ℕ) → Outcome s (Woke p v s) (wake p v s)
+  unfolding wake
+  wakes v = bool-cases (leb (p .modules) v)
+      (λ b. rw b (kept 41 (usual 41 (omega arith) (omega arith))))
+      (λ b. rw b (eqb-cases (nodeAt s v .status) ASLEEP (λ t. Outcome s (Woke p v s) (cond (not t) (refused 43 s) (settle p v (wakeWork p v s) s (s .words) [])))
+      (λ e. outcome-map (λ s′ h. record { within = leb-false _ _ b; asleep = e; responds = h }) (settled p v (wakeWork p v s) s (s .words) []))
+      (λ n. kept 43 (usual 43 (omega arith) (omega arith)))))
+
+  pub hands : (d : ℕ) → Outcome s (Handed p d s) (hand p d s)
+  unfolding hand
+  hands d = bool-cases (leb (2 * p .links) d)
+      (λ b. rw b (kept 42 (usual 42 (omega arith) (omega arith))))
+      (λ b. rw b (bool-cases (leb (length (s .words)) (place (inAir d) (s .words)))
+      (λ c. rw c (kept 44 (usual 44 (omega arith) (omega arith))))
+      (λ c. rw c (took (record { within = leb-false _ _ b; word = _; rest = _; first = place-first (inAir d) (s .words) 0 (leb-false _ _ c); is = refl })))))
+
+  pub serves : (v : ℕ) → Outcome s (Served p v s) (serve p v s)
+  unfolding serve
+  serves v = bool-cases (leb (p .modules) v)
+      (λ b. rw b (kept 41 (usual 41 (omega arith) (omega arith))))
+      (λ b. rw b (bool-cases (leb (length (s .words)) (place (inQueue p v) (s .words)))
+      (λ c. rw c (kept 45 (usual 45 (omega arith) (omega arith))))
+      (λ c. rw c
+      (let i = place (inQueue p v) (s .words) in
+      let x = getD (s .words) i 0 in
+      let w = serveWork p v x s in
+      outcome-map (λ s′ h. record {
+        within = leb-false _ _ b;
+        word = x;
+        rest = without i (s .words);
+        first = place-first (inQueue p v) (s .words) 0 (leb-false _ _ c);
+        at = refl;
+        responds = h;
+      })
+      (settled p v w s (without i (s .words)) (backOf w x))))))
+
+  -- a step of any kind
+  pub data Step : ℕ → ℕ → State → Type 0 where
+    wake-step : {v : ℕ} {s′ : State} → Woke p v s s′ → Step 1 v s′
+    hand-step : {d : ℕ} {s′ : State} → Handed p d s s′ → Step 2 d s′
+    serve-step : {v : ℕ} {s′ : State} → Served p v s s′ → Step 3 v s′
+
+  pub steps : (kind number : ℕ) → Outcome s (Step kind number) (step p kind number s)
+  unfolding step
+  steps kind number = by-eq kind 1
+      (λ e. rw e (outcome-map (λ s′ h. wake-step h) (wakes number)))
+      (λ n₁. rw (eqb-diff kind 1 n₁) (by-eq kind 2
+      (λ e. rw e (outcome-map (λ s′ h. hand-step h) (hands number)))
+      (λ n₂. rw (eqb-diff kind 2 n₂) (by-eq kind 3
+      (λ e. rw e (outcome-map (λ s′ h. serve-step h) (serves number)))
+      (λ n₃. rw (eqb-diff kind 3 n₃) (kept 54 (inr (inr (inr refl)))))))))
+
+-- an outcome whose answer is 0 was taken
+pub took-it : {s : State} {Took : State → Type 0} {a : After State} → Outcome s Took a → a .answer ≡ 0 → Took (a .state)
+took-it (took h) e = h
+took-it (kept r h) e = absurd (refusal-some r h e)
+
+-- ---- a step that is not refused
+
+module _ (p : Plan) (s : State) where
+  -- a word is there to hand over
+  pub hand-fine : (d : ℕ) → d < 2 * p .links → 1 ≤ length (keep (inAir d) (s .words)) → hand p d s .answer ≡ 0
+  unfolding hand
+  hand-fine d l h = rw (lt-leb (2 * p .links) d l, lt-leb (length (s .words)) (place (inAir d) (s .words)) (place-some (inAir d) (s .words) h)) refl
+
+  -- a word is in the queue, and the response is not refused
+  pub serve-fine : (v : ℕ) → v < p .modules → 1 ≤ length (keep (inQueue p v) (s .words)) → serve p v s .answer ≢ 32 → serve p v s .answer ≢ 33 → serve p v s .answer ≡ 0
+  unfolding serve
+  serve-fine v l h = rw (lt-leb (p .modules) v l, lt-leb (length (s .words)) (place (inQueue p v) (s .words)) (place-some (inQueue p v) (s .words) h))
+      (let i = place (inQueue p v) (s .words) in
+      let x = getD (s .words) i 0 in
+      let w = serveWork p v x s in
+      fine (settled-answer p v w s (without i (s .words)) (backOf w x)))
+    where
+      fine : {r : ℕ} → (r ≡ 0) ⊎ (r ≡ 32) ⊎ (r ≡ 33) → r ≢ 32 → r ≢ 33 → r ≡ 0
+      fine (inl e) a b = e
+      fine (inr (inl e)) a b = absurd (a e)
+      fine (inr (inr e)) a b = absurd (b e)

@@ -1,0 +1,54 @@
+-- The copies of a message, link by link.
+use Prim.Native.Nat.{ℕ, zero, suc, _+_, _≤_}
+use native.Mathlib.Omega.{arith}
+use native.Mathlib.Numerals.{add-one}
+use mathlib.Core.Path.{_≡_, refl, sym, ap, _∙_}
+use mathlib.Core.Bool.{Bool, true, false, cond, _&&_}
+use mathlib.Core.List.{List, [], _∷_, _++_, map-append, append-nil}
+use lib.ListN.{length, length-append, length-map}
+use Rattle.base.specs.Cond.{bool-cases, by-eq}
+use Rattle.format_message.specs.Msg.{Msg}
+use Rattle.format_message.specs.Header.{headerOf, carriedOf}
+use Rattle.format_word.specs.Word.{packed}
+use Rattle.node_edges.specs.Own.{endIn}
+use Rattle.node.specs.Work.{Own, Send, onEach, number}
+use Rattle.field_place.specs.Posted.{wordIn, postedIn}
+
+zero-of : (k : ℕ) → k ≤ 0 → k ≡ 0
+zero-of k h = omega arith
+
+module _ (o : Own) (f : ℕ → Bool) (m : Msg) where
+  -- one link more
+  pub each-on : (k : ℕ) → (o.own k && f k) ≡ true → onEach o f m (k + 1) ≡ onEach o f m k ++ (record { edge = k; msg = m } ∷ [])
+  unfolding onEach
+  each-on k h = rw (add-one k, h)
+
+  pub each-off : (k : ℕ) → (o.own k && f k) ≡ false → onEach o f m (k + 1) ≡ onEach o f m k
+  unfolding onEach
+  each-off k h = rw (add-one k, h) (append-nil (onEach o f m k))
+
+  -- as many as there are
+  pub each-number : (n : ℕ) → length (onEach o f m n) ≡ number o f n
+  unfolding onEach number
+  each-number zero = refl
+  each-number (suc n) = bool-cases (o.own n && f n)
+      (λ h. rw h (omega (arith, each-number n, length-append (onEach o f m n) (record { edge = n; msg = m } ∷ []))))
+      (λ h. rw h (ap length (append-nil (onEach o f m n)) ∙ omega (arith, each-number n)))
+
+  mono : (k n : ℕ) → k ≤ n → number o f k ≤ number o f n
+  unfolding number
+  mono k zero h = rw (zero-of k h) (omega arith)
+  mono k (suc n) h = by-eq k (suc n) (λ e. rw e (omega arith)) (λ d. omega (arith, mono k n (omega arith)))
+
+  pub each-short : (k n : ℕ) → k ≤ n → length (onEach o f m k) ≤ length (onEach o f m n)
+  each-short k n h = omega (arith, each-number k, each-number n, mono k n h)
+
+  -- the words of the copies, with link k's where it gets one
+  pub copies-on : (lower : List ℕ) (v k header carried : ℕ) → headerOf m ≡ header → carriedOf m ≡ carried
+      → postedIn lower v (onEach o f m k) ++ cond (o.own k && f k) (packed header carried (endIn lower v k) 0 ∷ []) [] ≡ postedIn lower v (onEach o f m (k + 1))
+  copies-on lower v k header carried e d = bool-cases (o.own k && f k)
+      (λ h. rw (h, ← e, ← d, each-on k h) (sym (map-append (wordIn lower v) (onEach o f m k) (record { edge = k; msg = m } ∷ []))))
+      (λ h. rw (h, each-off k h) (append-nil (postedIn lower v (onEach o f m k))))
+
+pub posted-many : (lower : List ℕ) (v : ℕ) (l : List Send) → length (postedIn lower v l) ≡ length l
+posted-many lower v l = length-map l (wordIn lower v)

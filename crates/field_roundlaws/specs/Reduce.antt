@@ -1,0 +1,169 @@
+-- DEMAND 3 FROM THE PROTOCOL: what remains to be shown of one field, step by step, for all that the demand says of lists of calls.
+use Prim.Native.Nat.{ℕ, _+_, _≤_}
+use native.Mathlib.Omega.{arith}
+use mathlib.Core.Path.{_≡_, refl, sym, ap, subst, _∙_}
+use mathlib.Core.Logic.{_≢_, _⊎_, inl, inr}
+use mathlib.Core.Bool.{Bool, true, false, not, cond}
+use mathlib.Core.List.{List, [], _∷_}
+use lib.ListN.{length, getD, replicate}
+use lib.Dec.{eqb, ltb}
+use Rattle.base.specs.Cond.{eqb-cases}
+use Rattle.base.specs.Loop.{After, Ran}
+use Rattle.base.specs.LoopLaws.{runs-answer}
+use Rattle.base.specs.Pool.{All, nil, con}
+use Rattle.base.specs.Test.{every}
+use Rattle.plan.specs.declared.Plan.{Plan}
+use Rattle.plan.specs.Accepted.{Accepted, accepted}
+use Rattle.node.specs.Work.{BRANCH}
+use Rattle.field.specs.Edges.{ceilingOf}
+use Rattle.field.specs.State.{State, markAt}
+use Rattle.field.specs.Step.{step}
+use Rattle.field.specs.Held.{Held, stateOf, fresh}
+use Rattle.field_calls.specs.Schedule.{scheduleRefusal, scheduleRun, lengthFits, kindListed, stepsIn, kindOf, numberOf, stepAt, never}
+use Rattle.field_calls.specs.Rounds.{roundsRun}
+use Rattle.field_calls.specs.Call.{Call, one, run, rounds, does, runRounds, after, answers}
+use Rattle.field_calls.specs.Trail.{trail}
+use Rattle.field_calls.specs.Demand.{TreeLink, Allowed, Agreed, Settles, Claim, Demand3}
+use Rattle.field_laws.specs.Cases.{Outcome, took, kept, steps}
+use Rattle.field_laws.specs.Keeps.{Sound, step-keeps}
+use Rattle.field_laws.specs.Trace.{onState, call-keeps}
+use Rattle.field_laws.specs.Counts.{Counted, counted-waiting}
+use Rattle.field_laws.specs.Laid.{Live, live-sound, does-live, does-state, state-of-does, plan-of-does, answer-of-does}
+use Rattle.field_laws.specs.After.{started, begun-live, after-live, after-plan, list-counts, list-keeps}
+use Rattle.field_roundlaws.specs.Progress.{Blocked}
+use Rattle.field_roundlaws.specs.Calm.{Calm}
+use Rattle.field_roundlaws.specs.Rest.{rested}
+use Rattle.field_roundlaws.specs.Awake.{Awake, list-wakes}
+
+-- What the protocol has to show: an invariant Good of the states of accepted plan p, with these facts.
+pub record Protocol (p : Plan) (Good : State → Type 0) : Type 0 where
+  -- it holds at setup
+  pub start : (lent : List ℕ) → Good (stateOf (record { field = fresh p; words = replicate (length lent) 0 }))
+  -- every step keeps it
+  pub keeps : (kind number : ℕ) (s : State) → Sound p s → Good s → Good (step p kind number s .state)
+  -- no step is refused by 32 or 33
+  pub unrefused : (kind number : ℕ) (s : State) → Sound p s → Good s → (step p kind number s .answer ≢ 32) × (step p kind number s .answer ≢ 33)
+  -- nothing waits where every waiting message is blocked
+  pub stuck : (s : State) → Sound p s → Good s → All (Blocked p s) (s .words) → s .words ≡ []
+  -- branches are tree links
+  pub branches : (s : State) → Sound p s → Good s → (v k : ℕ) → markAt p s v k ≡ BRANCH → TreeLink p k
+  -- at rest, with module v awake, all agree
+  pub agreed : (s : State) → Sound p s → Good s → (v : ℕ) → Awake p s v → s .words ≡ [] → Agreed p s
+
+-- ---- refusals
+
+-- 51 to 54, or none
+abbrev OfSchedule : ℕ → Type 0
+OfSchedule r = (r ≡ 0) ⊎ ((51 ≤ r) × (r ≤ 54))
+
+pick : (b : Bool) (x y : ℕ) → 51 ≤ x → x ≤ 54 → OfSchedule y → OfSchedule (cond b x y)
+pick true x y l h q = inr (l, h)
+pick false x y l h q = q
+
+schedule-refusal : (bytes : List ℕ) → OfSchedule (scheduleRefusal bytes)
+unfolding scheduleRefusal
+schedule-refusal bytes =
+    pick (ltb (length bytes) 3) 51 _ (omega arith) (omega arith)
+    (pick (not (eqb (getD bytes 0 0) 1)) 52 _ (omega arith) (omega arith)
+    (pick (not (lengthFits bytes)) 53 _ (omega arith) (omega arith)
+    (pick (not (every (stepsIn bytes) (λ i. kindListed (kindOf bytes i)))) 54 0 (omega arith) (omega arith) (inl refl))))
+
+-- what a step or a run may answer
+abbrev Usual : ℕ → Type 0
+Usual r = (r ≡ 0) ⊎ ((41 ≤ r) × (r ≤ 45)) ⊎ ((51 ≤ r) × (r ≤ 54))
+
+usual-schedule : (r : ℕ) → OfSchedule r → Usual r
+usual-schedule r (inl e) = inl e
+usual-schedule r (inr h) = inr (inr h)
+
+usual-step : {s : State} {Took : State → Type 0} {a : After State} → Outcome s Took a → a .answer ≢ 32 → a .answer ≢ 33 → Usual (a .answer)
+usual-step (took h) x y = inl refl
+usual-step (kept r (inl e)) x y = absurd (x e)
+usual-step (kept r (inr (inl e))) x y = absurd (y e)
+usual-step (kept r (inr (inr (inl h)))) x y = inr (inl h)
+usual-step (kept r (inr (inr (inr e)))) x y = inr (inr (omega arith, omega arith))
+
+-- a list that is not empty has a member
+one-of : {P : ℕ → Type 0} {l : List ℕ} → l ≢ [] → All P l → (v : ℕ) × P v
+one-of n nil = absurd (n refl)
+one-of n (con {x} h t) = (x, h)
+
+module _ (p : Plan) (a : Accepted p) (Good : State → Type 0) (proto : Protocol p Good) where
+  calm : Calm p Good
+  unfolding step
+  calm = record { keeps = proto .keeps; unrefused = λ v s i g. proto .unrefused 3 v s i g; stuck = proto .stuck }
+
+  step-usual : (kind number : ℕ) (s : State) → Sound p s → Good s → Usual (step p kind number s .answer)
+  step-usual kind number s i g = let u = proto .unrefused kind number s i g in usual-step (steps p s kind number) (u .0) (u .1)
+
+  -- a call on a good state answers what it may
+  call-allowed : (c : Call) (s : State) → Sound p s → Good s → Allowed c (onState p c s .answer)
+  unfolding onState
+  call-allowed (one kind number) s i g = step-usual kind number s i g
+  call-allowed (run bytes) s i g = eqb-cases (scheduleRefusal bytes) 0
+      (λ b. Usual (cond b (scheduleRun p bytes s) (record { done = 0; answer = scheduleRefusal bytes; state = s }) .answer))
+      (λ e. runs-answer (λ x. Sound p x × Good x) Usual never (stepsIn bytes) (stepAt p bytes) s (i, g) (inl refl)
+      (λ k y l h. (
+        (step-keeps p a y (h .0) (kindOf bytes k) (numberOf bytes k), proto .keeps (kindOf bytes k) (numberOf bytes k) y (h .0) (h .1)),
+        step-usual (kindOf bytes k) (numberOf bytes k) y (h .0) (h .1),
+      )))
+      (λ n. usual-schedule (scheduleRefusal bytes) (schedule-refusal bytes))
+  call-allowed (rounds limit) s i g = rested p a Good calm s i g limit .answer
+
+  -- ---- lists of calls on what a host holds
+
+  module _ (h : Held) (i : Live h) (e : h .field .plan ≡ p) where
+    sound-held : Sound p (stateOf h)
+    sound-held = subst (λ q. Sound q (stateOf h)) e (live-sound h i)
+
+  allowed : (cs : List Call) (h : Held) → Live h → h .field .plan ≡ p → Good (stateOf h) → All (λ r. Allowed (r .call) (r .refusal)) (answers cs h)
+  unfolding answers
+  allowed [] h i e g = nil
+  allowed (c ∷ cs) h i e g =
+      let s = sound-held h i e in
+      let q : onState (h .field .plan) c (stateOf h) ≡ onState p c (stateOf h) = ap (λ x. onState x c (stateOf h)) e in
+      let next : Good (stateOf (does c h .state)) =
+      subst Good (sym (state-of-does h i c ∙ ap (λ (r : Ran State). r .state) q))
+      (call-keeps p (λ x. Sound p x × Good x) (λ kind number x k. (step-keeps p a x (k .0) kind number, proto .keeps kind number x (k .0) (k .1))) c (stateOf h) (s, g) .1) in
+      con (subst (Allowed c) (sym (answer-of-does h i c ∙ ap (λ (r : Ran State). r .answer) q)) (call-allowed c (stateOf h) s g))
+      (allowed cs (does c h .state) (does-live h i c) (plan-of-does h i c ∙ e) next)
+
+  -- what a run of rounds leaves
+  settling : (h : Held) → Live h → h .field .plan ≡ p → Good (stateOf h) → (limit : ℕ) → ceilingOf p + p .modules ≤ limit → Settles p (runRounds limit h)
+  unfolding does onState
+  settling h i e g limit l =
+      let r = rested p a Good calm (stateOf h) (sound-held h i e) g limit in
+      let q : onState (h .field .plan) (rounds limit) (stateOf h) ≡ roundsRun p limit (stateOf h) = ap (λ x. roundsRun x limit (stateOf h)) e in
+      record {
+        rest = ap (λ (s : State). s .words) (state-of-does h i (rounds limit)) ∙ ap (λ (x : Ran State). x .state .words) q ∙ r .rest l;
+        unrefused = answer-of-does h i (rounds limit) ∙ ap (λ (x : Ran State). x .answer) q ∙ r .answer;
+        within = subst (λ n. n ≤ ceilingOf p + p .modules) (sym (ap (λ (x : Ran Held). x .done) (does-state h i (rounds limit)) ∙ ap (λ (x : Ran State). x .done) q)) (r .within);
+      }
+
+  -- all of it, for a list of calls on a live field that is good and has sent nothing
+  claim : (h : Held) → Live h → h .field .plan ≡ p → Good (stateOf h) → stateOf h .sent ≡ 0 → (cs : List Call) → Claim p h cs
+  claim h i e g z cs =
+      let h′ = after cs h in
+      let i′ = after-live cs h i in
+      let e′ : h′ .field .plan ≡ p = after-plan cs h i ∙ e in
+      let g′ = list-keeps p Good (proto .keeps) cs h i e g in
+      let s′ = sound-held h′ i′ e′ in
+      let c = subst (λ q. Counted q (stateOf h) (trail cs h) (stateOf h′)) e (list-counts cs h i) in
+      let w = list-wakes p a cs h i e in
+      record {
+        branches = proto .branches (stateOf h′) s′ g′;
+        exact = c .sent ∙ omega (arith, z);
+        waiting = counted-waiting c (omega (arith, z, sound-held h i e .fits .waiting));
+        ceiling = s′ .fits .ceiling;
+        refusals = allowed cs h i e g;
+        agreed = λ n r. let k = one-of n (w .woken) in proto .agreed (stateOf h′) s′ g′ (k .0) (k .1) r;
+        settles = settling h′ i′ e′ g′;
+      }
+
+-- THE REDUCTION
+pub demand3-from : ((p : Plan) → Accepted p → (Good : State → Type 0) × Protocol p Good) → Demand3
+demand3-from proto p lent z cs =
+    let s = started p lent z in
+    let a = accepted p (s .plan) in
+    let g = proto p a in
+    subst (λ h. Claim p h cs) (sym (s .is)) (claim p a (g .0) (g .1) _ (begun-live p lent (s .plan) (s .room)) refl (g .1 .start lent) refl cs)

@@ -1,0 +1,66 @@
+-- The words while a response is settled: one leaves, what is sent goes to the end, the served one may go behind it.
+use Prim.Native.Nat.{ℕ, suc, _+_, _-_, _≤_, _<_}
+use native.Mathlib.Omega.{arith}
+use mathlib.Core.Path.{_≡_, refl, sym, ap, _∙_}
+use mathlib.Core.Logic.{_≢_, _⊎_, inl, inr}
+use mathlib.Core.List.{List, [], _∷_, _++_, append-nil}
+use lib.ListN.{length, take, length-append, drop-of-length-le}
+use lib.Seq.{length-take-le, take-all}
+use borrow.Author.Tests.{eq-eqb, ne-eqb}
+use Rattle.base.specs.Cond.{ltb-cases}
+use Rattle.format_message.specs.Msg.{Msg, change}
+use Rattle.format_message.specs.Header.{headerOf, carriedOf}
+use Rattle.node.specs.Work.{Send, Work, BACK}
+use Rattle.field.specs.Step.{without, backOf}
+use Rattle.field.specs.Held.{layout}
+use Rattle.field_words.specs.Laid.{Laid}
+use Rattle.field_words.proofs.Laid.{without-length}
+use Rattle.field_place.specs.Posted.{postedIn, Put}
+use Rattle.field_serve.specs.Holds.{Holds}
+use Rattle.field_serve.proofs.Holds.{holds, holds-count}
+
+-- a word leaves, or there is none at its place
+pub past-length : (i : ℕ) (ws : List ℕ) → length ws ≤ i → without i ws ≡ ws
+past-length i ws h = rw (take-all i ws h, drop-of-length-le ws {i = suc i} (omega arith)) (append-nil ws)
+
+module _ (lent : List ℕ) (n i : ℕ) (h : Laid lent n) where
+  pub none-out : n ≤ i → Holds lent n (length lent) (without i (take n lent))
+  none-out l = let e = past-length i (take n lent) (omega (arith, length-take-le n lent (h .within))) in rw e (record { waits = refl; laid = h; size = refl })
+
+  pub one-out : i < n → (last : List ℕ) → last ≡ layout (length lent) (without i (take n lent)) → Holds last (n - 1) (length lent) (without i (take n lent))
+  one-out l last q =
+      let k = length-take-le n lent (h .within) in
+      holds last (n - 1) (length lent) (without i (take n lent)) q (omega (arith, without-length i (take n lent) (omega arith))) (omega (arith, h .within))
+
+-- the put-back word
+module _ (w : Work) (x a : ℕ) (e : w .answer ≡ a) where
+  pub not-back : a ≢ BACK → backOf w x ≡ []
+  unfolding backOf
+  not-back n = rw (ne-eqb (w .answer) BACK (λ q. n (sym e ∙ q)))
+
+  pub is-back : a ≡ BACK → x ∷ [] ≡ backOf w x
+  unfolding backOf
+  is-back h = rw (eq-eqb (w .answer) BACK (e ∙ h))
+
+-- room for c messages behind the words that are left, and for the put-back word behind them
+module _ (lent mid : List ℕ) (n i l c : ℕ) (laid : Laid lent n) (h : Holds mid l (length lent) (without i (take n lent))) (room : n + c ≤ length lent) where
+  gone : i < n → suc l ≡ n
+  gone k = let e = length-take-le n lent (laid .within) in omega (arith, holds-count h, without-length i (take n lent) (omega arith))
+
+  pub room-place : l + c ≤ length mid
+  room-place = ltb-cases i n (λ b. l + c ≤ length mid) (λ k. omega (arith, gone k, h .size))
+      (λ k. let e = length-take-le n lent (laid .within) in omega (arith, holds-count h, ap length (past-length i (take n lent) (omega arith)), h .size))
+
+  pub room-back : {lower : List ℕ} {v header carried : ℕ} {s : List ℕ → List ℕ → Msg → List Send} {after : List ℕ} {m : ℕ} (answer : ℕ) → Put lower v header carried s mid l after m
+      → c ≡ length (s [] [] change) → (i < n) ⊎ (answer ≢ BACK) → answer ≡ BACK → m < length after
+  room-back answer p e (inl k) q = omega (arith, gone k, h .size, p .same, p .many [] [] change)
+  room-back answer p e (inr d) q = absurd (d q)
+
+-- what is sent stands behind the words that were left
+pub put-holds : {lower : List ℕ} {v header carried : ℕ} {s : List ℕ → List ℕ → Msg → List Send} (mid : List ℕ) (l : ℕ) {after : List ℕ} {m : ℕ} → Laid mid l
+    → Put lower v header carried s mid l after m → (near far : List ℕ) (msg : Msg) → headerOf msg ≡ header → carriedOf msg ≡ carried
+    → Holds after m (length mid) (take l mid ++ postedIn lower v (s near far msg))
+put-holds {lower} {v} {header} {carried} {s} mid l {after} {m} laid p near far msg eh ec =
+    let q = p .posted near far msg eh ec in
+    holds after m (length mid) (take l mid ++ postedIn lower v (s near far msg)) (q .is)
+    (omega (arith, q .many, length-append (take l mid) (postedIn lower v (s near far msg)), length-take-le l mid (laid .within))) (omega (arith, p .laid .within, p .same))

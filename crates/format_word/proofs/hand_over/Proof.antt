@@ -1,0 +1,12 @@
+-- `|` and `&` of two numbers have their sum; `&` with 2 ^ 40 is bit 40.
+use Prim.Native.Nat.{_^_}
+use native.Mathlib.Omega.{arith}
+use lib.Bits.{or-add-and, and-high}
+use Rattle.format_word.proofs.hand_over.Statement.{statement}
+use Rattle.format_word.proofs.hand_over.Tie as tie
+
+returns : tie.Need-returns
+returns c = omega (arith, or-add-and (c .args .w) (2 ^ 40), and-high (c .args .w) 1 40)
+
+pub hand-over-spec : {M : Type 1} → statement M
+hand-over-spec = tie.close (tie.spec returns)

@@ -1,0 +1,43 @@
+// The whole job on one plan: setup, a wake of module 0, rounds until the field is at rest.
+use field::Field;
+use plan::Plan;
+ghost use mathlib.Core.Path.{_≡_};
+ghost use Rattle.host_job.specs.Settled.{settled};
+
+// rounds: rounds completed. refusal: 14 to 19, 21 or 0; no other can occur (specs/Agrees).
+pub struct Settled {
+    pub rounds: u16,
+    pub refusal: u32,
+    pub field: Field,
+}
+
+pub fn settle(p: Plan, words: &mut [u64]) -> Settled
+    ensures { λ r. ⌜ record { done = r .rounds; answer = r .refusal; state = record { field = r .field; words = now (words .exit) } }
+        ≡ settled p (now (words .entry)) ⌝ }
+{
+    let s = host_setup::setup(p, words);
+    let start = s.field;
+    if s.refusal != 0 {
+        return Settled {
+            rounds: 0,
+            refusal: s.refusal,
+            field: start,
+        };
+    }
+    let w = host_run::step(start, words, 1, 0);
+    let woken = w.field;
+    if w.answer != 0 {
+        return Settled {
+            rounds: 0,
+            refusal: w.answer,
+            field: woken,
+        };
+    }
+    let r = host_rounds::run(woken, words, 65535);
+    let end = r.field;
+    Settled {
+        rounds: r.rounds,
+        refusal: r.refusal,
+        field: end,
+    }
+}

@@ -1,0 +1,36 @@
+use mathlib.Core.Path.{refl, _∙_}
+use borrow.Author.Needs.{needs}
+use Rattle.field_serve.proofs.Ready.{hands}
+use Rattle.field_serve.proofs.Turns.{renamed}
+use Rattle.host_rounds.proofs.Turns.{hand-phase-sound, round-on, round-off}
+use Rattle.host_rounds.proofs.round.round.Statement.{statement}
+use Rattle.host_rounds.proofs.round.round.Tie as tie
+
+hand-phase-requires : tie.Need-hand-phase-requires
+hand-phase-requires c κs = let r = c .before .before .pre in (r .laid, r .plan .linksOk)
+
+returns : tie.Need-returns
+returns c =
+    let t = c .before in
+    let h = t .before .before .before in
+    let r = h .before .before .before .pre in
+    renamed (hands _ _ _ _ _ _ r _ (hand-phase-sound _ _ (r .plan) (r .sound)) (h .hand-phase .ensures) (search needs) (c .left .ensures))
+    (round-off _ _ _ (h .hand-phase .ensures .is _ _ _ _ refl) (t .if1 .taken))
+
+serve-phase-requires : tie.Need-serve-phase-requires
+serve-phase-requires c κs =
+    let h = c .before .before .before .before .before .before in
+    let r = h .before .before .before .pre in
+    hands _ _ _ _ _ _ r _ (hand-phase-sound _ _ (r .plan) (r .sound)) (h .hand-phase .ensures) (search needs) refl .ready
+
+returns-2 : tie.Need-returns-2
+returns-2 c =
+    let t = c .before .before in
+    let i = t .before .before .before .before in
+    let h = i .before .before .before in
+    record { is = t .serve-phase .ensures .is ∙ round-on _ _ _ (h .hand-phase .ensures .is _ _ _ _ refl) (i .if1 .left); ready = t .serve-phase .ensures .ready }
+
+pub round-spec : {M : Type 1} → statement M
+round-spec =
+    tie.close
+    (tie.spec hand-phase-requires (λ c κs. search needs) (λ c. search needs) returns serve-phase-requires (λ c. search needs) returns-2)

@@ -1,0 +1,57 @@
+// A run of rounds over a field.
+mod air;
+mod queue;
+mod round;
+
+use field_admit;
+use field::Field;
+ghost use mathlib.Core.Path.{_≡_};
+ghost use Rattle.field_calls.specs.Call.{runRounds};
+
+// rounds: rounds completed. refusal: the one that ended the run, or 0.
+pub struct Rounds {
+    pub rounds: u16,
+    pub refusal: u32,
+    pub field: Field,
+}
+
+// A run's end: rounds completed, the refusal that ended it or 0, and the field that it leaves.
+fn after(rounds: u16, refusal: u32, field: Field) -> Rounds
+    ensures { λ r. ⌜ r ≡ record { rounds = rounds; refusal = refusal; field = field } ⌝ }
+{
+    Rounds {
+        rounds: rounds,
+        refusal: refusal,
+        field: field,
+    }
+}
+
+// Rounds until the field is at rest, up to the limit. 31 is checked first, and once.
+pub fn run(f: Field, words: &mut [u64], limit: u16) -> Rounds
+    ensures { λ r. ⌜ record { done = r .rounds; answer = r .refusal; state = record { field = r .field; words = now (words .exit) } }
+        ≡ runRounds limit (record { field = f; words = now (words .entry) }) ⌝ }
+{
+    let c = field_admit::admit(f, words);
+    if !c.ok {
+        return after(0, 31, f);
+    }
+    let p = f.plan;
+    let mut cells = f.cells;
+    let mut marks = f.marks;
+    let w = round::rounds(
+        p.modules,
+        p.links,
+        &p.lower,
+        &p.higher,
+        &p.near,
+        &p.far,
+        &mut cells,
+        &mut marks,
+        words,
+        c.waiting,
+        f.sent,
+        limit,
+    );
+    let g = field_admit::rebuilt(f, cells, marks, w.last.sent);
+    after(w.done, w.last.answer, g)
+}

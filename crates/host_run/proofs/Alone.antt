@@ -1,0 +1,74 @@
+-- The calls of a host for a step alone and for a schedule: 31, then the steps over the field's arrays, then the field put together again.
+use Prim.Native.Nat.{ℕ}
+use mathlib.Core.Path.{_≡_, refl, sym, ap, _∙_}
+use mathlib.Core.Logic.{_≢_}
+use mathlib.Core.Bool.{true, false, not}
+use mathlib.Core.List.{List}
+use lib.ListN.{length}
+use borrow.Author.Tests.{ne-eqb, eq-eqb}
+use Rattle.base.specs.Loop.{After, refused}
+use Rattle.field.specs.declared.Field.{Field}
+use Rattle.field.specs.State.{State}
+use Rattle.field.specs.Step.{step}
+use Rattle.field.specs.Held.{Held, heldOf, valid, stepAlone}
+use Rattle.field.specs.Held as H
+use Rattle.field_calls.specs.Schedule.{scheduleRefusal, scheduleRun}
+use Rattle.field_calls.specs.Call.{refusedRun, laidBack, runBytes}
+use Rattle.field_check.specs.declared.Checked.{Checked}
+use Rattle.field_check.specs.Checked.{checkOf}
+use Rattle.field_serve.specs.declared.Done.{Done}
+use Rattle.field_serve.specs.Lent.{Advances, Runs}
+use Rattle.field_admit.specs.Admitted.{invalid, passes, starts, again}
+
+-- a step's end, with the words laid out again
+abbrev put : Held → After State → After Held
+put h a = record { answer = a .answer; state = heldOf h (a .state) }
+
+module _ (h : Held) where
+  step-refused : (kind number : ℕ) → valid h ≡ false → refused 31 h ≡ stepAlone kind number h
+  unfolding stepAlone
+  step-refused kind number e = rw e refl
+
+  step-goes : (kind number : ℕ) → valid h ≡ true → put h (step (h .field .plan) kind number (H.stateOf h)) ≡ stepAlone kind number h
+  unfolding stepAlone
+  step-goes kind number e = rw e refl
+
+  run-refused : (bytes : List ℕ) → valid h ≡ false → refusedRun 31 h ≡ runBytes bytes h
+  unfolding runBytes
+  run-refused bytes e = rw e refl
+
+  run-bad : (bytes : List ℕ) → valid h ≡ true → scheduleRefusal bytes ≢ 0 → refusedRun (scheduleRefusal bytes) h ≡ runBytes bytes h
+  unfolding runBytes
+  run-bad bytes e n = simp (e, ne-eqb (scheduleRefusal bytes) 0 n)
+
+  run-goes : (bytes : List ℕ) → valid h ≡ true → scheduleRefusal bytes ≡ 0 → laidBack h (scheduleRun (h .field .plan) bytes (H.stateOf h)) ≡ runBytes bytes h
+  unfolding runBytes
+  run-goes bytes e z = simp (e, eq-eqb (scheduleRefusal bytes) 0 z)
+
+module _ (f : Field) (lent : List ℕ) (c : Checked) (e : c ≡ checkOf (record { field = f; words = lent })) where
+  abbrev h : Held
+  h = record { field = f; words = lent }
+
+  pub step-31 : (kind number : ℕ) → not (c .ok) ≡ true → refused 31 h ≡ stepAlone kind number h
+  step-31 kind number n = step-refused h kind number (invalid f lent c e n)
+
+  pub run-31 : (bytes : List ℕ) → not (c .ok) ≡ true → refusedRun 31 h ≡ runBytes bytes h
+  run-31 bytes n = run-refused h bytes (invalid f lent c e n)
+
+  module _ (y : not (c .ok) ≡ false) where
+    pub step-done : (kind number : ℕ) (d : Done) (cells marks words : List ℕ)
+        → Advances (λ p. step p kind number) (f .plan) (f .cells) (f .marks) lent (c .waiting) (f .sent) d cells marks words → length words ≡ length lent
+        → record { answer = d .answer; state = record { field = record { plan = f .plan; cells = cells; marks = marks; sent = d .sent }; words = words } } ≡ stepAlone kind number h
+    step-done kind number d cells marks words q k =
+        ap (λ (x : Held). record { answer = d .answer; state = x }) (again f lent cells marks words (d .waiting) (d .sent) (q .ready .laid) k)
+        ∙ ap (put h) (q .is ∙ ap (step (f .plan) kind number) (starts f lent c e)) ∙ step-goes h kind number (passes f lent c e y)
+
+    pub run-54 : (bytes : List ℕ) (bad : ℕ) → bad ≡ scheduleRefusal bytes → bad ≢ 0 → refusedRun bad h ≡ runBytes bytes h
+    run-54 bytes bad b n = ap (λ (x : ℕ). refusedRun x h) b ∙ run-bad h bytes (passes f lent c e y) (λ z. n (b ∙ z))
+
+    pub run-done : (bytes : List ℕ) (bad : ℕ) → bad ≡ scheduleRefusal bytes → bad ≡ 0 → (done : ℕ) (d : Done) (cells marks words : List ℕ)
+        → Runs (λ p. scheduleRun p bytes) (f .plan) (f .cells) (f .marks) lent (c .waiting) (f .sent) done d cells marks words → length words ≡ length lent
+        → record { done = done; answer = d .answer; state = record { field = record { plan = f .plan; cells = cells; marks = marks; sent = d .sent }; words = words } } ≡ runBytes bytes h
+    run-done bytes bad b z done d cells marks words q k =
+        ap (λ (x : Held). record { done = done; answer = d .answer; state = x }) (again f lent cells marks words (d .waiting) (d .sent) (q .ready .laid) k)
+        ∙ ap (laidBack h) (q .is ∙ ap (scheduleRun (f .plan) bytes) (starts f lent c e)) ∙ run-goes h bytes (passes f lent c e y) (sym b ∙ z)

@@ -1,0 +1,40 @@
+-- A step by its kind.
+use Prim.Native.Nat.{ℕ}
+use mathlib.Core.Path.{_≡_, refl, ap, _∙_}
+use mathlib.Core.Logic.{_≢_}
+use mathlib.Core.List.{List}
+use borrow.Author.Tests.{ne-eqb}
+use Rattle.base.specs.Loop.{refused}
+use Rattle.plan.specs.declared.Plan.{Plan}
+use Rattle.field.specs.State.{State}
+use Rattle.field.specs.Step.{wake, hand, serve, step}
+use Rattle.field_calls.specs.Schedule.{kindOf, numberOf, stepAt}
+use Rattle.field_words.specs.Hands.{stateOf}
+use Rattle.field_serve.specs.declared.Done.{Done}
+use Rattle.field_serve.specs.Lent.{Advances}
+use Rattle.field_serve.proofs.Turns.{renamed}
+
+module _ (p : Plan) (kind number : ℕ) (s : State) where
+  pub is-wake : kind ≡ 1 → wake p number s ≡ step p kind number s
+  unfolding step
+  is-wake e = rw e refl
+
+  pub is-hand : kind ≡ 2 → hand p number s ≡ step p kind number s
+  unfolding step
+  is-hand e = rw e refl
+
+  pub is-serve : kind ≡ 3 → serve p number s ≡ step p kind number s
+  unfolding step
+  is-serve e = rw e refl
+
+  pub is-none : kind ≢ 1 → kind ≢ 2 → kind ≢ 3 → step p kind number s ≡ refused 54 s
+  unfolding step
+  is-none a b c = simp (ne-eqb kind 1 a, ne-eqb kind 2 b, ne-eqb kind 3 c)
+
+-- the step that was read from the bytes is the schedule's
+pub read-step : {p : Plan} (bytes : List ℕ) (k : ℕ) {kind number : ℕ} {cells marks lent cells′ marks′ lent′ : List ℕ} {n sent : ℕ} {d : Done}
+    → Advances (λ p. step p kind number) p cells marks lent n sent d cells′ marks′ lent′ → kind ≡ kindOf bytes k → number ≡ numberOf bytes k
+    → Advances (λ p. stepAt p bytes k) p cells marks lent n sent d cells′ marks′ lent′
+read-step {p} bytes k {kind} {number} {cells} {marks} {lent} {n = n} {sent = sent} x a b =
+    let s = stateOf cells marks lent n sent in
+    renamed x (ap (λ (y : ℕ). step p y number s) a ∙ ap (λ (y : ℕ). step p (kindOf bytes k) y s) b)

@@ -1,0 +1,34 @@
+use borrow.Author.Needs.{needs}
+use borrow.Author.Tests.{not-false}
+use Rattle.host_run.proofs.Alone.{step-31, step-done}
+use Rattle.host_run.proofs.step.Statement.{statement}
+use Rattle.host_run.proofs.step.Tie as tie
+
+returns : tie.Need-returns
+returns c = let t = c .before in rw (c .with-answer .ensures) (step-31 _ _ _ (t .before .before .admit .ensures .0) _ _ (t .if1 .taken))
+
+step-requires : tie.Need-step-requires
+step-requires c κs =
+    let o = c .before .before .before .before .before .before .before .before .before .before .before in
+    o .before .before .admit .ensures .1 (not-false _ (o .if1 .left))
+
+returns-2 : tie.Need-returns-2
+returns-2 c =
+    let g = c .before in
+    let r = g .before .before .before in
+    let o = r .before .before .before .before .before .before .before .before .before .before .before .before in
+    rw (c .with-answer2 .ensures, g .rebuilt .ensures) (step-done _ _ _ (o .before .before .admit .ensures .0) (o .if1 .left) _ _ _ _ _ _ (r .step .ensures) (search needs))
+
+pub step-spec : {M : Type 1} → statement M
+step-spec =
+    tie.close
+    (tie.spec
+    (λ c κs. search needs)
+    (λ c κs. search needs)
+    (λ c. search needs)
+    returns
+    step-requires
+    (λ c κs. search needs)
+    (λ c κs. search needs)
+    (λ c. search needs)
+    returns-2)

@@ -1,0 +1,35 @@
+use Prim.Native.Nat.{ℕ, _-_, _≤_}
+use native.Mathlib.Omega.{arith}
+use mathlib.Core.List.{List}
+use mathlib.Core.Path.{_≡_, ap, _∙_}
+use borrow.Author.Needs.{needs}
+use Rattle.field.specs.Held.{freshCells}
+use Rattle.field.specs.State.{CELLS, putNode}
+use Rattle.node.specs.Work.{setup}
+use Rattle.host_setup.proofs.Fresh.{laid, laid-none, laid-more, laid-all}
+use Rattle.host_setup.proofs.lay_cells.Statement.{statement}
+use Rattle.host_setup.proofs.lay_cells.Tie as tie
+
+abbrev Inv-loop : tie.InvT-loop
+Inv-loop cells₀ n v₀ cells v = (v ≤ 192) × (cells ≡ laid CELLS v)
+
+abbrev μ-loop : tie.MeasureT-loop
+μ-loop cells₀ n v₀ cells v = 192 - v
+
+loop-holds : tie.Need-loop-holds Inv-loop μ-loop
+loop-holds c = (search needs, c .pre ∙ laid-none CELLS)
+
+loop-again : tie.Need-loop-again Inv-loop μ-loop
+loop-again c =
+    let e = c .before .before .before in
+    (omega arith, c .put-node .ensures ∙ ap (λ (l : List ℕ). putNode l (e .loop .v) setup) (e .loop .inv .1) ∙ laid-more CELLS (e .loop .v) (omega arith))
+
+returns : tie.Need-returns Inv-loop μ-loop
+returns c =
+    let e : c .before .loop .v ≡ 192 = omega arith in
+    c .before .loop .inv .1 ∙ laid-all CELLS (c .before .loop .v) (omega arith) ∙ ap freshCells e
+
+pub lay-cells-spec : {M : Type 1} → statement M
+lay-cells-spec =
+    tie.close
+    (tie.spec Inv-loop μ-loop loop-holds (λ c κs. search needs) (λ c. search needs) (λ c. search needs) loop-again returns)

@@ -1,0 +1,39 @@
+-- `reply::absorb` meets its contract.
+use borrow.Author.Needs.{needs}
+use mathlib.Core.Path.{sym, _∙_}
+use native.Mathlib.Omega.{arith}
+use Rattle.node_response.specs.Laws.{told-as, then, sets-node}
+use Rattle.node.specs.Laws.{absorb-find, absorb-found, count-refused, count-rises}
+use Rattle.node_joining.proofs.absorb.Statement.{statement}
+use Rattle.node_joining.proofs.absorb.Tie as tie
+
+returns : tie.Need-returns
+returns c = λ near far m cs. told-as (c .join .ensures m cs) (sym (absorb-found _ _ _ (c .before .if1 .taken)))
+
+returns-2 : tie.Need-returns-2
+returns-2 c =
+    let t = c .before .before in
+    let d = t .before .before in
+    λ near far m cs. told-as (then (c .refuse .ensures m cs) (c .before .join2 .ensures m cs))
+    (sym (absorb-find _ _ _ (d .before .if1 .left) ∙ count-refused _ _ _ (omega (arith, t .if2 .taken, d .degree .ensures .0 near far))))
+
+returns-3 : tie.Need-returns-3
+returns-3 c =
+    let t = c .before .before .before in
+    let d = t .before .before in
+    λ near far m cs. told-as (then (c .join3 .ensures m cs) (sets-node m cs _ _))
+    (sym (absorb-find _ _ _ (d .before .if1 .left) ∙ count-rises _ _ _ (omega (arith, t .if2 .left, d .degree .ensures .0 near far))))
+
+pub absorb-spec : {M : Type 1} → statement M
+absorb-spec =
+    tie.close
+    (tie.spec
+    (λ c κs. search needs)
+    returns
+    (λ c κs. search needs)
+    (λ c κs. search needs)
+    (λ c κs. search needs)
+    returns-2
+    (λ c. search needs)
+    (λ c κs. search needs)
+    returns-3)

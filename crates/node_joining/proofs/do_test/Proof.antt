@@ -1,0 +1,12 @@
+-- `reply::do_test` meets its contract.
+use borrow.Author.Needs.{needs}
+use Rattle.node_response.specs.Laws.{told-as}
+use Rattle.node_joining.specs.Laws.{test-same}
+use Rattle.node_joining.proofs.do_test.Statement.{statement}
+use Rattle.node_joining.proofs.do_test.Tie as tie
+
+returns : tie.Need-returns
+returns c = λ cs. told-as (c .test-on .ensures _ cs) (test-same _ (c .before .earliest-basic .ensures))
+
+pub do-test-spec : {M : Type 1} → statement M
+do-test-spec = tie.close (tie.spec (λ c κs. search needs) (λ c κs. search needs) returns)

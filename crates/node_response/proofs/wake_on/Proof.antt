@@ -1,0 +1,28 @@
+-- `act::wake_on` meets its contract.
+use Prim.Native.Nat.{ℕ}
+use borrow.Author.Needs.{needs}
+use mathlib.Core.List.{[]}
+use mathlib.Core.Path.{refl, sym, ap}
+use Rattle.node_response.specs.Laws.{told-as, then, sets-node, marks-edge}
+use Rattle.format_message.specs.Msg.{connect}
+use Rattle.node.specs.Laws.{wake-alone, wake-edge}
+use Rattle.node.specs.Work.{Work}
+use Rattle.node_response.proofs.wake_on.Statement.{statement}
+use Rattle.node_response.proofs.wake_on.Tie as tie
+
+returns : tie.Need-returns
+returns c = (λ m cs. told-as (sets-node m cs _ _) (sym (wake-alone _ _ (c .if1 .taken))), c .before .pre .2, refl)
+
+returns-2 : tie.Need-returns-2
+returns-2 c =
+    let e1 = c .before .before in
+    let p = e1 .before .pre in
+    let zeros : ℕ → ℕ = λ k. 0 in (
+      λ m cs. told-as (then (c .say .ensures m cs .does _ _ (c .before .a-connect .ensures) (e1 .if1 .left)) (then (marks-edge m cs _ _ _ (p .0) (e1 .if1 .left)) (sets-node m cs _ _)))
+          (sym (wake-edge _ _ (e1 .if1 .left))),
+      c .say .ensures zeros [] .room (p .1),
+      ap (λ (w : Work). w .node .level) (c .say .ensures zeros [] .does (e1 .before .args .k) (connect 0) (c .before .a-connect .ensures) (e1 .if1 .left) .work),
+    )
+
+pub wake-on-spec : {M : Type 1} → statement M
+wake-on-spec = tie.close (tie.spec returns (λ c κs. search needs) (λ c κs. search needs) returns-2)

@@ -1,0 +1,26 @@
+-- `answer::strike` meets its contract.
+use Prim.Native.Nat.{ℕ}
+use borrow.Author.Needs.{needs}
+use lib.Dec.{eqb}
+use mathlib.Core.Bool.{cond}
+use mathlib.Core.Path.{refl, ap, _∙_}
+use native.Mathlib.Omega.{arith}
+use Rattle.node_response.specs.Laws.{told-as, marks-edge}
+use Rattle.node_searching.specs.Laws.{strike-with}
+use Rattle.node_edges.specs.Laws.{own-below}
+use Rattle.node_searching.proofs.strike.Statement.{statement}
+use Rattle.node_searching.proofs.strike.Tie as tie
+
+mark-of-requires : tie.Need-mark-of-requires
+mark-of-requires c κs = omega (arith, own-below _ _ _ _ _ (c .pre .1))
+
+returns : tie.Need-returns
+returns c =
+    let p = c .before .before .pre in (
+      λ cs. told-as (marks-edge _ cs _ _ _ (p .2) (λ h. omega (arith, own-below _ _ _ _ _ (p .1))))
+          (strike-with _ _ _ (c .struck .ensures ∙ ap (λ (y : ℕ). cond (eqb y 0) 2 y) (c .before .mark-of .ensures _ _ (p .1)))),
+      refl,
+    )
+
+pub strike-spec : {M : Type 1} → statement M
+strike-spec = tie.close (tie.spec mark-of-requires (λ c κs. search needs) returns)

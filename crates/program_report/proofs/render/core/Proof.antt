@@ -1,0 +1,39 @@
+use mathlib.Core.Path.{sym, ap, _∙_}
+use mathlib.Core.List.{_++_}
+use borrow.Author.Needs.{needs}
+use Rattle.format_text.specs.Ascii.{ascii}
+use Rattle.format_text.specs.Put.{put, put-on}
+use Rattle.program_report.specs.Text.{endsText, core-none, core-some}
+use Rattle.program_report.proofs.render.core.Statement.{statement}
+use Rattle.program_report.proofs.render.core.Tie as tie
+
+returns : tie.Need-returns
+returns c =
+    let call = c .before .before in
+    call .put .ensures ∙ ap (put _) (sym (core-none _ _ (call .before .before .before .if1 .taken)))
+
+returns-2 : tie.Need-returns-2
+returns-2 c =
+    let third = c .before .before in
+    let second = third .before .before .before .before .before in
+    let first = second .before .before .before .before in
+    put-on _ (ascii "core" ++ endsText _ _) (ascii "\n")
+    (put-on _ (ascii "core") (endsText _ _) (first .put2 .ensures) (second .ends .ensures))
+    (third .put3 .ensures)
+    ∙ ap (put _) (sym (core-some _ _ (first .before .before .before .if1 .left)))
+
+pub core-spec : {M : Type 1} → statement M
+core-spec =
+    tie.close
+    (tie.spec
+    (λ c. search needs)
+    (λ c κs. search needs)
+    (λ c. search needs)
+    returns
+    (λ c. search needs)
+    (λ c κs. search needs)
+    (λ c κs. search needs)
+    (λ c. search needs)
+    (λ c κs. search needs)
+    (λ c. search needs)
+    returns-2)

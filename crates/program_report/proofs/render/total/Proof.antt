@@ -1,0 +1,58 @@
+use Prim.Native.Nat.{_≤_, _*_, _-_}
+use native.Mathlib.Omega.{arith}
+use mathlib.Core.Path.{_≡_, refl, sym, ap, _∙_}
+use mathlib.Core.Logic.{⊎-elim}
+use borrow.Author.Needs.{needs}
+use Rattle.program_report.specs.Text.{capped}
+use Rattle.plan.specs.Weights.{costIn}
+use Rattle.program_report.specs.Total.{total, total-branch, total-other}
+use Rattle.program_report.proofs.render.total.Statement.{statement}
+use Rattle.program_report.proofs.render.total.Tie as tie
+
+abbrev Inv-loop : tie.InvT-loop
+Inv-loop p marks n sum₀ k₀ sum k = (k ≤ n) × (n ≤ 600) × (sum ≤ 4294967295 * k) × (sum ≡ total p marks k)
+
+abbrev μ-loop : tie.MeasureT-loop
+μ-loop p marks n sum₀ k₀ sum k = n - k
+
+loop-holds : tie.Need-loop-holds Inv-loop μ-loop
+unfolding total
+loop-holds c =
+    (omega arith, capped _ _ _ (c .at-most .ensures), omega arith, refl)
+
+loop-again : tie.Need-loop-again Inv-loop μ-loop
+unfolding costIn
+loop-again c =
+    let at = c .before .before .loop in
+    ⊎-elim
+    (λ w. (omega arith, omega arith, omega arith, w .4 ∙ rw (at .inv .3, w .3 .ensures) (sym (total-branch _ _ _ (w .0 .taken)))))
+    (λ w. (omega arith, omega arith, omega arith, w .1 ∙ at .inv .3 ∙ sym (total-other _ _ _ (w .0 .left))))
+    (c .if1 .came)
+
+returns : tie.Need-returns Inv-loop μ-loop
+returns c =
+    let at = c .before in
+    let end : at .loop .k ≡ at .before .at-most .result = omega arith in
+    at .loop .inv .3 ∙ ap (total _ _) (end ∙ at .before .at-most .ensures)
+
+pub total-spec : {M : Type 1} → statement M
+total-spec =
+    tie.close
+    (tie.spec
+    Inv-loop
+    μ-loop
+    (λ c κs. search needs)
+    loop-holds
+    (λ c. search needs)
+    (λ c. search needs)
+    (λ c. search needs)
+    (λ c. search needs)
+    (λ c. search needs)
+    (λ c. search needs)
+    (λ c κs. search needs)
+    (λ c. search needs)
+    (λ c. search needs)
+    (λ c. search needs)
+    (λ c. search needs)
+    loop-again
+    returns)

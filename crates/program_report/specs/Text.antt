@@ -1,0 +1,134 @@
+-- What the reporting program prints of a field and a number of rounds. (Document 01, samples, has one whole.)
+use Prim.Native.Nat.{ℕ, zero, suc, _+_, _*_, _≤_, _<_, min}
+use native.Mathlib.Omega.{arith}
+use native.Mathlib.Numerals.{add-one}
+use mathlib.Core.Path.{_≡_, refl}
+use mathlib.Core.Logic.{_≢_}
+use mathlib.Core.Bool.{cond}
+use mathlib.Core.List.{List, [], _++_}
+use lib.ListN.{getD}
+use lib.Dec.{eqb, ltb}
+use borrow.Author.Tests.{eq-eqb, ne-eqb, lt-ltb, le-ltb}
+use Rattle.format_text.specs.Ascii.{ascii}
+pub use Rattle.format_text.specs.Lines.{named, line}
+use Rattle.format_text.specs.Put.{Page, put, put-on}
+use Rattle.plan.specs.declared.Plan.{Plan}
+use Rattle.plan.specs.Weights.{cost, costOf, costIn}
+use Rattle.plan.specs.Ceiling.{ceiling}
+use Rattle.node.specs.declared.Node.{Node}
+use Rattle.field.specs.declared.Field.{Field}
+use Rattle.field.specs.State.{nodeIn}
+use Rattle.program_report.specs.Total.{total}
+
+abbrev pub headText : ℕ → ℕ → List ℕ
+headText n l = line "modules " n ++ line "links " l
+
+-- "Branch lines give lower, higher and cost": one for a link whose mark is 1
+abbrev pub branchLine : ℕ → ℕ → ℕ → List ℕ
+branchLine lower higher c = named "branch " lower ++ named " " higher ++ line " " c
+
+unfoldable pub branchText : ℕ → ℕ → ℕ → ℕ → List ℕ
+branchText mark lower higher c = cond (eqb mark 1) (branchLine lower higher c) []
+
+-- "by link number": of the links below k, by the lower end's mark. At rest both ends say the same (demand 3).
+unfoldable pub branchLines : Plan → List ℕ → ℕ → List ℕ
+branchLines p marks zero = []
+branchLines p marks (suc k) =
+    branchLines p marks k ++ branchText (getD marks (2 * k) 0) (getD (p .lower) k 0) (getD (p .higher) k 0) (cost p k)
+
+-- "core names the halted ends": of the modules below v, by number
+unfoldable pub endText : ℕ → ℕ → List ℕ
+endText halted v = cond (eqb halted 1) (named " " v) []
+
+unfoldable pub endsText : List ℕ → ℕ → List ℕ
+endsText cells zero = []
+endsText cells (suc v) = endsText cells v ++ endText (nodeIn cells v .halted) v
+
+-- "or "core none" for N = 1"
+unfoldable pub coreText : ℕ → List ℕ → List ℕ
+coreText n cells = cond (ltb n 2) (ascii "core none\n") (ascii "core" ++ endsText cells (min n 192) ++ ascii "\n")
+
+-- "then sent and M, rounds completed"
+abbrev pub tailText : ℕ → ℕ → ℕ → List ℕ
+tailText sent most rounds = named "messages " sent ++ line " of " most ++ line "rounds " rounds
+
+-- The whole. (An accepted plan has no more than 600 links and 192 modules, and a field has room for no more.)
+unfoldable pub reportText : Field → ℕ → List ℕ
+reportText f rounds =
+    headText (f .plan .modules) (f .plan .links)
+    ++ branchLines (f .plan) (f .marks) (min (f .plan .links) 600)
+    ++ line "total " (total (f .plan) (f .marks) (min (f .plan .links) 600))
+    ++ coreText (f .plan .modules) (f .cells)
+    ++ tailText (f .sent) (ceiling (f .plan .modules) (f .plan .links)) rounds
+
+-- its five parts, each put on what the part before left
+pub report-parts : (f : Field) (rounds : ℕ) (p : Page) {q₁ q₂ q₃ q₄ q₅ : Page}
+    → q₁ ≡ put p (headText (f .plan .modules) (f .plan .links))
+    → q₂ ≡ put q₁ (branchLines (f .plan) (f .marks) (min (f .plan .links) 600))
+    → q₃ ≡ put q₂ (line "total " (total (f .plan) (f .marks) (min (f .plan .links) 600)))
+    → q₄ ≡ put q₃ (coreText (f .plan .modules) (f .cells))
+    → q₅ ≡ put q₄ (tailText (f .sent) (ceiling (f .plan .modules) (f .plan .links)) rounds)
+    → q₅ ≡ put p (reportText f rounds)
+unfolding reportText
+report-parts f rounds p e₁ e₂ e₃ e₄ e₅ =
+    let h = headText (f .plan .modules) (f .plan .links) in
+    let b = branchLines (f .plan) (f .marks) (min (f .plan .links) 600) in
+    let t = line "total " (total (f .plan) (f .marks) (min (f .plan .links) 600)) in
+    let k = coreText (f .plan .modules) (f .cells) in
+    put-on p (h ++ b ++ t ++ k) _ (put-on p (h ++ b ++ t) k (put-on p (h ++ b) t (put-on p h b e₁ e₂) e₃) e₄) e₅
+
+-- the same of a plan that a field has room for, each part as it is known to be
+pub report-of : (f : Field) (rounds : ℕ) (p : Plan) → f .plan ≡ p → p .links ≤ 600 → {b k : List ℕ} {t : ℕ}
+    → branchLines p (f .marks) (p .links) ≡ b → total p (f .marks) (p .links) ≡ t → coreText (p .modules) (f .cells) ≡ k
+    → reportText f rounds
+    ≡ headText (p .modules) (p .links) ++ b ++ line "total " t ++ k ++ tailText (f .sent) (ceiling (p .modules) (p .links)) rounds
+unfolding reportText
+report-of f rounds p e l eb et ek = let all : min (p .links) 600 ≡ p .links = omega arith in rw (e, all, eb, et, ek) refl
+
+-- For code: which line, one turn more.
+module _ (mark lower higher c : ℕ) where
+  pub branch-none : mark ≢ 1 → branchText mark lower higher c ≡ []
+  unfolding branchText
+  branch-none h = simp (ne-eqb _ _ h)
+
+  pub branch-one : mark ≡ 1 → branchText mark lower higher c ≡ branchLine lower higher c
+  unfolding branchText
+  branch-one h = simp (eq-eqb _ _ h)
+
+module _ (halted v : ℕ) where
+  pub end-none : halted ≢ 1 → endText halted v ≡ []
+  unfolding endText
+  end-none h = simp (ne-eqb _ _ h)
+
+  pub end-one : halted ≡ 1 → endText halted v ≡ named " " v
+  unfolding endText
+  end-one h = simp (eq-eqb _ _ h)
+
+module _ (n : ℕ) (cells : List ℕ) where
+  pub core-none : n < 2 → coreText n cells ≡ ascii "core none\n"
+  unfolding coreText
+  core-none h = simp (lt-ltb _ _ h)
+
+  pub core-some : 2 ≤ n → coreText n cells ≡ ascii "core" ++ endsText cells (min n 192) ++ ascii "\n"
+  unfolding coreText
+  core-some h = simp (le-ltb _ _ h)
+
+pub lines-none : (p : Plan) (marks : List ℕ) → branchLines p marks 0 ≡ []
+unfolding branchLines
+lines-none p marks = refl
+
+pub lines-turn : (p : Plan) (marks : List ℕ) (k c : ℕ) → c ≡ costOf (getD (p .near) k 0) (getD (p .far) k 0)
+    → branchLines p marks k ++ branchText (getD marks (2 * k) 0) (getD (p .lower) k 0) (getD (p .higher) k 0) c ≡ branchLines p marks (k + 1)
+unfolding branchLines costIn
+lines-turn p marks k c e = rw (add-one k, e) refl
+
+pub ends-none : (cells : List ℕ) → endsText cells 0 ≡ []
+unfolding endsText
+ends-none cells = refl
+
+pub ends-turn : (cells : List ℕ) (v : ℕ) (n : Node) → n ≡ nodeIn cells v → endsText cells v ++ endText (n .halted) v ≡ endsText cells (v + 1)
+unfolding endsText
+ends-turn cells v n e = rw (add-one v, e) refl
+
+pub capped : (n x most : ℕ) → n ≡ min x most → n ≤ most
+capped n x most e = omega arith

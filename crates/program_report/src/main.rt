@@ -1,0 +1,69 @@
+// The reporting program: reads a plan on standard input, wakes module 0, runs rounds to rest and prints the tree that the
+// field has come to. A refused plan prints one line, as "refused 19".
+ghost use mathlib.Core.Path.{_≡_};
+ghost use lib.ListN.{replicate};
+ghost use Rattle.format_text.specs.Put.{page, put};
+ghost use Rattle.host_job.specs.Settled.{settled as Settled·settled};
+ghost use Rattle.program_report.specs.Reported.{refusedText, settledText, reported};
+use libc::STDIN_FILENO;
+use libc::STDOUT_FILENO;
+use plan::Plan;
+
+mod render;
+
+fn refused(out: &mut [u8], number: u32) -> usize
+    ensures { λ r. ⌜ page r (now (out .exit)) ≡ put (page 0 (now (out .entry))) (refusedText number) ⌝ }
+{
+    format_text::put_line(out, 0, b"refused ", number as u64)
+}
+
+// What the field of a plan comes to.
+fn settled(p: Plan, words: &mut [u64], out: &mut [u8]) -> usize
+    ensures { λ r. ⌜ page r (now (out .exit)) ≡ put (page 0 (now (out .entry))) (settledText (Settled·settled p (now (words .entry)))) ⌝ }
+{
+    let s = host_job::settle(p, words);
+    let f = s.field;
+    if s.refusal != 0 {
+        return refused(out, s.refusal);
+    }
+    render::render(f, s.rounds, out)
+}
+
+// The report of a plan's bytes.
+fn report(s: &[u8], out: &mut [u8]) -> usize
+    ensures { λ r. ⌜ page r (now (out .exit)) ≡ put (page 0 (now (out .entry))) (reported (now (s .entry))) ⌝ }
+{
+    let got = plan_file::read(s);
+    let p = got.plan;
+    if got.refusal != 0 {
+        return refused(out, got.refusal);
+    }
+    let m = plan::ceiling(p.modules, p.links) as usize;
+    let mut lent = [0u64; 7920];
+    settled(p, &mut lent[..m], out)
+}
+
+// What it asks is what the program owes: the text is the report of the bytes read.
+fn write(given: &[u8], text: &[u8])
+    requires { ⌜ now text ≡ reported (now given) ⌝ }
+{
+    let _done = io::write_all(STDOUT_FILENO, text);
+}
+
+// What was put into the buffer, written.
+fn show(given: &[u8], out: &[u8], end: usize)
+    requires { ⌜ page end (now out) ≡ put (page 0 (replicate 65536 0)) (reported (now given)) ⌝ }
+{
+    write(given, format_text::front(out, end));
+}
+
+fn main() {
+    // All that a 16-bit length can tell of, and one byte more, so that bytes behind are seen. (The longest plan that is
+    // taken has 4807 bytes; a longer one whose length fits is refused by 14 or 15 and not by 13.)
+    let mut space = [0u8; 65539];
+    let n = io::read_full(STDIN_FILENO, &mut space);
+    let given = format_text::front(&space, n);
+    let mut out = [0u8; 65536];
+    let end = report(given, &mut out);
+    show(given, &out, end);
+}

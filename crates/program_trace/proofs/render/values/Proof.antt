@@ -1,0 +1,15 @@
+use borrow.Author.Needs.{needs}
+use Rattle.format_text.specs.Put.{put-on}
+use Rattle.program_trace.specs.Text.{firstText, otherText}
+use Rattle.program_trace.proofs.render.values.Statement.{statement}
+use Rattle.program_trace.proofs.render.values.Tie as tie
+
+returns : tie.Need-returns
+returns c =
+    let second = c .before .before in
+    let first = second .before .before .before .before in
+    let n = first .before .before .before .args .n in
+    put-on _ (firstText n) (otherText n) (first .first-values .ensures) (second .other-values .ensures)
+
+pub values-spec : {M : Type 1} → statement M
+values-spec = tie.close (tie.spec (λ c κs. search needs) (λ c κs. search needs) (λ c. search needs) returns)

@@ -1,0 +1,103 @@
+// Reads a plan and, right behind it, a schedule on standard input. Sets the plan up with exactly M words, runs the schedule
+// and prints what that led to: the run's answer, every module with its marks, every waiting word.
+// A refused plan prints one line, as "refused 19".
+ghost use mathlib.Core.Path.{_≡_};
+ghost use lib.ListN.{length, replicate};
+ghost use Rattle.format_text.specs.Put.{page, put};
+ghost use Rattle.plan.specs.Refusal.{planRefusal};
+ghost use Rattle.field.specs.Edges.{ceilingOf};
+ghost use Rattle.field_calls.specs.Call.{runBytes};
+ghost use Rattle.program_trace.specs.Text.{ranText};
+ghost use Rattle.program_trace.specs.Traced.{start, planPart, traced};
+use libc::STDIN_FILENO;
+use libc::STDOUT_FILENO;
+use plan::Plan;
+use host_run::Ran;
+
+mod render;
+
+// Setup of an accepted plan with exactly M words, then a run of the schedule.
+fn set_up_and_run(p: Plan, lent: &mut [u64], schedule: &[u8]) -> Ran
+    requires { ⌜ (planRefusal p ≡ 0) × (length (now lent) ≡ ceilingOf p) ⌝ }
+    ensures { λ r. ⌜ record { done = r .steps; answer = r .refusal; state = record { field = r .field; words = now (lent .exit) } }
+        ≡ runBytes (now (schedule .entry)) (start p) ⌝ }
+{
+    let begun = host_setup::setup(p, lent);
+    host_run::run(begun.field, lent, schedule)
+}
+
+// An accepted plan's schedule run, and what it led to.
+fn follow(p: Plan, lent: &mut [u64], schedule: &[u8], out: &mut [u8]) -> usize
+    requires { ⌜ (planRefusal p ≡ 0) × (length (now lent) ≡ ceilingOf p) ⌝ }
+    ensures { λ r. ⌜ page r (now (out .exit)) ≡ put (page 0 (now (out .entry))) (ranText p (runBytes (now (schedule .entry)) (start p))) ⌝ }
+{
+    let r = set_up_and_run(p, lent, schedule);
+    let f = r.field;
+    let n = field_check::waiting(lent);
+    let a = render::head(out, r.steps, r.refusal, f.sent, n);
+    let b = render::modules(
+        p.modules,
+        p.links,
+        &p.lower,
+        &p.higher,
+        &f.cells,
+        &f.marks,
+        out,
+        a,
+    );
+    render::words(&lent[..n], out, b)
+}
+
+// How many bytes are the plan's: the first 3 and as many more as its length says, or all there is.
+fn plan_part(input: &[u8]) -> usize
+    ensures { λ r. ⌜ r ≡ planPart (now (input .entry)) ⌝ }
+{
+    if input.len() < 3 {
+        return input.len();
+    }
+    let end = 3 + format_int16::at(input, 1) as usize;
+    if input.len() < end {
+        return input.len();
+    }
+    end
+}
+
+// A plan and a schedule followed to the end.
+fn trace(input: &[u8], out: &mut [u8]) -> usize
+    ensures { λ r. ⌜ page r (now (out .exit)) ≡ put (page 0 (now (out .entry))) (traced (now (input .entry))) ⌝ }
+{
+    let part = plan_part(input);
+    let got = plan_file::read(&input[..part]);
+    if got.refusal != 0 {
+        return format_text::put_line(out, 0, b"refused ", got.refusal as u64);
+    }
+    let p = got.plan;
+    let m = plan::ceiling(p.modules, p.links) as usize;
+    // room for the largest plan's M
+    let mut lent = [0u64; 7920];
+    follow(p, &mut lent[..m], &input[part..], out)
+}
+
+// What it asks is what the program owes: the text is what the bytes read lead to.
+fn write(given: &[u8], text: &[u8])
+    requires { ⌜ now text ≡ traced (now given) ⌝ }
+{
+    let _done = io::write_all(STDOUT_FILENO, text);
+}
+
+// What was put into the buffer, written.
+fn show(given: &[u8], out: &[u8], end: usize)
+    requires { ⌜ page end (now out) ≡ put (page 0 (replicate 400000 0)) (traced (now given)) ⌝ }
+{
+    write(given, format_text::front(out, end));
+}
+
+fn main() {
+    // the longest plan, the longest schedule and one byte more, so that bytes behind a schedule are seen
+    let mut space = [0u8; 70346];
+    let n = io::read_full(STDIN_FILENO, &mut space);
+    let given = format_text::front(&space, n);
+    let mut out = [0u8; 400000];
+    let end = trace(given, &mut out);
+    show(given, &out, end);
+}

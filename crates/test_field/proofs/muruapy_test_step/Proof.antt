@@ -1,0 +1,14 @@
+-- What the call answered, with the field in its parts.
+use borrow.Author.Needs.{needs}
+use Rattle.test_field.proofs.Kept.{step-parts}
+use Rattle.test_field.proofs.muruapy_test_step.Statement.{statement}
+use Rattle.test_field.proofs.muruapy_test_step.Tie as tie
+
+returns : tie.Need-returns
+returns c =
+    let r = c .before .before .before .before .before in
+    step-parts _ _ _ _ _ (r .before .before .field-of .ensures) _ _ _ _ (r .step .ensures)
+
+pub muruapy-test-step-spec : {M : Type 1} → statement M
+muruapy-test-step-spec =
+    tie.close (tie.spec (λ c κs. search needs) (λ c κs. search needs) (λ c. search needs) returns)
