@@ -6,6 +6,7 @@ use native.Mathlib.Decide.{decLe}
 use mathlib.Core.Path.{_≡_}
 use mathlib.Core.Logic.{by-cases}
 use Rattle.base.specs.Log.{log2, log2-lt}
+use Rattle.base.specs.Limits.{maxModules, maxLinks, maxWords}
 
 -- "The ceiling M is 5 × N × ⌊log2 N⌋ + 2 × L"
 abbrev pub firstTerm : ℕ → ℕ
@@ -29,7 +30,7 @@ first-term-fits n h =
     mul-le-mul first level
 
 -- of the largest plan: 192 nodes, 600 edges
-pub ceiling-most : (n l : ℕ) → n ≤ 192 → l ≤ 600 → ceiling n l ≤ 7920
+pub ceiling-most : (n l : ℕ) → n ≤ maxModules → l ≤ maxLinks → ceiling n l ≤ maxWords
 ceiling-most n l few short =
     let first : 5 * n ≤ 960 = omega arith in
     let level : log2 n ≤ 7 = omega (arith, log2-lt 8 n (omega arith) (omega arith)) in

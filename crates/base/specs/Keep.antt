@@ -6,7 +6,7 @@ use mathlib.Core.Path.{_≡_, refl, sym, ap, _∙_}
 use mathlib.Core.Bool.{Bool, true, false, cond}
 use mathlib.Core.List.{List, [], _∷_, _++_}
 use lib.ListN.{length, getD, take, drop}
-use Rattle.base.specs.Cond.{bool-cases}
+use Rattle.base.specs.Cond.{bit, bool-cases}
 use Rattle.base.specs.Pool.{Out, here, there}
 
 module _ {A : Type 0} where
@@ -64,6 +64,11 @@ module _ {A : Type 0} where
   others {w} q e (later {x} {l = l} {r = r} h f) = bool-cases (q x)
       (λ y. keep-yes q x l y ∙ ap (λ z. x ∷ z) (others q e f) ∙ sym (keep-yes q x r y))
       (λ y. keep-no q x l y ∙ others q e f ∙ sym (keep-no q x r y))
+
+  -- how many pass
+  unfoldable pub many : (A → Bool) → List A → ℕ
+  many q [] = 0
+  many q (x ∷ l) = bit (q x) + many q l
 
   -- the place of the first that passes, the length where there is none
   unfoldable pub place : (A → Bool) → List A → ℕ

@@ -6,14 +6,13 @@ use mathlib.Core.Logic.{⊎-elim}
 use mathlib.Core.List.{[]}
 use Rattle.base.specs.Cond.{by-eq}
 use Rattle.graph.specs.Graph.{up, stop}
-use Rattle.plan.specs.declared.Plan.{Plan}
-use Rattle.plan.specs.Links.{low, high}
 use Rattle.plan.specs.Accepted.{Accepted}
+use Rattle.plan.specs.Links.{Plan, modulesOf, linksOf, lowerOf, higherOf}
 use Rattle.node.specs.Work.{BRANCH, REJECTED}
 use Rattle.field.specs.State.{State, nodeAt, markAt}
 use Rattle.field_calls.specs.Demand.{TreeLink, BothSay, Core, Agreed}
 use Rattle.field_roundlaws.specs.Awake.{Awake}
-use Rattle.protocol.specs.Plan.{Ends}
+use Rattle.protocol.specs.Network.{Ends}
 use Rattle.protocol_stuck.specs.Parts.{SamePart, PartCore, PartFinished}
 use Rattle.protocol_bridge.specs.Fin.{st-is, halt-is}
 use Rattle.demand_view.specs.Net.{net}
@@ -24,7 +23,7 @@ module _ (p : Plan) (a : Accepted p) (s : State) (g : Good p a s) where
   mark-of : (v k : ℕ) → g.at.mark v k ≡ markAt p s v k
   mark-of v k = ap (λ f. f k) (mark-is p a s g v)
 
-  halt-of : (v : ℕ) → v < p .modules → g.at.halt v ≡ nodeAt s v .halted
+  halt-of : (v : ℕ) → v < modulesOf p → g.at.halt v ≡ nodeAt s v .halted
   halt-of v l = halt-is (node-shown p a s g v l)
 
   -- EVERY BRANCH IS A TREE LINK (M5)
@@ -40,17 +39,17 @@ module _ (p : Plan) (a : Accepted p) (s : State) (g : Good p a s) where
     part-finished = at-rest p a s g z .awake w w stop (λ e. k .awake (sym (st-is (node-shown p a s g w (k .within))) ∙ e))
 
     -- the plan is one part: the only use of that
-    all : (v : ℕ) → v < p .modules → SamePart (net p a) w v
+    all : (v : ℕ) → v < modulesOf p → SamePart (net p a) w v
     all v l = a .whole w v (k .within) l
 
-    low-in : (k : ℕ) → k < p .links → SamePart (net p a) w (low p k)
-    low-in k l = all (low p k) (omega (arith, a .each k l .ordered, a .each k l .inside))
+    low-in : (k : ℕ) → k < linksOf p → SamePart (net p a) w (lowerOf p k)
+    low-in k l = all (lowerOf p k) (omega (arith, a .each k l .ordered, a .each k l .inside))
 
-    link-ends : (k : ℕ) → k < p .links → Ends (net p a) k (low p k) (high p k)
+    link-ends : (k : ℕ) → k < linksOf p → Ends (net p a) k (lowerOf p k) (higherOf p k)
     link-ends k l = up l refl refl
 
-    says : (c k : ℕ) → (g.at.mark (low p k) k ≡ c) × (g.at.mark (high p k) k ≡ c) → BothSay p s c k
-    says c k h = record { lower = sym (mark-of (low p k) k) ∙ h .0; higher = sym (mark-of (high p k) k) ∙ h .1 }
+    says : (c k : ℕ) → (g.at.mark (lowerOf p k) k ≡ c) × (g.at.mark (higherOf p k) k ≡ c) → BothSay p s c k
+    says c k h = record { lower = sym (mark-of (lowerOf p k) k) ∙ h .0; higher = sym (mark-of (higherOf p k) k) ∙ h .1 }
 
     core : PartCore (net p a) (g.at) w → Core p s
     core c = record {
@@ -64,8 +63,8 @@ module _ (p : Plan) (a : Accepted p) (s : State) (g : Good p a s) where
     -- ALL AGREE
     pub agreed : Agreed p s
     agreed = record {
-      tree = λ k l h. says BRANCH k (part-finished .tree k (low p k) (high p k) (link-ends k l) (low-in k l) h);
-      others = λ k l h. says REJECTED k (part-finished .others k (low p k) (high p k) (link-ends k l) (low-in k l) h);
+      tree = λ k l h. says BRANCH k (part-finished .tree k (lowerOf p k) (higherOf p k) (link-ends k l) (low-in k l) h);
+      others = λ k l h. says REJECTED k (part-finished .others k (lowerOf p k) (higherOf p k) (link-ends k l) (low-in k l) h);
       core = λ two. ⊎-elim core
           (λ o. absurd (by-eq w 0 (λ e. omega (arith, o .only 1 (all 1 two))) (λ n. n (sym (o .only 0 (all 0 (omega arith)))))))
           (part-finished .halted);

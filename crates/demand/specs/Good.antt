@@ -5,10 +5,10 @@ use mathlib.Core.Bool.{false, true≢false}
 use mathlib.Core.List.{List}
 use lib.ListN.{length, replicate}
 use Rattle.base.specs.Cond.{by-eq}
-use Rattle.plan.specs.declared.Plan.{Plan}
 use Rattle.plan.specs.Accepted.{Accepted}
+use Rattle.plan.specs.Links.{Plan, modulesOf}
 use Rattle.node.specs.Work.{Own, Work}
-use Rattle.field.specs.Edges.{isOwn, ownOf}
+use Rattle.field.specs.Edges.{isOwn, ownOf, marksIn}
 use Rattle.field.specs.State.{State, nodeAt, markAt}
 use Rattle.field.specs.Held.{stateOf, fresh}
 use Rattle.protocol.specs.State as protocol
@@ -18,7 +18,7 @@ use Rattle.protocol_bridge.specs.Real.{Real, real, ownP, place}
 use Rattle.protocol_bridge.specs.Fin.{Shows, mark-at}
 use Rattle.protocol_bridge.specs.Reached.{After}
 use Rattle.demand_view.specs.Net.{net, own-same, ends-own}
-use Rattle.demand_view.specs.View.{nodes, marksOf, chans, tables-show, view, nodes-in}
+use Rattle.demand_view.specs.View.{nodes, chans, tables-show, view, nodes-in}
 use Rattle.demand_view.specs.Start.{view-start}
 
 pub record Good (p : Plan) (a : Accepted p) (s : State) : Type 0 where
@@ -35,10 +35,10 @@ module _ (p : Plan) (a : Accepted p) where
 
   module _ (s : State) (g : Good p a s) where
     -- the values of a module, the marks and the channels, read from the protocol's state
-    pub node-shown : (v : ℕ) → v < p .modules → Shows (real g.at) v (nodeAt s v)
+    pub node-shown : (v : ℕ) → v < modulesOf p → Shows (real g.at) v (nodeAt s v)
     node-shown v l =
         subst (λ r. Shows r v (nodeAt s v)) (sym g.is)
-        (subst (Shows (view p s) v) (nodes-in p (s .cells) v l) (tables-show (nodes p (s .cells)) (marksOf p (s .marks)) (chans p (s .words)) v))
+        (subst (Shows (view p s) v) (nodes-in p (s .cells) v l) (tables-show (nodes p (s .cells)) (marksIn p (s .marks)) (chans p (s .words)) v))
 
     pub mark-is : (v : ℕ) → g.at.mark v ≡ markAt p s v
     mark-is v = ap (λ (r : Real). r.mark v) (g.is)

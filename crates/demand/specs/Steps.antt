@@ -14,11 +14,11 @@ use Rattle.base.specs.Pool.{All-here}
 use Rattle.base.specs.Keep.{First, first-out, first-passes, place, place-first}
 use Rattle.format_message.specs.Msg.{Msg}
 use Rattle.format_word.specs.Word.{linkIn, handOver}
-use Rattle.plan.specs.declared.Plan.{Plan}
 use Rattle.plan.specs.Accepted.{Accepted}
+use Rattle.plan.specs.Links.{Plan, modulesOf, linksOf}
 use Rattle.node.specs.Work.{Work, ASLEEP, BACK, REFUSED}
 use Rattle.node.specs.Rules.{respond, wakes}
-use Rattle.field.specs.Edges.{ownOf, linkOf, from, limitOf, ceilingOf}
+use Rattle.field.specs.Edges.{ownOf, linkOf, from, limitOf, ceilingOf, marksIn}
 use Rattle.field.specs.State.{State, nodeAt, msgIn, placed}
 use Rattle.field.specs.Step.{inAir, inQueue, settle, wakeWork, wake, hand, serveWork, backOf, serve, step}
 use Rattle.field_laws.specs.Chan.{queue-parts}
@@ -26,7 +26,7 @@ use Rattle.field_laws.specs.Lists.{WorkOk}
 use Rattle.field_laws.specs.Fits.{word-link, word-shaped}
 use Rattle.field_laws.specs.Cases.{Handed}
 use Rattle.field_laws.specs.Keeps.{Sound, wake-ok, serve-ok}
-use Rattle.protocol.specs.Plan.{Ends}
+use Rattle.protocol.specs.Network.{Ends}
 use Rattle.protocol_bridge.specs.Real.{Real, real}
 use Rattle.protocol_bridge.specs.Place.{toPop}
 use Rattle.protocol_bridge.specs.Fin.{st-is}
@@ -34,7 +34,7 @@ use Rattle.protocol_bridge.specs.Bridge.{response}
 use Rattle.protocol_bridge.specs.Reached as R
 use Rattle.protocol_bridge.specs.Reached.{after-fits, wake-after, respond-after}
 use Rattle.demand_view.specs.Net.{net, ends-of}
-use Rattle.demand_view.specs.View.{view, tables, nodes, marksOf, chans}
+use Rattle.demand_view.specs.View.{view, tables, nodes, chans}
 use Rattle.demand_view.specs.Chans.{chans-hand, chans-head, ahead, behind}
 use Rattle.demand_view.specs.Placed.{view-woken, view-taken, view-back, rest-cut}
 use Rattle.demand.specs.Good.{Good, node-shown, rule-is, bare, good-after}
@@ -61,7 +61,7 @@ module _ (p : Plan) (a : Accepted p) (s : State) (i : Sound p s) (g : Good p a s
 
   -- ---- wake
 
-  woken : (v : ℕ) → v < p .modules → nodeAt s v .status ≡ ASLEEP → Fine p a (settle p v (wakeWork p v s) s (s .words) [])
+  woken : (v : ℕ) → v < modulesOf p → nodeAt s v .status ≡ ASLEEP → Fine p a (settle p v (wakeWork p v s) s (s .words) [])
   woken v l z =
       let w = wakeWork p v s in
       let f : R.After (net p a) (view p s) v 0 (s .sent) w =
@@ -73,7 +73,7 @@ module _ (p : Plan) (a : Accepted p) (s : State) (i : Sound p s) (g : Good p a s
 
   wake-fine : (v : ℕ) → Fine p a (wake p v s)
   unfolding wake
-  wake-fine v = bool-cases (leb (p .modules) v)
+  wake-fine v = bool-cases (leb (modulesOf p) v)
       (λ b. rw b (other 41 (omega arith)))
       (λ b. rw b (eqb-cases (nodeAt s v .status) ASLEEP (λ t. Fine p a (cond (not t) (refused 43 s) (settle p v (wakeWork p v s) s (s .words) [])))
       (λ e. woken v (leb-false _ _ b) e)
@@ -86,11 +86,11 @@ module _ (p : Plan) (a : Accepted p) (s : State) (i : Sound p s) (g : Good p a s
       let x = h .word in
       let e : chans p (h .rest ++ (handOver x ∷ [])) ≡ chans p (s .words) = chans-hand p d x (s .words) (h .rest) (h .first) (word-shaped p x (All-here (first-out (h .first)) (i .fits .words))) in
       subst (Good p a) (sym (h .is))
-      (record { at = g.at; is = g.is ∙ ap (tables (nodes p (s .cells)) (marksOf p (s .marks))) (sym e); idle = g.idle; reach = g.reach })
+      (record { at = g.at; is = g.is ∙ ap (tables (nodes p (s .cells)) (marksIn p (s .marks))) (sym e); idle = g.idle; reach = g.reach })
 
   hand-fine : (d : ℕ) → Fine p a (hand p d s)
   unfolding hand
-  hand-fine d = bool-cases (leb (2 * p .links) d)
+  hand-fine d = bool-cases (leb (2 * linksOf p) d)
       (λ b. rw b (other 42 (omega arith)))
       (λ b. rw b (bool-cases (leb (length (s .words)) (place (inAir d) (s .words)))
       (λ c. rw c (other 44 (omega arith)))
@@ -100,7 +100,7 @@ module _ (p : Plan) (a : Accepted p) (s : State) (i : Sound p s) (g : Good p a s
   -- ---- serve
 
   -- x, the first word of v's queue, is served; r are the other words
-  module _ (v : ℕ) (l : v < p .modules) (x : ℕ) (r : List ℕ) (o : First (inQueue p v) (s .words) x r) where
+  module _ (v : ℕ) (l : v < modulesOf p) (x : ℕ) (r : List ℕ) (o : First (inQueue p v) (s .words) x r) where
     abbrev u : ℕ
     u = from p (linkIn x)
 
@@ -110,7 +110,7 @@ module _ (p : Plan) (a : Accepted p) (s : State) (i : Sound p s) (g : Good p a s
     abbrev w : Work
     w = serveWork p v x s
 
-    fits : linkIn x < 2 * p .links
+    fits : linkIn x < 2 * linksOf p
     fits = word-link p x (All-here (first-out o) (i .fits .words))
 
     ends : Ends (net p a) k u v
@@ -159,7 +159,7 @@ module _ (p : Plan) (a : Accepted p) (s : State) (i : Sound p s) (g : Good p a s
 
   serve-fine : (v : ℕ) → Fine p a (serve p v s)
   unfolding serve
-  serve-fine v = bool-cases (leb (p .modules) v)
+  serve-fine v = bool-cases (leb (modulesOf p) v)
       (λ b. rw b (other 41 (omega arith)))
       (λ b. rw b (bool-cases (leb (length (s .words)) (place (inQueue p v) (s .words)))
       (λ c. rw c (other 45 (omega arith)))

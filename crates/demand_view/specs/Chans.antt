@@ -9,10 +9,10 @@ use Rattle.base.specs.Pool.{All, nil, con}
 use Rattle.base.specs.Keep.{First, first-passes}
 use Rattle.format_message.specs.Msg.{Msg}
 use Rattle.format_word.specs.Word.{linkIn, shaped, handOver}
-use Rattle.plan.specs.declared.Plan.{Plan}
 use Rattle.plan.specs.Accepted.{Accepted}
+use Rattle.plan.specs.Links.{Plan, linksOf}
 use Rattle.node.specs.Work.{Send}
-use Rattle.field.specs.Edges.{isOwn, over, linkOf, from}
+use Rattle.field.specs.Edges.{isOwn, linkOf, from, endOf}
 use Rattle.field.specs.State.{msgIn, posted}
 use Rattle.field.specs.Step.{inAir, inQueue}
 use Rattle.field_laws.specs.Chan.{chan, ups, downs, hand-chan, queue-parts, take-own, take-other, back-own, back-other}
@@ -23,7 +23,7 @@ use Rattle.protocol_bridge.specs.Place.{post-pop}
 use Rattle.demand_view.specs.View.{chans}
 
 module _ (p : Plan) where
-  pub chans-own : (words : List ℕ) (v k : ℕ) → isOwn p v k ≡ true → chans p words v k ≡ chan (over p v k) words
+  pub chans-own : (words : List ℕ) (v k : ℕ) → isOwn p v k ≡ true → chans p words v k ≡ chan (endOf p v k) words
   unfolding chans
   chans-own words v k o = rw o
 
@@ -34,29 +34,29 @@ module _ (p : Plan) where
   -- the same channels where the own ones are the same
   pub chans-same : (s t : List ℕ) → ((d : ℕ) → chan d s ≡ chan d t) → chans p s ≡ chans p t
   unfolding chans
-  chans-same s t h = fun-ext (λ v. fun-ext (λ k. ap (λ c. cond (isOwn p v k) c []) (h (over p v k))))
+  chans-same s t h = fun-ext (λ v. fun-ext (λ k. ap (λ c. cond (isOwn p v k) c []) (h (endOf p v k))))
 
   -- ---- sends
 
   -- different own links are different directed links
-  over-other : (u v j k : ℕ) → isOwn p u j ≡ true → isOwn p v k ≡ true → (u ≢ v) ⊎ (j ≢ k) → over p u j ≢ over p v k
+  over-other : (u v j k : ℕ) → isOwn p u j ≡ true → isOwn p v k ≡ true → (u ≢ v) ⊎ (j ≢ k) → endOf p u j ≢ endOf p v k
   over-other u v j k a b (inl d) e = d (sym (from-over p u j a) ∙ ap (from p) e ∙ from-over p v k b)
   over-other u v j k a b (inr d) e = d (sym (link-over p u j) ∙ ap linkOf e ∙ link-over p v k)
 
   module _ (v : ℕ) where
     -- a table c of channels, after v's sends: at another's link, and at v's own
     post-mine : (c : ℕ → ℕ → List Msg) {l : List Send} → All (λ x. isOwn p v (x .edge) ≡ true) l → (u k : ℕ) → isOwn p u k ≡ true
-        → post c v l u k ≡ c u k ++ onto p v (over p u k) l
+        → post c v l u k ≡ c u k ++ onto p v (endOf p u k) l
     unfolding post
-    post-mine c nil u k o = sym (ap (λ x. c u k ++ x) (onto-nil p v (over p u k)) ∙ append-nil (c u k))
+    post-mine c nil u k o = sym (ap (λ x. c u k ++ x) (onto-nil p v (endOf p u k)) ∙ append-nil (c u k))
     post-mine c (con {x} {xs} h t) u k o =
         let j = x .edge in
         let c₁ = upd2 c v j (c v j ++ (x .msg ∷ [])) in
         post-mine c₁ t u k o
-        ∙ upd2-elim (λ y. y ++ onto p v (over p u k) xs ≡ c u k ++ onto p v (over p u k) (x ∷ xs)) c v j (c v j ++ (x .msg ∷ [])) u k
-        (λ a b. ap₂ (λ y z. (c y z ++ (x .msg ∷ [])) ++ onto p v (over p u k) xs) a b ∙ append-assoc (c u k) (x .msg ∷ []) (onto p v (over p u k) xs)
-        ∙ ap (λ y. c u k ++ y) (sym (subst (λ d. onto p v d (x ∷ xs) ≡ x .msg ∷ onto p v d xs) (ap₂ (over p) a b) (onto-here p v j (x .msg) xs))))
-        (λ n. ap (λ y. c u k ++ y) (sym (onto-else p v (over p u k) x xs (over-other v u j k h o n))))
+        ∙ upd2-elim (λ y. y ++ onto p v (endOf p u k) xs ≡ c u k ++ onto p v (endOf p u k) (x ∷ xs)) c v j (c v j ++ (x .msg ∷ [])) u k
+        (λ a b. ap₂ (λ y z. (c y z ++ (x .msg ∷ [])) ++ onto p v (endOf p u k) xs) a b ∙ append-assoc (c u k) (x .msg ∷ []) (onto p v (endOf p u k) xs)
+        ∙ ap (λ y. c u k ++ y) (sym (subst (λ d. onto p v d (x ∷ xs) ≡ x .msg ∷ onto p v d xs) (ap₂ (endOf p) a b) (onto-here p v j (x .msg) xs))))
+        (λ n. ap (λ y. c u k ++ y) (sym (onto-else p v (endOf p u k) x xs (over-other v u j k h o n))))
 
     post-none : (c : ℕ → ℕ → List Msg) {l : List Send} → All (λ x. isOwn p v (x .edge) ≡ true) l → (u k : ℕ) → isOwn p u k ≡ false → post c v l u k ≡ c u k
     unfolding post
@@ -70,7 +70,7 @@ module _ (p : Plan) where
     -- LAW 1: each send goes to the end of its channel
     pub chans-post : (words : List ℕ) {l : List Send} → All Packs l → All (λ x. isOwn p v (x .edge) ≡ true) l → chans p (words ++ posted p v l) ≡ post (chans p words) v l
     chans-post words {l} h o = fun-ext (λ u. fun-ext (λ k. bool-cases (isOwn p u k)
-        (λ b. chans-own (words ++ posted p v l) u k b ∙ post-chan p v (over p u k) words h ∙ ap (λ c. c ++ onto p v (over p u k) l) (sym (chans-own words u k b))
+        (λ b. chans-own (words ++ posted p v l) u k b ∙ post-chan p v (endOf p u k) words h ∙ ap (λ c. c ++ onto p v (endOf p u k) l) (sym (chans-own words u k b))
         ∙ sym (post-mine (chans p words) o u k b))
         (λ b. chans-not (words ++ posted p v l) u k b ∙ sym (post-none (chans p words) o u k b ∙ chans-not words u k b))))
 
@@ -93,7 +93,7 @@ ahead p v x r sends = ups (linkIn x) (r ++ posted p v sends)
 abbrev pub behind : Plan → ℕ → ℕ → List ℕ → List Send → List Msg
 behind p v x r sends = downs (linkIn x) (r ++ posted p v sends)
 
-module _ (p : Plan) (a : Accepted p) (v x : ℕ) (s r : List ℕ) (o : First (inQueue p v) s x r) (l : linkIn x < 2 * p .links) where
+module _ (p : Plan) (a : Accepted p) (v x : ℕ) (s r : List ℕ) (o : First (inQueue p v) s x r) (l : linkIn x < 2 * linksOf p) where
   abbrev d : ℕ
   d = linkIn x
 
@@ -118,7 +118,7 @@ module _ (p : Plan) (a : Accepted p) (v x : ℕ) (s r : List ℕ) (o : First (in
   changed s t c h n = fun-ext (λ w. fun-ext (λ j. upd2-elim (λ y. chans p t w j ≡ y) (chans p s) u k c w j
       (λ e q. ap₂ (chans p t) (sym e) (sym q) ∙ at-d t ∙ h)
       (λ m. bool-cases (isOwn p w j)
-      (λ b. chans-own p t w j b ∙ n (over p w j) (λ q. over-other p u w k j u-own b m (over-from p a d l ∙ q)) ∙ sym (chans-own p s w j b))
+      (λ b. chans-own p t w j b ∙ n (endOf p w j) (λ q. over-other p u w k j u-own b m (over-from p a d l ∙ q)) ∙ sym (chans-own p s w j b))
       (λ b. chans-not p t w j b ∙ sym (chans-not p s w j b)))))
 
   -- LAW 3: the word served is the head of its channel, and the other channels stay

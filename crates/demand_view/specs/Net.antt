@@ -8,22 +8,20 @@ use borrow.Author.Tests.{eq-eqb}
 use Rattle.base.specs.Cond.{eqb-cases}
 use Rattle.graph.specs.Graph.{up, down}
 use Rattle.graph.specs.Ways.{ends-same}
-use Rattle.plan.specs.declared.Plan as declared
-use Rattle.plan.specs.Links.{low, high, graphOf}
+use Rattle.plan.specs.Links.{Plan, graphOf, modulesOf, linksOf, lowerOf, higherOf}
 use Rattle.plan.specs.Weights.{orderOf}
 use Rattle.plan.specs.Accepted.{Accepted}
-use Rattle.node_edges.specs.Own as O
-use Rattle.node_edges.specs.Laws.{own-lower, own-higher}
-use Rattle.field.specs.Edges.{isOwn, ownOf, over, linkOf, from, dest}
+use Rattle.field.specs.laws.Edges.{own-lower, own-higher}
+use Rattle.field.specs.Edges.{isOwn, ownOf, linkOf, from, dest, endOf}
 use Rattle.field_laws.specs.Places.{own-below, own-end, from-over, link-over, over-below}
-use Rattle.protocol.specs.Plan.{Plan, Ends}
+use Rattle.protocol.specs.Network.{Network, Ends}
 use Rattle.protocol_bridge.specs.Real.{ownP}
 
-module _ (p : declared.Plan) (a : Accepted p) where
-  abbrev pub net : Plan
+module _ (p : Plan) (a : Accepted p) where
+  abbrev pub net : Network
   net = record {
     g = graphOf p;
-    N = p .modules;
+    N = modulesOf p;
     order = orderOf p;
     ends-lt = λ k l. (omega (arith, a .each k l .ordered, a .each k l .inside), a .each k l .inside);
     no-loop = λ k l e. omega (arith, a .each k l .ordered);
@@ -32,30 +30,30 @@ module _ (p : declared.Plan) (a : Accepted p) where
 
   -- a node's own edges are the same to both
   pub own-same : (v : ℕ) → ownOf p v ≡ ownP net v
-  unfolding O.isOwn
+  unfolding isOwn
   own-same v = refl
 
   -- an own link leads to another module, and the other way round
   pub own-ends : (v k : ℕ) → isOwn p v k ≡ true → (u : ℕ) × Ends net k v u
   own-ends v k o = ⊎-elim
-      (λ e. (high p k, up (own-below p v k o) e refl))
-      (λ h. (low p k, down (own-below p v k o) (h .1) refl))
+      (λ e. (higherOf p k, up (own-below p v k o) e refl))
+      (λ h. (lowerOf p k, down (own-below p v k o) (h .1) refl))
       (own-end p v k o)
 
   pub ends-own : {k v u : ℕ} → Ends net k v u → isOwn p v k ≡ true
-  ends-own {k} (up l e f) = own-lower (p .links) (p .lower) (p .higher) _ k l e
+  ends-own {k} (up l e f) = own-lower p _ k l e
   ends-own {k} (down l e f) =
-      own-higher (p .links) (p .lower) (p .higher) _ k l (λ q. omega (arith, a .each k l .ordered)) ∙ eq-eqb _ _ e
+      own-higher p _ k l (λ q. omega (arith, a .each k l .ordered)) ∙ eq-eqb _ _ e
 
   -- a directed link leads from one end of its link to the other
-  pub ends-of : (d : ℕ) → d < 2 * p .links → Ends net (linkOf d) (from p d) (dest p d)
-  ends-of d l = eqb-cases (d % 2) 0 (λ b. Ends net (linkOf d) (cond b (low p (linkOf d)) (high p (linkOf d))) (cond b (high p (linkOf d)) (low p (linkOf d))))
+  pub ends-of : (d : ℕ) → d < 2 * linksOf p → Ends net (linkOf d) (from p d) (dest p d)
+  ends-of d l = eqb-cases (d % 2) 0 (λ b. Ends net (linkOf d) (cond b (lowerOf p (linkOf d)) (higherOf p (linkOf d))) (cond b (higherOf p (linkOf d)) (lowerOf p (linkOf d))))
       (λ e. up (omega arith) refl refl)
       (λ n. down (omega arith) refl refl)
 
   -- and v's directed link over k leads to k's other end
-  pub dest-is : {k v u : ℕ} → Ends net k v u → dest p (over p v k) ≡ u
+  pub dest-is : {k v u : ℕ} → Ends net k v u → dest p (endOf p v k) ≡ u
   dest-is {k} {v} e =
       let o = ends-own e in
-      let d = over p v k in
+      let d = endOf p v k in
       ends-same (subst (λ x. Ends net k x (dest p d)) (from-over p v k o) (subst (λ x. Ends net x (from p d) (dest p d)) (link-over p v k) (ends-of d (over-below p v k o)))) e

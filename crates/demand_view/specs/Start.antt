@@ -1,40 +1,40 @@
 -- The view of a setup is the protocol's setup.
-use Prim.Native.Nat.{ℕ, _*_}
+use Prim.Native.Nat.{ℕ}
 use native.Mathlib.Omega.{arith}
 use mathlib.Core.Path.{_≡_, refl, ap, ap₂, _∙_, fun-ext}
 use mathlib.Core.Bool.{cond}
 use mathlib.Core.List.{List, []}
 use lib.ListN.{length, replicate, getD-replicate}
 use Rattle.base.specs.Cond.{ltb-cases, bool-cases}
-use Rattle.plan.specs.declared.Plan.{Plan}
 use Rattle.plan.specs.Accepted.{Accepted}
 use Rattle.node.specs.Work as node
-use Rattle.node_edges.specs.Laws.{mark-own, mark-not}
-use Rattle.field.specs.Edges.{isOwn, over}
+use Rattle.field.specs.Edges.{isOwn, endOf, marksIn}
 use Rattle.field.specs.State.{nodeIn}
 use Rattle.field.specs.Held.{stateOf, freshCells, fresh}
 use Rattle.field.specs.Valid.{waitingIn}
 use Rattle.base.specs.Keep.{keep}
+use Rattle.plan.specs.Links.{Plan, modulesOf}
+use Rattle.field.specs.laws.Edges.{mark-own, mark-not}
 use Rattle.field_laws.specs.Chan.{chan}
 use Rattle.field_laws.specs.Places.{over-below}
 use Rattle.field_laws.specs.Laid.{waiting-zeros}
 use Rattle.field_laws.specs.After.{fresh-node}
 use Rattle.protocol.specs.State.{setup}
 use Rattle.protocol_bridge.specs.Real.{real}
-use Rattle.demand_view.specs.View.{nodes, marksOf, chans, tables, view}
+use Rattle.demand_view.specs.View.{nodes, chans, tables, view}
 use Rattle.demand_view.specs.Chans.{chans-own, chans-not}
 
 module _ (p : Plan) (a : Accepted p) where
   nodes-fresh : nodes p (freshCells 192) ≡ (λ v. node.setup)
   unfolding nodes
-  nodes-fresh = fun-ext (λ v. ltb-cases v (p .modules) (λ b. cond b (nodeIn (freshCells 192) v) node.setup ≡ node.setup)
+  nodes-fresh = fun-ext (λ v. ltb-cases v (modulesOf p) (λ b. cond b (nodeIn (freshCells 192) v) node.setup ≡ node.setup)
       (λ l. fresh-node v (omega (arith, a .modulesOk))) (λ l. refl))
 
-  marks-fresh : marksOf p (replicate 1200 0) ≡ (λ v k. 0)
+  marks-fresh : marksIn p (replicate 1200 0) ≡ (λ v k. 0)
   marks-fresh = fun-ext (λ v. fun-ext (λ k. bool-cases (isOwn p v k)
-      (λ o. mark-own (p .links) (p .lower) (p .higher) v k (replicate 1200 0) o
-      ∙ getD-replicate {A = ℕ} 1200 (over p v k) 0 0 (omega (arith, over-below p v k o, a .linksOk)))
-      (λ o. mark-not (p .links) (p .lower) (p .higher) v k (replicate 1200 0) o)))
+      (λ o. mark-own p v k (replicate 1200 0) o
+      ∙ getD-replicate {A = ℕ} 1200 (endOf p v k) 0 0 (omega (arith, over-below p v k o, a .linksOk)))
+      (λ o. mark-not p v k (replicate 1200 0) o)))
 
   -- nothing waits
   pub chans-none : (v k : ℕ) → chans p [] v k ≡ []

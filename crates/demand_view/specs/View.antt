@@ -9,12 +9,11 @@ use lib.Dec.{ltb}
 use borrow.Author.Tests.{lt-ltb}
 use Rattle.base.specs.Cond.{bool-cases, upd, upd-elim, upd-same, upd-other}
 use Rattle.format_message.specs.Msg.{Msg}
-use Rattle.plan.specs.declared.Plan.{Plan}
+use Rattle.plan.specs.Links.{Plan, modulesOf, linksOf}
+use Rattle.field.specs.laws.Edges.{mark-not}
 use Rattle.node.specs.declared.Node.{Node}
 use Rattle.node.specs.Work.{Work, start, setup}
-use Rattle.node_edges.specs.Own as O
-use Rattle.node_edges.specs.Laws.{mark-not}
-use Rattle.field.specs.Edges.{isOwn, over}
+use Rattle.field.specs.Edges.{isOwn, endOf, marksIn}
 use Rattle.field.specs.State.{State, WIDTH, nodeIn, putNode, putMarks}
 use Rattle.field_laws.specs.Chan.{chan}
 use Rattle.field_laws.specs.Places.{node-same, node-other, mark-same, mark-other}
@@ -24,15 +23,11 @@ use Rattle.protocol_bridge.specs.Fin.{Shows}
 
 -- the modules: those below N, and as at setup beyond
 unfoldable pub nodes : Plan → List ℕ → ℕ → Node
-nodes p cells v = cond (ltb v (p .modules)) (nodeIn cells v) setup
-
--- v's marks: 0 where k is no link of v
-abbrev pub marksOf : Plan → List ℕ → ℕ → ℕ → ℕ
-marksOf p marks v k = O.marksIn (p .links) (p .lower) (p .higher) marks v k
+nodes p cells v = cond (ltb v (modulesOf p)) (nodeIn cells v) setup
 
 -- v's channel over its own link k: the messages of v's directed link
 unfoldable pub chans : Plan → List ℕ → ℕ → ℕ → List Msg
-chans p words v k = cond (isOwn p v k) (chan (over p v k) words) []
+chans p words v k = cond (isOwn p v k) (chan (endOf p v k) words) []
 
 -- tables of modules, marks and channels, one for each value
 abbrev pub tables : (ℕ → Node) → (ℕ → ℕ → ℕ) → (ℕ → ℕ → List Msg) → Real
@@ -53,7 +48,7 @@ tables f m c =
 
 -- THE VIEW
 abbrev pub view : Plan → State → Real
-view p s = tables (nodes p (s .cells)) (marksOf p (s .marks)) (chans p (s .words))
+view p s = tables (nodes p (s .cells)) (marksIn p (s .marks)) (chans p (s .words))
 
 -- ---- tables
 
@@ -83,26 +78,26 @@ tables-show f m c v = record { is = sym (place-tables f m c v (start (f v) (m v)
 module _ (p : Plan) where
   -- ---- modules
 
-  pub nodes-in : (cells : List ℕ) (v : ℕ) → v < p .modules → nodes p cells v ≡ nodeIn cells v
+  pub nodes-in : (cells : List ℕ) (v : ℕ) → v < modulesOf p → nodes p cells v ≡ nodeIn cells v
   unfolding nodes
-  nodes-in cells v l = rw (lt-ltb v (p .modules) l)
+  nodes-in cells v l = rw (lt-ltb v (modulesOf p) l)
 
-  pub nodes-put : (cells : List ℕ) (v : ℕ) (n : Node) → v < p .modules → p .modules * WIDTH ≤ length cells
+  pub nodes-put : (cells : List ℕ) (v : ℕ) (n : Node) → v < modulesOf p → modulesOf p * WIDTH ≤ length cells
       → nodes p (putNode cells v n) ≡ upd (nodes p cells) v n
   unfolding nodes
   nodes-put cells v n l h = fun-ext (λ u. upd-elim (λ x. nodes p (putNode cells v n) u ≡ x) (nodes p cells) v n u
       (λ e. subst (λ y. nodes p (putNode cells v n) y ≡ n) e (nodes-in (putNode cells v n) v l ∙ node-same cells v n (omega arith)))
-      (λ d. ap (λ x. cond (ltb u (p .modules)) x setup) (node-other cells v n u (λ q. d (sym q)))))
+      (λ d. ap (λ x. cond (ltb u (modulesOf p)) x setup) (node-other cells v n u (λ q. d (sym q)))))
 
   -- ---- marks
 
-  pub marks-put : (marks : List ℕ) (v : ℕ) (m : ℕ → ℕ) → 2 * p .links ≤ length marks → ((k : ℕ) → isOwn p v k ≡ false → m k ≡ 0)
-      → marksOf p (putMarks p marks v m) ≡ upd (marksOf p marks) v m
-  marks-put marks v m h z = fun-ext (λ u. upd-elim (λ x. marksOf p (putMarks p marks v m) u ≡ x) (marksOf p marks) v m u
-      (λ e. subst (λ y. marksOf p (putMarks p marks v m) y ≡ m) e (fun-ext mine))
+  pub marks-put : (marks : List ℕ) (v : ℕ) (m : ℕ → ℕ) → 2 * linksOf p ≤ length marks → ((k : ℕ) → isOwn p v k ≡ false → m k ≡ 0)
+      → marksIn p (putMarks p marks v m) ≡ upd (marksIn p marks) v m
+  marks-put marks v m h z = fun-ext (λ u. upd-elim (λ x. marksIn p (putMarks p marks v m) u ≡ x) (marksIn p marks) v m u
+      (λ e. subst (λ y. marksIn p (putMarks p marks v m) y ≡ m) e (fun-ext mine))
       (λ d. fun-ext (λ k. mark-other p v m marks h u k (λ q. d (sym q)))))
     where
-      mine : (k : ℕ) → marksOf p (putMarks p marks v m) v k ≡ m k
+      mine : (k : ℕ) → marksIn p (putMarks p marks v m) v k ≡ m k
       mine k = bool-cases (isOwn p v k)
           (λ o. mark-same p v m marks h k o)
-          (λ o. mark-not (p .links) (p .lower) (p .higher) v k (putMarks p marks v m) o ∙ sym (z k o))
+          (λ o. mark-not p v k (putMarks p marks v m) o ∙ sym (z k o))

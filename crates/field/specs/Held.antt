@@ -7,8 +7,8 @@ use mathlib.Core.List.{List, [], _++_}
 use lib.ListN.{length, replicate}
 use lib.Dec.{eqb, ltb}
 use Rattle.base.specs.Loop.{After, taken, refused}
-use Rattle.plan.specs.declared.Plan.{Plan}
 use Rattle.plan.specs.Refusal.{planRefusal}
+use Rattle.plan.specs.Links.{Plan}
 use Rattle.node.specs.Work.{setup}
 use Rattle.field.specs.declared.Field.{Field}
 use Rattle.field.specs.Edges.{ceilingOf}

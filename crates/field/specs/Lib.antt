@@ -4,3 +4,4 @@ pub mod Step
 pub mod Valid
 pub mod Held
 pub mod Samples
+pub mod laws

@@ -5,20 +5,22 @@ use mathlib.Core.List.{List, [], _∷_, _++_, map}
 use Rattle.base.specs.None.{none}
 use Rattle.base.specs.Loop.{After}
 use Rattle.format_word.specs.Word.{packed}
-use Rattle.plan.specs.declared.Plan.{Plan}
 use Rattle.field.specs.Held.{Held, stepAlone}
 use Rattle.base.specs.Cond as base1
 use Rattle.base.specs.Keep as base2
 use Rattle.base.specs.Log as base3
 use Rattle.base.specs.Test as base5
+use Rattle.base.specs.None as base7
 use Rattle.graph.specs.Decide as graph1
 use Rattle.format_message.specs.Header as message1
 use Rattle.format_message.specs.Listed as message2
 use Rattle.plan.specs.Refusal as plan1
 use Rattle.plan.specs.Weights as plan2
+use Rattle.plan.specs.Links.{Plan}
+use Rattle.field.specs.Edges.{isOwn, marksIn}
 use Rattle.node.specs.Rules as node1
 use Rattle.node.specs.Work as node2
-use Rattle.node_edges.specs.Own as search1
+use Rattle.field.specs.Edges as field0
 use Rattle.field.specs.State as field1
 use Rattle.field.specs.Step as field2
 use Rattle.field.specs.Valid as field3
@@ -26,7 +28,7 @@ use Rattle.field.specs.Held as field4
 
 -- 2 modules and 1 link with readings 3 and 4: M is 12
 abbrev two : Plan
-two = record { modules = 2; links = 1; lower = 0 ∷ []; higher = 1 ∷ []; near = 3 ∷ []; far = 4 ∷ [] }
+two = 2 ∷ 1 ∷ 0 ∷ 1 ∷ 3 ∷ 4 ∷ []
 
 -- the words that can wait here
 abbrev aConnect : ℕ → ℕ → ℕ
@@ -102,5 +104,5 @@ abbrev wants : List Row → List (After Held)
 wants l = map (λ r. r .want) l
 
 pub samples : gots table ≡ wants table
-unfolding base1.upd base2.place base3.log2-to base3.log2 base5.every graph1.label graph1.joined graph1.connected message1.partsOf message1.msgOf message2.bare message2.listedAs message2.listed plan1.ascends plan1.inOrder plan1.linkVerdict plan1.linksRefusal plan1.planRefusal plan2.costIn plan2.earlierIn plan2.beforeIn node1.wakeOn node1.awake node1.doReport node1.testOn node1.changeRoot node1.countUp node1.absorb node1.coreEnd node1.onConnect node1.seek node1.onInitiate node1.onTest node1.childReport node1.coreReport node1.onReport node1.unlessAsleep node1.respondTo node2.before node2.earliest node2.number node2.onEach search1.isOwn search1.endIn search1.marksIn search1.marked search1.looked search1.counted field1.newMarks field2.settle field2.wake field2.hand field2.backOf field2.serve field2.step field3.allOf field3.waitingIn field3.wordFits field3.nodeFits field3.fits field4.valid field4.freshCells field4.setUp field4.stepAlone
+unfolding base1.upd base2.place base3.log2-to base3.log2 base5.every graph1.label graph1.joined graph1.connected message1.partsOf message1.msgOf message2.bare message2.listedAs message2.listed plan1.ascends plan1.inOrder plan1.linkVerdict plan1.linksRefusal plan1.planRefusal base7.beforeBy plan2.cost plan2.earlier node1.wakeOn node1.awake node1.doReport node1.testOn node1.changeRoot node1.countUp node1.absorb node1.coreEnd node1.onConnect node1.seek node1.onInitiate node1.onTest node1.childReport node1.coreReport node1.onReport node1.unlessAsleep node1.respondTo node2.earliest node2.number node2.onEach field0.isOwn field0.endOf field0.marksIn field1.newMarks field2.settle field2.wake field2.hand field2.backOf field2.serve field2.step field3.allOf field3.waitingIn field3.wordFits field3.nodeFits field3.fits field4.valid field4.freshCells field4.setUp field4.stepAlone
 samples = refl

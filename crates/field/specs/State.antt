@@ -8,12 +8,11 @@ use lib.Dec.{eqb, ltb}
 use Rattle.format_message.specs.Msg.{Msg}
 use Rattle.format_message.specs.Header.{headerOf, carriedOf, meant}
 use Rattle.format_word.specs.Word.{packed, headerIn, carriedIn}
-use Rattle.plan.specs.declared.Plan.{Plan}
+use Rattle.plan.specs.Links.{Plan, linksOf}
 use Rattle.node.specs.declared.Node.{Node}
 use Rattle.node.specs.Work.{Work, Send, nodeBy}
 pub use Rattle.node.specs.Work.{WIDTH, values}
-use Rattle.node_edges.specs.Own.{marksIn}
-use Rattle.field.specs.Edges.{over, from, linkOf}
+use Rattle.field.specs.Edges.{from, linkOf, endOf, marksIn}
 
 pub record State : Type 0 where
   pub cells : List ℕ
@@ -41,11 +40,11 @@ putNode cells v n = sets cells (v * WIDTH) (values n)
 
 -- "and a mark for each own link": v's mark of link k, 0 where k is no link of v
 abbrev pub markAt : Plan → State → ℕ → ℕ → ℕ
-markAt p s v k = marksIn (p .links) (p .lower) (p .higher) (s .marks) v k
+markAt p s v k = marksIn p (s .marks) v k
 
 -- the mark of directed end d, x before it, where module v's marks become m
 abbrev pub newMark : Plan → ℕ → (ℕ → ℕ) → ℕ → ℕ → ℕ
-newMark p v m d x = cond (ltb d (2 * p .links) && eqb (from p d) v) (m (linkOf d)) x
+newMark p v m d x = cond (ltb d (2 * linksOf p) && eqb (from p d) v) (m (linkOf d)) x
 
 -- the same for the ends from d on
 unfoldable pub newMarks : Plan → ℕ → (ℕ → ℕ) → ℕ → List ℕ → List ℕ
@@ -57,7 +56,7 @@ putMarks p marks v m = newMarks p v m 0 marks
 
 -- a message of v, not handed over yet
 abbrev pub wordOf : Plan → ℕ → Send → ℕ
-wordOf p v x = packed (headerOf (x .msg)) (carriedOf (x .msg)) (over p v (x .edge)) 0
+wordOf p v x = packed (headerOf (x .msg)) (carriedOf (x .msg)) (endOf p v (x .edge)) 0
 
 abbrev pub posted : Plan → ℕ → List Send → List ℕ
 posted p v l = map (wordOf p v) l

@@ -7,7 +7,7 @@ use lib.Dec.{eqb, ltb, leb}
 use Rattle.base.specs.Loop.{After, taken, refused}
 pub use Rattle.base.specs.Keep.{place}
 use Rattle.format_word.specs.Word.{linkIn, handedIn, handOver}
-use Rattle.plan.specs.declared.Plan.{Plan}
+use Rattle.plan.specs.Links.{Plan, modulesOf, linksOf}
 use Rattle.node.specs.Work.{Work, ASLEEP, BACK, REFUSED}
 use Rattle.node.specs.Rules.{respond, wakes}
 use Rattle.field.specs.Edges.{ownOf, linkOf, dest, limitOf, ceilingOf}
@@ -43,7 +43,7 @@ wakeWork p v s = wakes (ownOf p v) (nodeAt s v) (markAt p s v)
 
 unfoldable pub wake : Plan → ℕ → State → After State
 wake p v s =
-    cond (leb (p .modules) v) (refused 41 s)
+    cond (leb (modulesOf p) v) (refused 41 s)
     (cond (not (eqb (nodeAt s v .status) ASLEEP)) (refused 43 s)
     (settle p v (wakeWork p v s) s (s .words) []))
 
@@ -55,7 +55,7 @@ moved i s =
 -- "42 directed link not below 2 × L; .. 44 nothing to hand over"
 unfoldable pub hand : Plan → ℕ → State → After State
 hand p d s =
-    cond (leb (2 * p .links) d) (refused 42 s)
+    cond (leb (2 * linksOf p) d) (refused 42 s)
     (cond (absent (inAir d) (s .words)) (refused 44 s)
     (taken (moved (place (inAir d) (s .words)) s)))
 
@@ -76,7 +76,7 @@ serveAt p v i s =
 -- "41 module not below N; .. 45 empty queue"
 unfoldable pub serve : Plan → ℕ → State → After State
 serve p v s =
-    cond (leb (p .modules) v) (refused 41 s)
+    cond (leb (modulesOf p) v) (refused 41 s)
     (cond (absent (inQueue p v) (s .words)) (refused 45 s)
     (serveAt p v (place (inQueue p v) (s .words)) s))
 

@@ -10,7 +10,7 @@ use Rattle.base.specs.None.{none}
 use Rattle.base.specs.Test.{every}
 use Rattle.format_message.specs.Header.{levelAt}
 use Rattle.format_word.specs.Word.{headerIn, carriedIn, linkIn, laidOut}
-use Rattle.plan.specs.declared.Plan.{Plan}
+use Rattle.plan.specs.Links.{Plan, modulesOf, linksOf}
 use Rattle.node.specs.declared.Node.{Node}
 use Rattle.node.specs.Work.{FOUND, REJECTED, degree}
 use Rattle.field.specs.Edges.{isOwn, ownOf, limitOf, ceilingOf}
@@ -36,13 +36,13 @@ enough p lent = leb (ceilingOf p) (length lent)
 
 -- a word: as laid out; its carried link below L; its directed link below 2 × L; its level at most ⌊log2 N⌋
 abbrev pub linkOrNone : Plan → ℕ → Bool
-linkOrNone p x = eqb x none || ltb x (p .links)
+linkOrNone p x = eqb x none || ltb x (linksOf p)
 
 abbrev pub carriedFits : Plan → ℕ → Bool
 carriedFits p w = linkOrNone p (carriedIn w)
 
 abbrev pub linkFits : Plan → ℕ → Bool
-linkFits p w = ltb (linkIn w) (2 * p .links)
+linkFits p w = ltb (linkIn w) (2 * linksOf p)
 
 abbrev pub levelFits : Plan → ℕ → Bool
 levelFits p w = leb (levelAt (headerIn w)) (limitOf p)
@@ -80,5 +80,5 @@ markFits s d = leb (getD (s .marks) d 0) REJECTED
 -- all that 31 asks of the state, the words that wait among it
 unfoldable pub fits : Plan → State → Bool
 fits p s =
-    allOf (wordFits p) (s .words) && every (p .modules) (λ v. nodeFits p v (nodeAt s v)) && every (2 * p .links) (markFits s)
+    allOf (wordFits p) (s .words) && every (modulesOf p) (λ v. nodeFits p v (nodeAt s v)) && every (2 * linksOf p) (markFits s)
     && leb (length (s .words)) (s .sent) && leb (s .sent) (ceilingOf p)

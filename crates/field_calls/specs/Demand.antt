@@ -7,8 +7,7 @@ use lib.ListN.{length}
 use Rattle.base.specs.Pool.{All}
 use Rattle.base.specs.Loop.{Ran}
 use Rattle.graph.specs.Order.{InTree}
-use Rattle.plan.specs.declared.Plan.{Plan}
-use Rattle.plan.specs.Links.{low, high, graphOf}
+use Rattle.plan.specs.Links.{graphOf, Plan, modulesOf, linksOf, lowerOf, higherOf}
 use Rattle.plan.specs.Weights.{earlier}
 use Rattle.node.specs.Work.{BRANCH, REJECTED}
 use Rattle.field.specs.Edges.{ceilingOf}
@@ -24,8 +23,8 @@ TreeLink p k = InTree (graphOf p) (earlier p) k
 -- "An end of a link says branch or rejected if that module's mark for it is 1 or 2."
 -- both ends of link k have this mark
 pub record BothSay (p : Plan) (s : State) (mark k : ℕ) : Type 0 where
-  pub lower : markAt p s (low p k) k ≡ mark
-  pub higher : markAt p s (high p k) k ≡ mark
+  pub lower : markAt p s (lowerOf p k) k ≡ mark
+  pub higher : markAt p s (higherOf p k) k ≡ mark
 
 -- "Of the refusals only 41 to 45 and 51 to 54 can occur, and none in a run of rounds." (0 is no refusal.)
 abbrev pub Allowed : Call → ℕ → Type 0
@@ -36,23 +35,23 @@ Allowed (rounds limit) r = r ≡ 0
 -- "exactly two modules have halted, the ends of one tree link"
 pub record Core (p : Plan) (s : State) : Type 0 where
   pub link : ℕ
-  pub within : link < p .links
+  pub within : link < linksOf p
   pub tree : TreeLink p link
-  pub apart : low p link ≢ high p link
-  pub halted : (v : ℕ) → v < p .modules → (nodeAt s v .halted ≡ 1) ↔ ((v ≡ low p link) ⊎ (v ≡ high p link))
+  pub apart : lowerOf p link ≢ higherOf p link
+  pub halted : (v : ℕ) → v < modulesOf p → (nodeAt s v .halted ≡ 1) ↔ ((v ≡ lowerOf p link) ⊎ (v ≡ higherOf p link))
 
 -- "both ends of each tree link say branch, both ends of all others say rejected, and for N of 2 or more exactly two modules have halted, the
 -- ends of one tree link"
 pub record Agreed (p : Plan) (s : State) : Type 0 where
-  pub tree : (k : ℕ) → k < p .links → TreeLink p k → BothSay p s BRANCH k
-  pub others : (k : ℕ) → k < p .links → ¬ TreeLink p k → BothSay p s REJECTED k
-  pub core : 2 ≤ p .modules → Core p s
+  pub tree : (k : ℕ) → k < linksOf p → TreeLink p k → BothSay p s BRANCH k
+  pub others : (k : ℕ) → k < linksOf p → ¬ TreeLink p k → BothSay p s REJECTED k
+  pub core : 2 ≤ modulesOf p → Core p s
 
 -- "comes to rest unrefused within N more rounds than the ceiling"
 pub record Settles (p : Plan) (r : Ran Held) : Type 0 where
   pub rest : stateOf (r .state) .words ≡ []
   pub unrefused : r .answer ≡ 0
-  pub within : r .done ≤ ceilingOf p + p .modules
+  pub within : r .done ≤ ceilingOf p + modulesOf p
 
 -- what demand 3 says of one list of calls on the field and words of a setup
 pub record Claim (p : Plan) (start : Held) (calls : List Call) : Type 0 where
@@ -69,7 +68,7 @@ pub record Claim (p : Plan) (start : Held) (calls : List Call) : Type 0 where
   -- "If a module was woken and the field is at rest, .."
   pub agreed : wokenIn p (trail calls start) ≢ [] → stateOf (after calls start) .words ≡ [] → Agreed p (stateOf (after calls start))
   -- "Whatever such a list leaves, a run of rounds from there, its limit the ceiling plus N or more, comes to rest .."
-  pub settles : (limit : ℕ) → ceilingOf p + p .modules ≤ limit → Settles p (runRounds limit (after calls start))
+  pub settles : (limit : ℕ) → ceilingOf p + modulesOf p ≤ limit → Settles p (runRounds limit (after calls start))
 
 -- "For every accepted plan of N modules and L links, and every list of wakeups, hand-overs and services from its setup on, given singly or in
 -- runs, refused ones included": accepted, and lent M words or more, is a setup that is not refused.

@@ -1,33 +1,28 @@
 -- Rounds (synchronous rounds), and a run of them.
-use Prim.Native.Nat.{ℕ, _+_, _*_}
+use Prim.Native.Nat.{ℕ, _*_}
+use Rattle.base.specs.Keep.{many}
 use mathlib.Core.Bool.{Bool}
-use mathlib.Core.List.{List, [], _∷_}
+use mathlib.Core.List.{[]}
 use lib.ListN.{length}
 use lib.Dec.{eqb}
-use Rattle.base.specs.Cond.{bit}
 use Rattle.base.specs.Loop.{After, Ran, then, loop, runs}
-use Rattle.plan.specs.declared.Plan.{Plan}
+use Rattle.plan.specs.Links.{Plan, modulesOf, linksOf}
 use Rattle.field.specs.State.{State}
 use Rattle.field.specs.Step.{inAir, inQueue, hand, serve}
-
--- how many words pass the test
-unfoldable pub many : (ℕ → Bool) → List ℕ → ℕ
-many q [] = 0
-many q (x ∷ l) = bit (q x) + many q l
 
 -- "A round hands over all that each directed link holds, in number order,"
 unfoldable pub handTurn : Plan → ℕ → State → After State
 handTurn p d s = loop (many (inAir d) (s .words)) (λ j. hand p d) s
 
 abbrev pub handPhase : Plan → State → After State
-handPhase p s = loop (2 * p .links) (handTurn p) s
+handPhase p s = loop (2 * linksOf p) (handTurn p) s
 
 -- "then lets each module in number order serve as many as its queue then held."
 unfoldable pub serveTurn : Plan → ℕ → State → After State
 serveTurn p v s = loop (many (inQueue p v) (s .words)) (λ j. serve p v) s
 
 abbrev pub servePhase : Plan → State → After State
-servePhase p s = loop (p .modules) (serveTurn p) s
+servePhase p s = loop (modulesOf p) (serveTurn p) s
 
 unfoldable pub round : Plan → State → After State
 round p s = then (handPhase p s) (servePhase p)

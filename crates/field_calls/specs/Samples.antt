@@ -3,9 +3,8 @@ use Prim.Native.Nat.{ℕ}
 use mathlib.Core.Path.{_≡_, refl}
 use mathlib.Core.List.{List, [], _∷_, map}
 use lib.ListN.{take}
-use Rattle.base.specs.None.{none}
+use Rattle.base.specs.None.{none, beforeBy}
 use Rattle.format_word.specs.Word.{packed}
-use Rattle.plan.specs.declared.Plan.{Plan}
 use Rattle.field.specs.State.{nodeAt}
 use Rattle.field.specs.Held.{Held, stateOf, setUp}
 use Rattle.field_calls.specs.Call.{Call, one, run, rounds, does, after}
@@ -15,14 +14,17 @@ use Rattle.base.specs.Keep as base2
 use Rattle.base.specs.Log as base3
 use Rattle.base.specs.Loop as base4
 use Rattle.base.specs.Test as base5
+use Rattle.base.specs.None as base7
 use Rattle.graph.specs.Decide as graph1
 use Rattle.format_message.specs.Header as message1
 use Rattle.format_message.specs.Listed as message2
 use Rattle.plan.specs.Refusal as plan1
 use Rattle.plan.specs.Weights as plan2
+use Rattle.plan.specs.Links.{Plan}
+use Rattle.field.specs.Edges.{isOwn, marksIn, endOf}
 use Rattle.node.specs.Rules as node1
 use Rattle.node.specs.Work as node2
-use Rattle.node_edges.specs.Own as search1
+use Rattle.field.specs.Edges as field0
 use Rattle.field.specs.State as field1
 use Rattle.field.specs.Step as field2
 use Rattle.field.specs.Valid as field3
@@ -34,7 +36,7 @@ use Rattle.field_calls.specs.Trail as calls4
 
 -- 2 modules and 1 link with readings 3 and 4; the words of a setup
 abbrev two : Plan
-two = record { modules = 2; links = 1; lower = 0 ∷ []; higher = 1 ∷ []; near = 3 ∷ []; far = 4 ∷ [] }
+two = 2 ∷ 1 ∷ 0 ∷ 1 ∷ 3 ∷ 4 ∷ []
 
 abbrev lent : List ℕ
 lent = 7 ∷ 7 ∷ 7 ∷ 7 ∷ 7 ∷ 7 ∷ 7 ∷ 7 ∷ 7 ∷ 7 ∷ 7 ∷ 7 ∷ []
@@ -143,5 +145,5 @@ abbrev wants : List Row → List Shown
 wants l = map (λ r. r .want) l
 
 pub samples : gots (sleeper ∷ table) ≡ wants (sleeper ∷ table)
-unfolding dones refusals base1.upd base2.place base3.log2-to base3.log2 base4.then base4.loop base4.runs base4.loopTrace base4.runsTrace base5.every graph1.label graph1.joined graph1.connected message1.partsOf message1.msgOf message2.bare message2.listedAs message2.listed plan1.ascends plan1.inOrder plan1.linkVerdict plan1.linksRefusal plan1.planRefusal plan2.costIn plan2.earlierIn plan2.beforeIn node1.wakeOn node1.awake node1.doReport node1.testOn node1.changeRoot node1.countUp node1.absorb node1.coreEnd node1.onConnect node1.seek node1.onInitiate node1.onTest node1.childReport node1.coreReport node1.onReport node1.unlessAsleep node1.respondTo node2.before node2.earliest node2.number node2.onEach search1.isOwn search1.endIn search1.marksIn search1.marked search1.looked search1.counted field1.newMarks field2.settle field2.wake field2.hand field2.backOf field2.serve field2.step field3.allOf field3.waitingIn field3.wordFits field3.nodeFits field3.fits field4.valid field4.freshCells field4.setUp field4.stepAlone calls1.scheduleRefusal calls2.many calls2.handTurn calls2.serveTurn calls2.round calls3.runBytes calls3.runRounds calls3.does calls3.after calls3.answers calls4.ifTaken calls4.handTurnSteps calls4.serveTurnSteps calls4.roundSteps calls4.stepsOf calls4.trail calls4.sendsOf calls4.wakesOne calls4.wokenIn
+unfolding dones refusals base1.upd base2.place base3.log2-to base3.log2 base4.then base4.loop base4.runs base4.loopTrace base4.runsTrace base5.every graph1.label graph1.joined graph1.connected message1.partsOf message1.msgOf message2.bare message2.listedAs message2.listed plan1.ascends plan1.inOrder plan1.linkVerdict plan1.linksRefusal plan1.planRefusal base7.beforeBy plan2.cost plan2.earlier node1.wakeOn node1.awake node1.doReport node1.testOn node1.changeRoot node1.countUp node1.absorb node1.coreEnd node1.onConnect node1.seek node1.onInitiate node1.onTest node1.childReport node1.coreReport node1.onReport node1.unlessAsleep node1.respondTo node2.earliest node2.number node2.onEach field0.isOwn field0.endOf field0.marksIn field1.newMarks field2.settle field2.wake field2.hand field2.backOf field2.serve field2.step field3.allOf field3.waitingIn field3.wordFits field3.nodeFits field3.fits field4.valid field4.freshCells field4.setUp field4.stepAlone calls1.scheduleRefusal base2.many calls2.handTurn calls2.serveTurn calls2.round calls3.runBytes calls3.runRounds calls3.does calls3.after calls3.answers calls4.ifTaken calls4.handTurnSteps calls4.serveTurnSteps calls4.roundSteps calls4.stepsOf calls4.trail calls4.sendsOf calls4.wakesOne calls4.wokenIn
 samples = refl

@@ -12,7 +12,7 @@ use Rattle.base.specs.Test.{every}
 use Rattle.base.specs.Loop.{After, Ran, counted, runs}
 use Rattle.base.specs.Refuse.{orElse}
 use Rattle.base.specs.LoopLaws.{by-test}
-use Rattle.plan.specs.declared.Plan.{Plan}
+use Rattle.plan.specs.Links.{Plan}
 use Rattle.field.specs.State.{State}
 use Rattle.field.specs.Step.{step}
 use Rattle.field_calls.specs.declared.Step.{Step}

@@ -9,13 +9,14 @@ use Rattle.base.specs.Loop.{loopTrace, runsTrace}
 use Rattle.base.specs.Pool.{sumL}
 use Rattle.format_message.specs.Header.{kindAt}
 use Rattle.format_word.specs.Word.{headerIn}
-use Rattle.plan.specs.declared.Plan.{Plan}
+use Rattle.plan.specs.Links.{Plan, modulesOf, linksOf}
 use Rattle.node.specs.Work.{ASLEEP, BACK}
 use Rattle.field.specs.State.{State, nodeAt}
 use Rattle.field.specs.Step.{place, inAir, inQueue, wakeWork, serveWork, hand, serve, step}
 use Rattle.field.specs.Held.{Held, stateOf, valid}
 use Rattle.field_calls.specs.Schedule.{scheduleRefusal, stepsIn, kindOf, numberOf, stepAt, never}
-use Rattle.field_calls.specs.Rounds.{many, handTurn, handPhase, serveTurn, round, atRest}
+use Rattle.base.specs.Keep.{many}
+use Rattle.field_calls.specs.Rounds.{handTurn, handPhase, serveTurn, round, atRest}
 use Rattle.field_calls.specs.Call.{Call, one, run, rounds, does}
 
 -- a step that was taken, in a state
@@ -38,8 +39,8 @@ serveTurnSteps p v s = loopTrace (many (inQueue p v) (s .words)) (λ j. serve p 
 
 unfoldable pub roundSteps : Plan → State → List Taken
 roundSteps p s =
-    loopTrace (2 * p .links) (handTurn p) (handTurnSteps p) s
-    ++ cond (eqb (handPhase p s .answer) 0) (loopTrace (p .modules) (serveTurn p) (serveTurnSteps p) (handPhase p s .state)) []
+    loopTrace (2 * linksOf p) (handTurn p) (handTurnSteps p) s
+    ++ cond (eqb (handPhase p s .answer) 0) (loopTrace (modulesOf p) (serveTurn p) (serveTurnSteps p) (handPhase p s .state)) []
 
 -- the steps that a call takes in a field that 31 does not refuse
 unfoldable pub stepsOf : Plan → Call → State → List Taken

@@ -1,5 +1,5 @@
 -- Setup, and lists of calls from it on: never 31, the counts are exact, an invariant of the steps holds after every list.
-use Prim.Native.Nat.{ℕ, zero, suc, _+_, _*_, _≤_, _<_}
+use Prim.Native.Nat.{ℕ, zero, suc, _+_, _≤_, _<_}
 use native.Mathlib.Omega.{arith}
 use native.Mathlib.Nat.{not-suc-le-zero}
 use mathlib.Core.Path.{_≡_, refl, sym, ap, ap₂, subst, _∙_}
@@ -12,9 +12,9 @@ use borrow.Author.Tests.{le-leb, eq-eqb}
 use Rattle.base.specs.Cond.{eqb-cases, ltb-cases}
 use Rattle.base.specs.Loop.{After, taken, refused}
 use Rattle.base.specs.Pool.{nil}
-use Rattle.plan.specs.declared.Plan.{Plan}
 use Rattle.plan.specs.Refusal.{planRefusal}
 use Rattle.plan.specs.Accepted.{Accepted, accepted}
+use Rattle.plan.specs.Links.{Plan}
 use Rattle.node.specs.Work.{setup, ASLEEP}
 use Rattle.field.specs.Edges.{ownOf, limitOf, ceilingOf}
 use Rattle.node.specs.Values.{node-by}

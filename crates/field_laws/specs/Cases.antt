@@ -12,7 +12,7 @@ use Rattle.base.specs.Cond.{bool-cases, eqb-cases, ltb-cases, eqb-diff, by-eq}
 use Rattle.base.specs.Loop.{After, taken, refused}
 use Rattle.base.specs.Keep.{keep, First, place, place-first, place-some}
 use Rattle.format_word.specs.Word.{handOver}
-use Rattle.plan.specs.declared.Plan.{Plan}
+use Rattle.plan.specs.Links.{Plan, modulesOf, linksOf}
 use Rattle.node.specs.Work.{Work, ASLEEP, REFUSED}
 use Rattle.field.specs.Edges.{ceilingOf}
 use Rattle.field.specs.State.{State, nodeAt, placed}
@@ -25,19 +25,19 @@ pub record Placed (p : Plan) (v : ℕ) (w : Work) (s : State) (words back : List
   pub is : s′ ≡ placed p v w s words back
 
 pub record Woke (p : Plan) (v : ℕ) (s s′ : State) : Type 0 where
-  pub within : v < p .modules
+  pub within : v < modulesOf p
   pub asleep : nodeAt s v .status ≡ ASLEEP
   pub responds : Placed p v (wakeWork p v s) s (s .words) [] s′
 
 pub record Handed (p : Plan) (d : ℕ) (s s′ : State) : Type 0 where
-  pub within : d < 2 * p .links
+  pub within : d < 2 * linksOf p
   pub word : ℕ
   pub rest : List ℕ
   pub first : First (inAir d) (s .words) word rest
   pub is : s′ ≡ record { cells = s .cells; marks = s .marks; words = rest ++ (handOver word ∷ []); sent = s .sent }
 
 pub record Served (p : Plan) (v : ℕ) (s s′ : State) : Type 0 where
-  pub within : v < p .modules
+  pub within : v < modulesOf p
   pub word : ℕ
   pub rest : List ℕ
   pub first : First (inQueue p v) (s .words) word rest
@@ -83,7 +83,7 @@ outcome-map f (kept r h) = kept r h
 module _ (p : Plan) (s : State) where
   pub wakes : (v : ℕ) → Outcome s (Woke p v s) (wake p v s)
   unfolding wake
-  wakes v = bool-cases (leb (p .modules) v)
+  wakes v = bool-cases (leb (modulesOf p) v)
       (λ b. rw b (kept 41 (usual 41 (omega arith) (omega arith))))
       (λ b. rw b (eqb-cases (nodeAt s v .status) ASLEEP (λ t. Outcome s (Woke p v s) (cond (not t) (refused 43 s) (settle p v (wakeWork p v s) s (s .words) [])))
       (λ e. outcome-map (λ s′ h. record { within = leb-false _ _ b; asleep = e; responds = h }) (settled p v (wakeWork p v s) s (s .words) []))
@@ -91,7 +91,7 @@ module _ (p : Plan) (s : State) where
 
   pub hands : (d : ℕ) → Outcome s (Handed p d s) (hand p d s)
   unfolding hand
-  hands d = bool-cases (leb (2 * p .links) d)
+  hands d = bool-cases (leb (2 * linksOf p) d)
       (λ b. rw b (kept 42 (usual 42 (omega arith) (omega arith))))
       (λ b. rw b (bool-cases (leb (length (s .words)) (place (inAir d) (s .words)))
       (λ c. rw c (kept 44 (usual 44 (omega arith) (omega arith))))
@@ -99,7 +99,7 @@ module _ (p : Plan) (s : State) where
 
   pub serves : (v : ℕ) → Outcome s (Served p v s) (serve p v s)
   unfolding serve
-  serves v = bool-cases (leb (p .modules) v)
+  serves v = bool-cases (leb (modulesOf p) v)
       (λ b. rw b (kept 41 (usual 41 (omega arith) (omega arith))))
       (λ b. rw b (bool-cases (leb (length (s .words)) (place (inQueue p v) (s .words)))
       (λ c. rw c (kept 45 (usual 45 (omega arith) (omega arith))))
@@ -142,14 +142,14 @@ took-it (kept r h) e = absurd (refusal-some r h e)
 
 module _ (p : Plan) (s : State) where
   -- a word is there to hand over
-  pub hand-fine : (d : ℕ) → d < 2 * p .links → 1 ≤ length (keep (inAir d) (s .words)) → hand p d s .answer ≡ 0
+  pub hand-fine : (d : ℕ) → d < 2 * linksOf p → 1 ≤ length (keep (inAir d) (s .words)) → hand p d s .answer ≡ 0
   unfolding hand
-  hand-fine d l h = rw (lt-leb (2 * p .links) d l, lt-leb (length (s .words)) (place (inAir d) (s .words)) (place-some (inAir d) (s .words) h)) refl
+  hand-fine d l h = rw (lt-leb (2 * linksOf p) d l, lt-leb (length (s .words)) (place (inAir d) (s .words)) (place-some (inAir d) (s .words) h)) refl
 
   -- a word is in the queue, and the response is not refused
-  pub serve-fine : (v : ℕ) → v < p .modules → 1 ≤ length (keep (inQueue p v) (s .words)) → serve p v s .answer ≢ 32 → serve p v s .answer ≢ 33 → serve p v s .answer ≡ 0
+  pub serve-fine : (v : ℕ) → v < modulesOf p → 1 ≤ length (keep (inQueue p v) (s .words)) → serve p v s .answer ≢ 32 → serve p v s .answer ≢ 33 → serve p v s .answer ≡ 0
   unfolding serve
-  serve-fine v l h = rw (lt-leb (p .modules) v l, lt-leb (length (s .words)) (place (inQueue p v) (s .words)) (place-some (inQueue p v) (s .words) h))
+  serve-fine v l h = rw (lt-leb (modulesOf p) v l, lt-leb (length (s .words)) (place (inQueue p v) (s .words)) (place-some (inQueue p v) (s .words) h))
       (let i = place (inQueue p v) (s .words) in
       let x = getD (s .words) i 0 in
       let w = serveWork p v x s in

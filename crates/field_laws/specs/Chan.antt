@@ -12,7 +12,7 @@ use Rattle.format_message.specs.Msg.{Msg}
 use Rattle.format_message.specs.Header.{kindAt, levelAt, findAt, msgOf}
 use Rattle.format_word.specs.Word.{headerIn, carriedIn, linkIn, handedIn, shaped, handOver}
 use Rattle.format_word.specs.Laws.{Unpacked, over}
-use Rattle.plan.specs.declared.Plan.{Plan}
+use Rattle.plan.specs.Links.{Plan}
 use Rattle.field.specs.Edges.{dest}
 use Rattle.field.specs.State.{msgIn}
 use Rattle.field.specs.Step.{inAir, inQueue}

@@ -11,8 +11,8 @@ use Rattle.base.specs.Pool.{All, All-map, All-here}
 use Rattle.base.specs.Keep.{first-out, first-passes}
 use Rattle.format_message.specs.Msg.{Msg}
 use Rattle.format_word.specs.Word.{linkIn}
-use Rattle.plan.specs.declared.Plan.{Plan}
 use Rattle.plan.specs.Accepted.{Accepted}
+use Rattle.plan.specs.Links.{Plan, linksOf}
 use Rattle.node.specs.Work.{Work, BACK}
 use Rattle.field.specs.Edges.{isOwn, ownOf, from, limitOf}
 use Rattle.field.specs.State.{State, msgIn, posted}
@@ -61,7 +61,7 @@ module _ (p : Plan) (a : Accepted p) (s : State) (i : Sound p s) where
     abbrev sent : List ℕ
     sent = h .rest ++ posted p v (w .sends)
 
-    fits : linkIn x < 2 * p .links
+    fits : linkIn x < 2 * linksOf p
     fits = word-link p x (All-here (first-out (h .first)) (i .fits .words))
 
     ok : WorkOk (ownOf p v) (limitOf p) w

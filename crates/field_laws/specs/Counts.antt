@@ -13,7 +13,7 @@ use Rattle.base.specs.LoopLaws.{by-test}
 use Rattle.base.specs.Pool.{sumL-app}
 use Rattle.base.specs.Keep.{first-out}
 use Rattle.format_word.specs.Word.{handOver}
-use Rattle.plan.specs.declared.Plan.{Plan}
+use Rattle.plan.specs.Links.{Plan}
 use Rattle.node.specs.Work.{Work, BACK}
 use Rattle.field.specs.State.{State, posted}
 use Rattle.field.specs.Step.{wakeWork, serveWork, backOf, step}

@@ -19,24 +19,24 @@ use Rattle.format_message.specs.Byte.{parts-of-byte}
 use Rattle.format_message.specs.Means.{Means, means, in-bits, header-lt}
 use Rattle.format_word.specs.Word.{headerIn, carriedIn, linkIn, laidOut, shaped, handOver}
 use Rattle.format_word.specs.Laws.{unpacked, over, over-laid-out, packs-laid-out}
-use Rattle.plan.specs.declared.Plan.{Plan}
 use Rattle.node.specs.declared.Node.{Node}
 use Rattle.node.specs.Work.{Own, Send, FOUND, REJECTED}
-use Rattle.node_edges.specs.Laws.{end-small}
 use Rattle.field.specs.Edges as O
 use Rattle.field.specs.Edges.{isOwn, ownOf, limitOf, ceilingOf}
 use Rattle.field.specs.State.{State, nodeAt, msgIn, wordOf, posted}
 use Rattle.field.specs.Valid.{allOf, linkOrNone, ownOrNone, carriedFits, linkFits, levelFits, wordFits, valuesListed, levelWithin, countWithin, identityFits, nodeFits, markFits, fits}
 use Rattle.plan.specs.Accepted.{Accepted}
 use Rattle.plan.specs.Ceiling.{level-small}
+use Rattle.plan.specs.Links.{Plan, modulesOf, linksOf}
+use Rattle.field.specs.laws.Edges.{end-small}
 use Rattle.field_laws.specs.Places.{own-below, over-below}
 use Rattle.field_laws.specs.Sends.{Packs}
 use Rattle.field_laws.specs.Lists.{LinkOrNone, OwnOrNone, NodeOk, MsgOk, SendOk}
 
 pub record Fits (p : Plan) (s : State) : Type 0 where
   pub words : All (λ w. wordFits p w ≡ true) (s .words)
-  pub nodes : (v : ℕ) → v < p .modules → NodeOk (ownOf p v) (limitOf p) (nodeAt s v)
-  pub marks : (d : ℕ) → d < 2 * p .links → getD (s .marks) d 0 ≤ REJECTED
+  pub nodes : (v : ℕ) → v < modulesOf p → NodeOk (ownOf p v) (limitOf p) (nodeAt s v)
+  pub marks : (d : ℕ) → d < 2 * linksOf p → getD (s .marks) d 0 ≤ REJECTED
   pub waiting : length (s .words) ≤ s .sent
   pub ceiling : s .sent ≤ ceilingOf p
 
@@ -81,10 +81,10 @@ of-all q (con {x} {xs} h t) = pair (q x) (allOf q xs) h (of-all q t)
 
 module _ (p : Plan) (v x : ℕ) where
   link-none : linkOrNone p x ≡ true → LinkOrNone (ownOf p v) x
-  link-none e = ⊎-elim (λ a. inl (eqb-true x none a)) (λ b. inr (ltb-true x (p .links) b)) (some (eqb x none) (ltb x (p .links)) e)
+  link-none e = ⊎-elim (λ a. inl (eqb-true x none a)) (λ b. inr (ltb-true x (linksOf p) b)) (some (eqb x none) (ltb x (linksOf p)) e)
 
   none-link : LinkOrNone (ownOf p v) x → linkOrNone p x ≡ true
-  none-link h = ⊎-elim (λ a. left (eqb x none) _ (eq-eqb x none a)) (λ b. right (eqb x none) _ (lt-ltb x (p .links) b)) h
+  none-link h = ⊎-elim (λ a. left (eqb x none) _ (eq-eqb x none a)) (λ b. right (eqb x none) _ (lt-ltb x (linksOf p) b)) h
 
   own-none : ownOrNone p v x ≡ true → OwnOrNone (ownOf p v) x
   own-none e = ⊎-elim (λ a. inl (eqb-true x none a)) (λ b. inr b) (some (eqb x none) (isOwn p v x) e)
@@ -145,7 +145,7 @@ module _ (p : Plan) (w : ℕ) (e : wordFits p w ≡ true) where
   pub word-shaped : shaped w ≡ true
   word-shaped = two (shaped w) (listed (headerIn w) (carriedIn w)) (parts .0) .0
 
-  pub word-link : linkIn w < 2 * p .links
+  pub word-link : linkIn w < 2 * linksOf p
   word-link = ltb-true _ _ (parts .2)
 
   pub word-nonzero : w ≢ 0
@@ -184,7 +184,7 @@ unfolding wordFits
 hand-fits p w e =
     let h = parts p w e in
     let u = over w (eqb-true (w / 2 ^ 41) 1 (word-shaped p w e)) in
-    all-four _ _ _ _ (over-laid-out w (h .0)) (ap (linkOrNone p) (u .carried) ∙ h .1) (ap (λ d. ltb d (2 * p .links)) (u .link) ∙ h .2)
+    all-four _ _ _ _ (over-laid-out w (h .0)) (ap (linkOrNone p) (u .carried) ∙ h .1) (ap (λ d. ltb d (2 * linksOf p)) (u .link) ∙ h .2)
     (ap (λ x. leb (levelAt x) (limitOf p)) (u .header) ∙ h .3)
 
 -- ---- a send
@@ -230,14 +230,14 @@ module _ (p : Plan) (a : Accepted p) (v : ℕ) (x : Send) (h : SendOk (ownOf p v
   unfolding wordFits
   send-fits =
       let m = x .msg in
-      let d = O.over p v (x .edge) in
+      let d = O.endOf p v (x .edge) in
       let b = in-bits m (send-packs .listed) in
-      let small : d < 65536 = omega (arith, end-small (p .lower) v (x .edge) (send-packs .small)) in
+      let small : d < 65536 = omega (arith, end-small p v (x .edge) (send-packs .small)) in
       let u = unpacked (headerOf m) (carriedOf m) d 0 (omega (arith, header-lt m (send-packs .listed))) (b .carried) small (omega arith) in
       let q = parts-of-byte (partsOf m .kind) (partsOf m .level) (partsOf m .find) (b .kind) (b .level) (b .find) .1 in
       all-four _ _ _ _ (packs-laid-out m d false (send-packs .listed) small)
       (ap (linkOrNone p) (u .carried) ∙ none-link p v (carriedOf m) (carried-within (ownOf p v) (limitOf p) m (h .msg)))
-      (ap (λ y. ltb y (2 * p .links)) (u .link) ∙ lt-ltb d (2 * p .links) (over-below p v (x .edge) (h .own)))
+      (ap (λ y. ltb y (2 * linksOf p)) (u .link) ∙ lt-ltb d (2 * linksOf p) (over-below p v (x .edge) (h .own)))
       (ap (λ y. leb (levelAt y) (limitOf p)) (u .header) ∙ ap (λ y. leb y (limitOf p)) q ∙ le-leb (partsOf m .level) (limitOf p) (level-within (ownOf p v) (limitOf p) m (h .msg)))
 
 pub sends-fit : (p : Plan) (a : Accepted p) (v : ℕ) {l : List Send} → All (SendOk (ownOf p v) (limitOf p)) l → All (λ w. wordFits p w ≡ true) (posted p v l)
@@ -253,12 +253,12 @@ module _ (p : Plan) (s : State) where
   pub fits-facts : fits p s ≡ true → Fits p s
   unfolding fits
   fits-facts e =
-      let a = two (allOf (wordFits p) (s .words) && every (p .modules) (λ v. nodeFits p v (nodeAt s v)) && every (2 * p .links) (markFits s) && leb (length (s .words)) (s .sent)) (leb (s .sent) (ceilingOf p)) e in
-      let b = four (allOf (wordFits p) (s .words)) (every (p .modules) (λ v. nodeFits p v (nodeAt s v))) (every (2 * p .links) (markFits s)) (leb (length (s .words)) (s .sent)) (a .0) in
+      let a = two (allOf (wordFits p) (s .words) && every (modulesOf p) (λ v. nodeFits p v (nodeAt s v)) && every (2 * linksOf p) (markFits s) && leb (length (s .words)) (s .sent)) (leb (s .sent) (ceilingOf p)) e in
+      let b = four (allOf (wordFits p) (s .words)) (every (modulesOf p) (λ v. nodeFits p v (nodeAt s v))) (every (2 * linksOf p) (markFits s)) (leb (length (s .words)) (s .sent)) (a .0) in
       record {
         words = all-of (wordFits p) (s .words) (b .0);
-        nodes = λ v l. node-facts p v (nodeAt s v) (every-all (p .modules) (λ u. nodeFits p u (nodeAt s u)) (b .1) v l);
-        marks = λ d l. leb-true _ _ (every-all (2 * p .links) (markFits s) (b .2) d l);
+        nodes = λ v l. node-facts p v (nodeAt s v) (every-all (modulesOf p) (λ u. nodeFits p u (nodeAt s u)) (b .1) v l);
+        marks = λ d l. leb-true _ _ (every-all (2 * linksOf p) (markFits s) (b .2) d l);
         waiting = leb-true _ _ (b .3);
         ceiling = leb-true _ _ (a .1);
       }
@@ -267,6 +267,6 @@ module _ (p : Plan) (s : State) where
   unfolding fits
   facts-fits h =
       pair _ _
-      (all-four _ _ _ _ (of-all (wordFits p) (h .words)) (all-every (p .modules) (λ u. nodeFits p u (nodeAt s u)) (λ v l. facts-node p v (nodeAt s v) (h .nodes v l)))
-      (all-every (2 * p .links) (markFits s) (λ d l. le-leb _ _ (h .marks d l))) (le-leb _ _ (h .waiting)))
+      (all-four _ _ _ _ (of-all (wordFits p) (h .words)) (all-every (modulesOf p) (λ u. nodeFits p u (nodeAt s u)) (λ v l. facts-node p v (nodeAt s v) (h .nodes v l)))
+      (all-every (2 * linksOf p) (markFits s) (λ d l. le-leb _ _ (h .marks d l))) (le-leb _ _ (h .waiting)))
       (le-leb _ _ (h .ceiling))

@@ -12,14 +12,14 @@ use Rattle.base.specs.LoopLaws.{by-test}
 use Rattle.base.specs.Pool.{All, nil, All-app, All-one, All-here, All-rest, Out, here, there}
 use Rattle.base.specs.Keep.{first-out, first-passes}
 use Rattle.format_word.specs.Word.{linkIn, handOver}
-use Rattle.plan.specs.declared.Plan.{Plan}
 use Rattle.node.specs.Work.{Work, REJECTED, BACK}
-use Rattle.node_edges.specs.Laws.{mark-own, mark-not}
-use Rattle.field.specs.Edges.{isOwn, ownOf, over, linkOf, from, limitOf, ceilingOf}
+use Rattle.field.specs.Edges.{isOwn, ownOf, linkOf, from, limitOf, ceilingOf, endOf}
 use Rattle.field.specs.State.{State, WIDTH, nodeAt, markAt, placed, posted}
 use Rattle.field.specs.Step.{inQueue, wakeWork, serveWork, backOf, step}
 use Rattle.field.specs.Valid.{wordFits}
 use Rattle.plan.specs.Accepted.{Accepted}
+use Rattle.plan.specs.Links.{Plan, modulesOf, linksOf}
+use Rattle.field.specs.laws.Edges.{mark-own, mark-not}
 use Rattle.field_laws.specs.Chan.{queue-parts}
 use Rattle.field_laws.specs.Sends.{length-posted}
 use Rattle.field_laws.specs.Cases.{Outcome, took, kept, Step, wake-step, hand-step, serve-step, steps}
@@ -29,8 +29,8 @@ use Rattle.field_laws.specs.Fits.{Fits, word-link, word-msg, hand-fits, 
 
 -- room for N modules and the marks of L links: so in a field, whose arrays hold 192 and 600
 pub record Sized (p : Plan) (s : State) : Type 0 where
-  pub cells : p .modules * WIDTH ≤ length (s .cells)
-  pub marks : 2 * p .links ≤ length (s .marks)
+  pub cells : modulesOf p * WIDTH ≤ length (s .cells)
+  pub marks : 2 * linksOf p ≤ length (s .marks)
 
 pub record Sound (p : Plan) (s : State) : Type 0 where
   pub sized : Sized p s
@@ -42,33 +42,33 @@ out-length (there o) = ap suc (out-length o)
 
 module _ (p : Plan) (a : Accepted p) (s : State) (i : Sound p s) where
   -- what a response starts from
-  start-ok : (v : ℕ) → v < p .modules → (k : ℕ) → markAt p s v k ≤ REJECTED
+  start-ok : (v : ℕ) → v < modulesOf p → (k : ℕ) → markAt p s v k ≤ REJECTED
   start-ok v l k = bool-cases (isOwn p v k)
-      (λ o. rw (mark-own (p .links) (p .lower) (p .higher) v k (s .marks) o) (i .fits .marks (over p v k) (over-below p v k o)))
-      (λ o. rw (mark-not (p .links) (p .lower) (p .higher) v k (s .marks) o) (omega arith))
+      (λ o. rw (mark-own p v k (s .marks) o) (i .fits .marks (endOf p v k) (over-below p v k o)))
+      (λ o. rw (mark-not p v k (s .marks) o) (omega arith))
 
-  pub wake-ok : (v : ℕ) → v < p .modules → WorkOk (ownOf p v) (limitOf p) (wakeWork p v s)
+  pub wake-ok : (v : ℕ) → v < modulesOf p → WorkOk (ownOf p v) (limitOf p) (wakeWork p v s)
   wake-ok v l = ok-wakeup (ownOf p v) (limitOf p) _ (record { node = i .fits .nodes v l; marks = start-ok v l; sends = nil })
 
   -- the link of a word in v's queue is v's own
   pub served-own : (v x : ℕ) → wordFits p x ≡ true → inQueue p v x ≡ true → isOwn p v (linkOf (linkIn x)) ≡ true
   served-own v x f q = subst (λ u. isOwn p u (linkOf (linkIn x)) ≡ true) (queue-parts p v x q .1) (dest-own p a (linkIn x) (word-link p x f))
 
-  pub serve-ok : (v x : ℕ) → v < p .modules → wordFits p x ≡ true → inQueue p v x ≡ true → WorkOk (ownOf p v) (limitOf p) (serveWork p v x s)
+  pub serve-ok : (v x : ℕ) → v < modulesOf p → wordFits p x ≡ true → inQueue p v x ≡ true → WorkOk (ownOf p v) (limitOf p) (serveWork p v x s)
   serve-ok v x l f q =
       let o = served-own v x f q in
       ok-respond (ownOf p v) (limitOf p) (linkOf (linkIn x)) o (own-below p v (linkOf (linkIn x)) o) (omega (arith, a .linksOk)) _ _ (word-msg p v x f)
       (record { node = i .fits .nodes v l; marks = start-ok v l; sends = nil })
 
   -- a response is placed
-  module _ (v : ℕ) (l : v < p .modules) (w : Work) (ok : WorkOk (ownOf p v) (limitOf p) w) (words back : List ℕ)
+  module _ (v : ℕ) (l : v < modulesOf p) (w : Work) (ok : WorkOk (ownOf p v) (limitOf p) w) (words back : List ℕ)
       (fw : All (λ x. wordFits p x ≡ true) words) (fb : All (λ x. wordFits p x ≡ true) back) (few : length words + length back ≤ s .sent)
       (room : s .sent + length (w .sends) ≤ ceilingOf p) where
-    mark-fits : (d : ℕ) → d < 2 * p .links → getD (placed p v w s words back .marks) d 0 ≤ REJECTED
+    mark-fits : (d : ℕ) → d < 2 * linksOf p → getD (placed p v w s words back .marks) d 0 ≤ REJECTED
     mark-fits d h = rw (mark-at p v (w .mark) (s .marks) d (omega (arith, i .sized .marks)))
-        (by-test (ltb d (2 * p .links) && eqb (from p d) v) (λ b. cond b (w .mark (linkOf d)) (getD (s .marks) d 0) ≤ REJECTED) (ok .marks (linkOf d)) (i .fits .marks d h))
+        (by-test (ltb d (2 * linksOf p) && eqb (from p d) v) (λ b. cond b (w .mark (linkOf d)) (getD (s .marks) d 0) ≤ REJECTED) (ok .marks (linkOf d)) (i .fits .marks d h))
 
-    node-fits : (u : ℕ) → u < p .modules → NodeOk (ownOf p u) (limitOf p) (nodeAt (placed p v w s words back) u)
+    node-fits : (u : ℕ) → u < modulesOf p → NodeOk (ownOf p u) (limitOf p) (nodeAt (placed p v w s words back) u)
     node-fits u h = by-eq u v
         (λ e. subst (λ x. NodeOk (ownOf p x) (limitOf p) (nodeAt (placed p v w s words back) x)) (sym e)
         (subst (λ n. NodeOk (ownOf p v) (limitOf p) n) (sym (node-same (s .cells) v (w .node) (omega (arith, i .sized .cells)))) (ok .node)))

@@ -13,9 +13,9 @@ use borrow.Author.Tests.{eqb-true, leb-true, eq-eqb, ne-eqb}
 use Rattle.base.specs.Cond.{bool-cases, eqb-cases, eqb-diff}
 use Rattle.base.specs.Loop.{After}
 use Rattle.base.specs.Pool.{All, nil, con, All-map}
-use Rattle.plan.specs.declared.Plan.{Plan}
 use Rattle.plan.specs.Refusal.{planRefusal}
 use Rattle.plan.specs.Accepted.{Accepted, accepted}
+use Rattle.plan.specs.Links.{Plan}
 use Rattle.field.specs.Edges.{ceilingOf}
 use Rattle.field.specs.State.{State, CELLS}
 use Rattle.field.specs.Valid.{allOf, waitingIn, zeroAfter, enough, fits}

@@ -11,15 +11,13 @@ use lib.Seq.{sets, length-sets, getD-set-same, getD-set-other, ext-getD}
 use lib.Dec.{eqb, ltb}
 use borrow.Author.Tests.{ltb-true, eqb-true, eq-eqb, ne-eqb, lt-ltb}
 use Rattle.base.specs.Cond.{bool-cases, eqb-cases, ltb-cases, by-eq}
-use Rattle.plan.specs.declared.Plan.{Plan}
-use Rattle.plan.specs.Links.{low, high}
 use Rattle.node.specs.declared.Node.{Node}
-use Rattle.node_edges.specs.Own as O
-use Rattle.node_edges.specs.Laws.{end-lower, end-higher, own-lower, own-higher, mark-own, mark-not}
-use Rattle.field.specs.Edges.{isOwn, over, linkOf, from, dest}
+use Rattle.field.specs.Edges.{isOwn, linkOf, from, dest, endOf, marksIn}
 use Rattle.node.specs.Values.{node-by, values-by}
 use Rattle.field.specs.State.{WIDTH, values, cellOf, nodeIn, putNode, newMark, newMarks, putMarks}
 use Rattle.plan.specs.Accepted.{Accepted}
+use Rattle.plan.specs.Links.{Plan, modulesOf, linksOf, lowerOf, higherOf}
+use Rattle.field.specs.laws.Edges.{own-lower, own-higher, mark-own, mark-not, end-lower, end-higher}
 
 -- ---- a run of stores
 
@@ -64,72 +62,72 @@ module _ (cells : List ℕ) (v : ℕ) (n : Node) where
 -- ---- directed links
 
 module _ (p : Plan) (v k : ℕ) where
-  pub link-over : linkOf (over p v k) ≡ k
-  link-over = by-eq (low p k) v
-      (λ e. rw (end-lower (p .lower) v k e) (omega arith))
-      (λ n. rw (end-higher (p .lower) v k n) (omega arith))
+  pub link-over : linkOf (endOf p v k) ≡ k
+  link-over = by-eq (lowerOf p k) v
+      (λ e. rw (end-lower p v k e) (omega arith))
+      (λ n. rw (end-higher p v k n) (omega arith))
 
   module _ (o : isOwn p v k ≡ true) where
-    pub own-below : k < p .links
-    unfolding O.isOwn
-    own-below = ltb-true k (p .links) (and-eq-true-iff (ltb k (p .links)) _ .0 o .0)
+    pub own-below : k < linksOf p
+    unfolding isOwn
+    own-below = ltb-true k (linksOf p) (and-eq-true-iff (ltb k (linksOf p)) _ .0 o .0)
 
     -- v is its lower or its higher end
-    pub own-end : (low p k ≡ v) ⊎ ((low p k ≢ v) × (high p k ≡ v))
-    own-end = by-eq (low p k) v (λ e. inl e) (λ n. inr (n, eqb-true (high p k) v (sym (own-higher (p .links) (p .lower) (p .higher) v k own-below n) ∙ o)))
+    pub own-end : (lowerOf p k ≡ v) ⊎ ((lowerOf p k ≢ v) × (higherOf p k ≡ v))
+    own-end = by-eq (lowerOf p k) v (λ e. inl e) (λ n. inr (n, eqb-true (higherOf p k) v (sym (own-higher p v k own-below n) ∙ o)))
 
-    pub over-below : over p v k < 2 * p .links
-    over-below = by-eq (low p k) v
-        (λ e. rw (end-lower (p .lower) v k e) (omega (arith, own-below)))
-        (λ n. rw (end-higher (p .lower) v k n) (omega (arith, own-below)))
+    pub over-below : endOf p v k < 2 * linksOf p
+    over-below = by-eq (lowerOf p k) v
+        (λ e. rw (end-lower p v k e) (omega (arith, own-below)))
+        (λ n. rw (end-higher p v k n) (omega (arith, own-below)))
 
     -- it runs from v
-    pub from-over : from p (over p v k) ≡ v
+    pub from-over : from p (endOf p v k) ≡ v
     from-over = go own-end
       where
-        even : (d : ℕ) → d ≡ 2 * k → from p d ≡ low p k
-        even d e = rw (eq-eqb (d % 2) 0 (omega arith)) (ap (low p) (omega arith))
+        even : (d : ℕ) → d ≡ 2 * k → from p d ≡ lowerOf p k
+        even d e = rw (eq-eqb (d % 2) 0 (omega arith)) (ap (lowerOf p) (omega arith))
 
-        odd : (d : ℕ) → d ≡ 2 * k + 1 → from p d ≡ high p k
-        odd d e = rw (ne-eqb (d % 2) 0 (λ q. omega arith)) (ap (high p) (omega arith))
+        odd : (d : ℕ) → d ≡ 2 * k + 1 → from p d ≡ higherOf p k
+        odd d e = rw (ne-eqb (d % 2) 0 (λ q. omega arith)) (ap (higherOf p) (omega arith))
 
-        go : (low p k ≡ v) ⊎ ((low p k ≢ v) × (high p k ≡ v)) → from p (over p v k) ≡ v
-        go (inl e) = even (over p v k) (end-lower (p .lower) v k e) ∙ e
-        go (inr h) = odd (over p v k) (end-higher (p .lower) v k (h .0)) ∙ h .1
+        go : (lowerOf p k ≡ v) ⊎ ((lowerOf p k ≢ v) × (higherOf p k ≡ v)) → from p (endOf p v k) ≡ v
+        go (inl e) = even (endOf p v k) (end-lower p v k e) ∙ e
+        go (inr h) = odd (endOf p v k) (end-higher p v k (h .0)) ∙ h .1
 
 -- a directed link of an accepted plan joins two modules, and is the one from its first end
-module _ (p : Plan) (a : Accepted p) (d : ℕ) (l : d < 2 * p .links) where
-  link-below : linkOf d < p .links
+module _ (p : Plan) (a : Accepted p) (d : ℕ) (l : d < 2 * linksOf p) where
+  link-below : linkOf d < linksOf p
   link-below = omega arith
 
   pub from-own : isOwn p (from p d) (linkOf d) ≡ true
-  from-own = eqb-cases (d % 2) 0 (λ b. isOwn p (cond b (low p (linkOf d)) (high p (linkOf d))) (linkOf d) ≡ true)
-      (λ e. own-lower (p .links) (p .lower) (p .higher) _ (linkOf d) link-below refl)
-      (λ n. own-higher (p .links) (p .lower) (p .higher) _ (linkOf d) link-below (λ q. omega (arith, a .each (linkOf d) link-below .ordered)) ∙ eq-eqb (high p (linkOf d)) (high p (linkOf d)) refl)
+  from-own = eqb-cases (d % 2) 0 (λ b. isOwn p (cond b (lowerOf p (linkOf d)) (higherOf p (linkOf d))) (linkOf d) ≡ true)
+      (λ e. own-lower p _ (linkOf d) link-below refl)
+      (λ n. own-higher p _ (linkOf d) link-below (λ q. omega (arith, a .each (linkOf d) link-below .ordered)) ∙ eq-eqb (higherOf p (linkOf d)) (higherOf p (linkOf d)) refl)
 
   pub dest-own : isOwn p (dest p d) (linkOf d) ≡ true
-  dest-own = eqb-cases (d % 2) 0 (λ b. isOwn p (cond b (high p (linkOf d)) (low p (linkOf d))) (linkOf d) ≡ true)
-      (λ e. own-higher (p .links) (p .lower) (p .higher) _ (linkOf d) link-below (λ q. omega (arith, a .each (linkOf d) link-below .ordered)) ∙ eq-eqb (high p (linkOf d)) (high p (linkOf d)) refl)
-      (λ n. own-lower (p .links) (p .lower) (p .higher) _ (linkOf d) link-below refl)
+  dest-own = eqb-cases (d % 2) 0 (λ b. isOwn p (cond b (higherOf p (linkOf d)) (lowerOf p (linkOf d))) (linkOf d) ≡ true)
+      (λ e. own-higher p _ (linkOf d) link-below (λ q. omega (arith, a .each (linkOf d) link-below .ordered)) ∙ eq-eqb (higherOf p (linkOf d)) (higherOf p (linkOf d)) refl)
+      (λ n. own-lower p _ (linkOf d) link-below refl)
 
-  pub over-from : over p (from p d) (linkOf d) ≡ d
-  over-from = eqb-cases (d % 2) 0 (λ b. over p (cond b (low p (linkOf d)) (high p (linkOf d))) (linkOf d) ≡ d)
-      (λ e. end-lower (p .lower) _ (linkOf d) refl ∙ omega arith)
-      (λ n. end-higher (p .lower) _ (linkOf d) (λ q. omega (arith, a .each (linkOf d) link-below .ordered)) ∙ omega (arith, n))
+  pub over-from : endOf p (from p d) (linkOf d) ≡ d
+  over-from = eqb-cases (d % 2) 0 (λ b. endOf p (cond b (lowerOf p (linkOf d)) (higherOf p (linkOf d))) (linkOf d) ≡ d)
+      (λ e. end-lower p _ (linkOf d) refl ∙ omega arith)
+      (λ n. end-higher p _ (linkOf d) (λ q. omega (arith, a .each (linkOf d) link-below .ordered)) ∙ omega (arith, n))
 
-  pub dest-below : dest p d < p .modules
-  dest-below = eqb-cases (d % 2) 0 (λ b. cond b (high p (linkOf d)) (low p (linkOf d)) < p .modules)
+  pub dest-below : dest p d < modulesOf p
+  dest-below = eqb-cases (d % 2) 0 (λ b. cond b (higherOf p (linkOf d)) (lowerOf p (linkOf d)) < modulesOf p)
       (λ e. a .each (linkOf d) link-below .inside)
       (λ n. omega (arith, a .each (linkOf d) link-below .ordered, a .each (linkOf d) link-below .inside))
 
-  pub from-below : from p d < p .modules
-  from-below = eqb-cases (d % 2) 0 (λ b. cond b (low p (linkOf d)) (high p (linkOf d)) < p .modules)
+  pub from-below : from p d < modulesOf p
+  from-below = eqb-cases (d % 2) 0 (λ b. cond b (lowerOf p (linkOf d)) (higherOf p (linkOf d)) < modulesOf p)
       (λ e. omega (arith, a .each (linkOf d) link-below .ordered, a .each (linkOf d) link-below .inside))
       (λ n. a .each (linkOf d) link-below .inside)
 
   -- its two ends differ, so nothing that a module sends comes back to it
   pub ends-apart : from p d ≢ dest p d
-  ends-apart = eqb-cases (d % 2) 0 (λ b. cond b (low p (linkOf d)) (high p (linkOf d)) ≢ cond b (high p (linkOf d)) (low p (linkOf d)))
+  ends-apart = eqb-cases (d % 2) 0 (λ b. cond b (lowerOf p (linkOf d)) (higherOf p (linkOf d)) ≢ cond b (higherOf p (linkOf d)) (lowerOf p (linkOf d)))
       (λ e q. omega (arith, a .each (linkOf d) link-below .ordered))
       (λ n q. omega (arith, a .each (linkOf d) link-below .ordered))
 
@@ -150,22 +148,22 @@ module _ (p : Plan) (v : ℕ) (m : ℕ → ℕ) where
   pub mark-at : (marks : List ℕ) (d : ℕ) → d < length marks → getD (putMarks p marks v m) d 0 ≡ newMark p v m d (getD marks d 0)
   mark-at marks d h = new-at marks 0 d h ∙ ap (λ i. newMark p v m i (getD marks d 0)) (omega arith)
 
-  module _ (marks : List ℕ) (sized : 2 * p .links ≤ length marks) where
-    own-read : (u k : ℕ) → isOwn p u k ≡ true → O.marksIn (p .links) (p .lower) (p .higher) (putMarks p marks v m) u k ≡ newMark p v m (over p u k) (getD marks (over p u k) 0)
-    own-read u k o = mark-own (p .links) (p .lower) (p .higher) u k (putMarks p marks v m) o ∙ mark-at marks (over p u k) (omega (arith, over-below p u k o))
+  module _ (marks : List ℕ) (sized : 2 * linksOf p ≤ length marks) where
+    own-read : (u k : ℕ) → isOwn p u k ≡ true → marksIn p (putMarks p marks v m) u k ≡ newMark p v m (endOf p u k) (getD marks (endOf p u k) 0)
+    own-read u k o = mark-own p u k (putMarks p marks v m) o ∙ mark-at marks (endOf p u k) (omega (arith, over-below p u k o))
 
     -- v's marks are m's ..
-    pub mark-same : (k : ℕ) → isOwn p v k ≡ true → O.marksIn (p .links) (p .lower) (p .higher) (putMarks p marks v m) v k ≡ m k
+    pub mark-same : (k : ℕ) → isOwn p v k ≡ true → marksIn p (putMarks p marks v m) v k ≡ m k
     mark-same k o = own-read v k o
-        ∙ rw (lt-ltb (over p v k) (2 * p .links) (over-below p v k o), eq-eqb (from p (over p v k)) v (from-over p v k o)) (ap m (link-over p v k))
+        ∙ rw (lt-ltb (endOf p v k) (2 * linksOf p) (over-below p v k o), eq-eqb (from p (endOf p v k)) v (from-over p v k o)) (ap m (link-over p v k))
 
     -- .. and another module's are as they were
-    pub mark-other : (u k : ℕ) → u ≢ v → O.marksIn (p .links) (p .lower) (p .higher) (putMarks p marks v m) u k ≡ O.marksIn (p .links) (p .lower) (p .higher) marks u k
+    pub mark-other : (u k : ℕ) → u ≢ v → marksIn p (putMarks p marks v m) u k ≡ marksIn p marks u k
     mark-other u k d = bool-cases (isOwn p u k)
         (λ o. own-read u k o
-        ∙ rw (lt-ltb (over p u k) (2 * p .links) (over-below p u k o), ne-eqb (from p (over p u k)) v (λ q. d (sym (from-over p u k o) ∙ q)))
-        (sym (mark-own (p .links) (p .lower) (p .higher) u k marks o)))
-        (λ o. mark-not (p .links) (p .lower) (p .higher) u k (putMarks p marks v m) o ∙ sym (mark-not (p .links) (p .lower) (p .higher) u k marks o))
+        ∙ rw (lt-ltb (endOf p u k) (2 * linksOf p) (over-below p u k o), ne-eqb (from p (endOf p u k)) v (λ q. d (sym (from-over p u k o) ∙ q)))
+        (sym (mark-own p u k marks o)))
+        (λ o. mark-not p u k (putMarks p marks v m) o ∙ sym (mark-not p u k marks o))
 
 -- ---- nothing changed: what was read, put back, is what was there
 
@@ -185,19 +183,19 @@ module _ (cells : List ℕ) (v : ℕ) where
           ap (λ i. getD (putNode cells v n) i 0) (sym e) ∙ put-at cells v n h j (omega arith) ∙ values-by (λ i. getD cells (cellOf v i) 0) j (omega arith) ∙ ap (λ i. getD cells i 0) e)
           (λ b. sets-out 0 (values n) cells (v * WIDTH) k (inr b)))
 
-module _ (p : Plan) (a : Accepted p) (v : ℕ) (marks : List ℕ) (sized : 2 * p .links ≤ length marks) where
+module _ (p : Plan) (a : Accepted p) (v : ℕ) (marks : List ℕ) (sized : 2 * linksOf p ≤ length marks) where
   abbrev read : ℕ → ℕ
-  read k = O.marksIn (p .links) (p .lower) (p .higher) marks v k
+  read k = marksIn p marks v k
 
   pub marks-back : putMarks p marks v read ≡ marks
   marks-back = ext-getD 0 (putMarks p marks v read) marks (length-new p v read 0 marks)
       (λ d l. mark-at p v read marks d (omega (arith, length-new p v read 0 marks)) ∙ at d)
     where
       at : (d : ℕ) → newMark p v read d (getD marks d 0) ≡ getD marks d 0
-      at d = bool-cases (ltb d (2 * p .links) && eqb (from p d) v)
-          (λ t. let h = and-eq-true-iff (ltb d (2 * p .links)) (eqb (from p d) v) .0 t in
-          let l = ltb-true d (2 * p .links) (h .0) in
+      at d = bool-cases (ltb d (2 * linksOf p) && eqb (from p d) v)
+          (λ t. let h = and-eq-true-iff (ltb d (2 * linksOf p)) (eqb (from p d) v) .0 t in
+          let l = ltb-true d (2 * linksOf p) (h .0) in
           let f = eqb-true (from p d) v (h .1) in
-          rw t (mark-own (p .links) (p .lower) (p .higher) v (linkOf d) marks (subst (λ u. isOwn p u (linkOf d) ≡ true) f (from-own p a d l))
-          ∙ ap (λ i. getD marks i 0) (subst (λ u. over p u (linkOf d) ≡ d) f (over-from p a d l))))
+          rw t (mark-own p v (linkOf d) marks (subst (λ u. isOwn p u (linkOf d) ≡ true) f (from-own p a d l))
+          ∙ ap (λ i. getD marks i 0) (subst (λ u. endOf p u (linkOf d) ≡ d) f (over-from p a d l))))
           (λ t. rw t refl)

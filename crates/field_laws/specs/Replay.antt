@@ -11,12 +11,13 @@ use borrow.Author.Tests.{eq-eqb, ne-eqb}
 use Rattle.base.specs.Cond.{bool-cases, eqb-diff}
 use Rattle.base.specs.Loop.{After, Ran, taken, refused, loop, counted, runs, runsTrace}
 use Rattle.base.specs.LoopLaws.{by-test, then-elim}
-use Rattle.plan.specs.declared.Plan.{Plan}
+use Rattle.plan.specs.Links.{Plan, modulesOf, linksOf}
 use Rattle.field.specs.State.{State}
 use Rattle.field.specs.Step.{inAir, inQueue, hand, serve, step}
 use Rattle.field.specs.Held.{Held, stateOf}
 use Rattle.field_calls.specs.Schedule.{kindOf, numberOf, stepAt, never}
-use Rattle.field_calls.specs.Rounds.{many, handTurn, handPhase, serveTurn, servePhase, round, atRest, roundsRun}
+use Rattle.base.specs.Keep.{many}
+use Rattle.field_calls.specs.Rounds.{handTurn, handPhase, serveTurn, servePhase, round, atRest, roundsRun}
 use Rattle.field_calls.specs.Call.{Call, after}
 use Rattle.field_calls.specs.Trail.{Taken, ifTaken, stepsOf, trail}
 use Rattle.field_laws.specs.Cases.{refusal-some, Outcome, took, kept, steps}
@@ -129,8 +130,8 @@ module _ (p : Plan) where
   round-goes : (s : State) → Goes p (round p s)
   unfolding round handTurn serveTurn step
   round-goes s = then-elim (Goes p) (handPhase p s) (servePhase p)
-      (λ e. loop-goes (p .modules) (serveTurn p) (λ v y. loop-goes (many (inQueue p v) (y .words)) (λ j. serve p v) (λ j z. step-goes 3 v z) y) (handPhase p s .state))
-      (λ e. loop-goes (2 * p .links) (handTurn p) (λ d y. loop-goes (many (inAir d) (y .words)) (λ j. hand p d) (λ j z. step-goes 2 d z) y) s)
+      (λ e. loop-goes (modulesOf p) (serveTurn p) (λ v y. loop-goes (many (inQueue p v) (y .words)) (λ j. serve p v) (λ j z. step-goes 3 v z) y) (handPhase p s .state))
+      (λ e. loop-goes (2 * linksOf p) (handTurn p) (λ d y. loop-goes (many (inAir d) (y .words)) (λ j. hand p d) (λ j z. step-goes 2 d z) y) s)
 
   -- THE LAW: with `call-replay`, the steps before the refused one stand
   pub rounds-end : (limit : ℕ) (s : State) → RoundsEnded p limit (roundsRun p limit s)

@@ -13,10 +13,10 @@ use Rattle.format_message.specs.Msg.{Msg}
 use Rattle.format_message.specs.Listed.{Listed}
 use Rattle.format_word.specs.Word.{Waiting, linkIn, handedIn}
 use Rattle.format_word.specs.Laws.{waiting-back}
-use Rattle.plan.specs.declared.Plan.{Plan}
+use Rattle.plan.specs.Links.{Plan}
+use Rattle.field.specs.laws.Edges.{end-small}
 use Rattle.node.specs.Work.{Send}
-use Rattle.node_edges.specs.Laws.{end-small}
-use Rattle.field.specs.Edges.{isOwn, over, from}
+use Rattle.field.specs.Edges.{isOwn, from, endOf}
 use Rattle.field.specs.State.{msgIn, wordOf, posted}
 use Rattle.field_laws.specs.Chan.{chan, chan-skip, chan-down}
 use Rattle.field_laws.specs.Places.{from-over}
@@ -30,30 +30,30 @@ module _ (p : Plan) (v : ℕ) where
   -- what a send's word says
   pub record Reads (x : Send) : Type 0 where
     pub msg : msgIn (wordOf p v x) ≡ x .msg
-    pub link : linkIn (wordOf p v x) ≡ over p v (x .edge)
+    pub link : linkIn (wordOf p v x) ≡ endOf p v (x .edge)
     pub handed : handedIn (wordOf p v x) ≡ false
 
   pub reads : (x : Send) → Packs x → Reads x
   reads x h =
-      let e = waiting-back (x .msg) (over p v (x .edge)) false (h .listed) (omega (arith, end-small (p .lower) v (x .edge) (h .small))) in
+      let e = waiting-back (x .msg) (endOf p v (x .edge)) false (h .listed) (omega (arith, end-small p v (x .edge) (h .small))) in
       record { msg = ap (λ (w : Waiting). w .msg) e; link = ap (λ (w : Waiting). w .link) e; handed = ap (λ (w : Waiting). w .handed) e }
 
   -- the messages of these sends that go by directed link d
   unfoldable pub onto : ℕ → List Send → List Msg
   onto d [] = []
-  onto d (x ∷ l) = cond (eqb (over p v (x .edge)) d) (x .msg ∷ onto d l) (onto d l)
+  onto d (x ∷ l) = cond (eqb (endOf p v (x .edge)) d) (x .msg ∷ onto d l) (onto d l)
 
   pub onto-nil : (d : ℕ) → onto d [] ≡ []
   unfolding onto
   onto-nil d = refl
 
-  pub onto-here : (j : ℕ) (m : Msg) (l : List Send) → onto (over p v j) (record { edge = j; msg = m } ∷ l) ≡ m ∷ onto (over p v j) l
+  pub onto-here : (j : ℕ) (m : Msg) (l : List Send) → onto (endOf p v j) (record { edge = j; msg = m } ∷ l) ≡ m ∷ onto (endOf p v j) l
   unfolding onto
-  onto-here j m l = rw (eqb-same (over p v j))
+  onto-here j m l = rw (eqb-same (endOf p v j))
 
-  pub onto-else : (d : ℕ) (x : Send) (l : List Send) → over p v (x .edge) ≢ d → onto d (x ∷ l) ≡ onto d l
+  pub onto-else : (d : ℕ) (x : Send) (l : List Send) → endOf p v (x .edge) ≢ d → onto d (x ∷ l) ≡ onto d l
   unfolding onto
-  onto-else d x l n = rw (eqb-diff (over p v (x .edge)) d n)
+  onto-else d x l n = rw (eqb-diff (endOf p v (x .edge)) d n)
 
   -- nothing that v sends over its own links goes by a directed link from another module
   pub onto-away : {l : List Send} → All (λ x. isOwn p v (x .edge) ≡ true) l → (d : ℕ) → from p d ≢ v → onto d l ≡ []
@@ -68,7 +68,7 @@ module _ (p : Plan) (v : ℕ) where
       let r = reads x h in
       let w = wordOf p v x in
       ap (chan d) (sym (append-assoc s (w ∷ []) (posted p v xs))) ∙ post-chan d (s ++ (w ∷ [])) t
-      ∙ eqb-cases (over p v (x .edge)) d (λ b. chan d (s ++ (w ∷ [])) ++ onto d xs ≡ chan d s ++ cond b (x .msg ∷ onto d xs) (onto d xs))
+      ∙ eqb-cases (endOf p v (x .edge)) d (λ b. chan d (s ++ (w ∷ [])) ++ onto d xs ≡ chan d s ++ cond b (x .msg ∷ onto d xs) (onto d xs))
       (λ e. ap (λ c. c ++ onto d xs) (chan-down d w (r .link ∙ e) (r .handed) s ∙ ap (λ m. chan d s ++ (m ∷ [])) (r .msg)) ∙ append-assoc (chan d s) (x .msg ∷ []) (onto d xs))
       (λ n. ap (λ c. c ++ onto d xs) (chan-skip d w (λ q. n (sym (r .link) ∙ q)) s))
 

@@ -5,11 +5,12 @@ use mathlib.Core.List.{List, [], _++_}
 use lib.Dec.{eqb}
 use Rattle.base.specs.Loop.{Ran, then, counted, loopTrace, runsTrace}
 use Rattle.base.specs.LoopLaws.{by-test, loop-tells, runs-tell}
-use Rattle.plan.specs.declared.Plan.{Plan}
+use Rattle.plan.specs.Links.{Plan, modulesOf, linksOf}
 use Rattle.field.specs.State.{State}
 use Rattle.field.specs.Step.{inAir, inQueue, hand, serve, step}
 use Rattle.field_calls.specs.Schedule.{scheduleRefusal, scheduleRun, stepsIn, kindOf, numberOf, stepAt, never}
-use Rattle.field_calls.specs.Rounds.{many, handTurn, handPhase, serveTurn, servePhase, round, atRest, roundsRun}
+use Rattle.base.specs.Keep.{many}
+use Rattle.field_calls.specs.Rounds.{handTurn, handPhase, serveTurn, servePhase, round, atRest, roundsRun}
 use Rattle.field_calls.specs.Call.{Call, one, run, rounds}
 use Rattle.field_calls.specs.Trail.{Taken, ifTaken, handTurnSteps, serveTurnSteps, roundSteps, stepsOf}
 
@@ -44,11 +45,11 @@ module _ (p : Plan) (R : State → List Taken → State → Type 0) (none : (x :
   unfolding roundSteps round then
   round-tells s =
       let y = handPhase p s .state in
-      let a = loopTrace (2 * p .links) (handTurn p) (handTurnSteps p) s in
-      let b = loopTrace (p .modules) (serveTurn p) (serveTurnSteps p) y in
-      let i = loop-tells R none more (handTurn p) (handTurnSteps p) (2 * p .links) s (λ k x l. hand-turn-tells k x) in
+      let a = loopTrace (2 * linksOf p) (handTurn p) (handTurnSteps p) s in
+      let b = loopTrace (modulesOf p) (serveTurn p) (serveTurnSteps p) y in
+      let i = loop-tells R none more (handTurn p) (handTurnSteps p) (2 * linksOf p) s (λ k x l. hand-turn-tells k x) in
       by-test (eqb (handPhase p s .answer) 0) (λ t. R s (a ++ cond t b []) (cond t (servePhase p y) (handPhase p s) .state))
-      (more s y (servePhase p y .state) a b i (loop-tells R none more (serveTurn p) (serveTurnSteps p) (p .modules) y (λ k x l. serve-turn-tells k x)))
+      (more s y (servePhase p y .state) a b i (loop-tells R none more (serveTurn p) (serveTurnSteps p) (modulesOf p) y (λ k x l. serve-turn-tells k x)))
       (more s y y a [] i (none y))
 
   pub call-tells : (c : Call) (s : State) → R s (stepsOf p c s) (onState p c s .state)

@@ -12,14 +12,14 @@ use Rattle.format_message.specs.Listed.{Listed}
 use Rattle.format_message.specs.Means.{in-bits}
 use Rattle.format_word.specs.Word.{packed}
 use Rattle.node_edges.specs.Own.{endIn}
-use Rattle.node_response.specs.declared.Out.{Out}
-use Rattle.node_response.specs.Act.{outFor, msgIn, sent}
+use Rattle.node_response.specs.declared.Packet.{Packet}
+use Rattle.node_response.specs.Response.{packetFor, packetMsg, packetSends}
 use Rattle.field_place.specs.Posted.{wordIn}
 
-abbrev partsIn : Out → Parts
+abbrev partsIn : Packet → Parts
 partsIn x = parts (x .kind) (x .level) (x .carried) (x .find)
 
-for-parts : (to : ℕ) (m : Msg) → partsIn (outFor to m) ≡ partsOf m
+for-parts : (to : ℕ) (m : Msg) → partsIn (packetFor to m) ≡ partsOf m
 unfolding partsOf
 for-parts to (connect l) = refl
 for-parts to (initiate l i f) = refl
@@ -29,19 +29,19 @@ for-parts to reject = refl
 for-parts to (report w) = refl
 for-parts to change = refl
 
-module _ (x : Out) (e : outFor (x .to) (msgIn x) ≡ x) where
-  pub out-parts : partsIn x ≡ partsOf (msgIn x)
-  out-parts = ap partsIn (sym e) ∙ for-parts (x .to) (msgIn x)
+module _ (x : Packet) (e : packetFor (x .edge) (packetMsg x) ≡ x) where
+  pub out-parts : partsIn x ≡ partsOf (packetMsg x)
+  out-parts = ap partsIn (sym e) ∙ for-parts (x .edge) (packetMsg x)
 
-  pub out-header : Listed (msgIn x) → headerFrom (x .kind) (x .level) (x .find) ≡ headerByte (x .kind) (x .level) (x .find)
+  pub out-header : Listed (packetMsg x) → headerFrom (x .kind) (x .level) (x .find) ≡ headerByte (x .kind) (x .level) (x .find)
   out-header l =
-      let b = in-bits (msgIn x) l in
+      let b = in-bits (packetMsg x) l in
       from-fits (x .kind) (x .level) (x .find) (rw (ap (λ (p : Parts). p .kind) out-parts) (b .kind)) (rw (ap (λ (p : Parts). p .level) out-parts) (b .level)) (rw (ap (λ (p : Parts). p .find) out-parts) (b .find))
 
   -- the word that the code packs
-  pub out-word : (lower : List ℕ) (v : ℕ) → packed (headerByte (x .kind) (x .level) (x .find)) (x .carried) (endIn lower v (x .to)) 0 ≡ wordIn lower v (record { edge = x .to; msg = msgIn x })
-  out-word lower v = ap (λ (p : Parts). packed (headerByte (p .kind) (p .level) (p .find)) (p .carried) (endIn lower v (x .to)) 0) out-parts
+  pub out-word : (lower : List ℕ) (v : ℕ) → packed (headerByte (x .kind) (x .level) (x .find)) (x .carried) (endIn lower v (x .edge)) 0 ≡ wordIn lower v (record { edge = x .edge; msg = packetMsg x })
+  out-word lower v = ap (λ (p : Parts). packed (headerByte (p .kind) (p .level) (p .find)) (p .carried) (endIn lower v (x .edge)) 0) out-parts
 
-pub sent-some : (x : Out) → x .to ≢ none → sent x ≡ record { edge = x .to; msg = msgIn x } ∷ []
-unfolding sent
+pub sent-some : (x : Packet) → x .edge ≢ none → packetSends x ≡ record { edge = x .edge; msg = packetMsg x } ∷ []
+unfolding packetSends
 sent-some x n = simp (ne-eqb _ _ n)

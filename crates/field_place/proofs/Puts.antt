@@ -8,7 +8,7 @@ use lib.ListN.{length, length-append}
 use borrow.Author.Tests.{eq-eqb, ne-eqb}
 use Rattle.format_message.specs.Msg.{Msg, change}
 use Rattle.node.specs.Work.{Send}
-use Rattle.node_response.specs.Act.{copiesOf}
+use Rattle.node_response.specs.Response.{copiesOf}
 use Rattle.field_words.specs.Laid.{Laid}
 use Rattle.field_place.specs.Posted.{wordIn, postedIn, Posted, Put}
 use Rattle.field_place.proofs.Words.{posted-none, posted-laid, posted-length, posted-then}

@@ -13,9 +13,9 @@ use Rattle.format_message.specs.Listed.{Listed}
 use Rattle.format_word.specs.Word.{packed}
 use Rattle.node.specs.Work.{Send, BRANCH, onEach}
 use Rattle.node_edges.specs.Own.{isOwn, ownIn, endIn, marksIn}
-use Rattle.node_response.specs.declared.Out.{Out}
-use Rattle.node_response.specs.declared.Act.{Act}
-use Rattle.node_response.specs.Act.{outFor, msgIn, sent, copiesOf}
+use Rattle.node_response.specs.declared.Packet.{Packet}
+use Rattle.node_response.specs.declared.Response.{Response}
+use Rattle.node_response.specs.Response.{packetFor, packetMsg, packetSends, copiesOf}
 use Rattle.field.specs.Held.{layout}
 use Rattle.field_words.specs.Laid.{Laid}
 
@@ -39,9 +39,9 @@ pub record Posted (before after : List ℕ) (n r : ℕ) (words : List ℕ) : Typ
   pub many : r ≡ n + length words
 
 -- no message, or a listed one on a link
-pub record OutOk (x : Out) : Type 0 where
-  pub formed : outFor (x .to) (msgIn x) ≡ x
-  pub sends : (x .to ≡ none) ⊎ ((x .to < 600) × Listed (msgIn x))
+pub record PacketOk (x : Packet) : Type 0 where
+  pub formed : packetFor (x .edge) (packetMsg x) ≡ x
+  pub sends : (x .edge ≡ none) ⊎ ((x .edge < 600) × Listed (packetMsg x))
 
 -- The same for messages among which are copies of the served one, which is known by its header and carried number alone; near and far are the
 -- columns of readings, which sends do not depend on.
@@ -56,6 +56,6 @@ abbrev pub copiesTo : ℕ → List ℕ → List ℕ → List ℕ → ℕ → ℕ
 copiesTo links lower higher marks v j k near far msg = onEach (ownIn links lower higher near far v) (copyTest links lower higher marks v j) msg k
 
 -- all sends of the response a
-abbrev pub sendsOf : ℕ → List ℕ → List ℕ → List ℕ → ℕ → ℕ → Act → List ℕ → List ℕ → Msg → List Send
+abbrev pub sendsOf : ℕ → List ℕ → List ℕ → List ℕ → ℕ → ℕ → Response → List ℕ → List ℕ → Msg → List Send
 sendsOf links lower higher marks v j a near far msg =
-    copiesOf (a .copies) (copiesTo links lower higher marks v j links near far msg) ++ (sent (a .first) ++ sent (a .second))
+    copiesOf (a .copies) (copiesTo links lower higher marks v j links near far msg) ++ (packetSends (a .first) ++ packetSends (a .second))

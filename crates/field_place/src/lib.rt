@@ -1,6 +1,6 @@
 // A response that was worked out by value is put in place: its messages behind the waiting words, its node and its mark.
-use node_response::Act;
-use node_response::Out;
+use node_response::Response;
+use node_response::Packet;
 use base::NONE;
 use field_cells;
 use field::CELLS;
@@ -18,22 +18,22 @@ ghost use Rattle.base.specs.None.{none};
 ghost use Rattle.format_message.specs.Msg.{Msg};
 ghost use Rattle.format_word.specs.Word.{packed};
 ghost use Rattle.node_edges.specs.Own.{endIn};
-ghost use Rattle.node_response.specs.Act.{sent, copiesOf};
+ghost use Rattle.node_response.specs.Response.{packetSends, copiesOf};
 ghost use Rattle.field_words.specs.Laid.{Laid};
 ghost use Rattle.field.specs.State.{putNode};
 ghost use Rattle.field_cells.specs.Marks.{markPut};
-ghost use Rattle.field_place.specs.Posted.{copiedAt, copiesTo, sendsOf, postedIn, Posted, Put, OutOk};
+ghost use Rattle.field_place.specs.Posted.{copiedAt, copiesTo, sendsOf, postedIn, Posted, Put, PacketOk};
 
 // One message of module v, if there is one, goes to the end of the n words that wait.
-fn post(lower: &[u16; 600], lent: &mut [u64], n: usize, v: u16, x: Out) -> usize
-    requires { ⌜ Laid (now lent) n × OutOk x × (n + length (sent x) ≤ length (now lent)) ⌝ }
-    ensures { λ r. ⌜ Posted (now (lent .entry)) (now (lent .exit)) n r (postedIn (now (lower .entry)) v (sent x)) ⌝ }
+fn post(lower: &[u16; 600], lent: &mut [u64], n: usize, v: u16, x: Packet) -> usize
+    requires { ⌜ Laid (now lent) n × PacketOk x × (n + length (packetSends x) ≤ length (now lent)) ⌝ }
+    ensures { λ r. ⌜ Posted (now (lent .entry)) (now (lent .exit)) n r (postedIn (now (lower .entry)) v (packetSends x)) ⌝ }
 {
-    if x.to == NONE {
+    if x.edge == NONE {
         return n;
     }
     let h = format_message::header(x.kind, x.level, x.find);
-    let w = format_word::pack(h, x.carried, node_edges::end_at(lower, v, x.to));
+    let w = format_word::pack(h, x.carried, node_edges::end_at(lower, v, x.edge));
     field_words::put(lent, n, w);
     n + 1
 }
@@ -163,9 +163,9 @@ fn post_all<'a>(
     j: u16,
     header: u8,
     carried: u16,
-    a: Act,
+    a: Response,
 ) -> usize
-    requires { ⌜ Laid (now lent) n × (links ≤ 600) × OutOk (a .first) × OutOk (a .second)
+    requires { ⌜ Laid (now lent) n × (links ≤ 600) × PacketOk (a .first) × PacketOk (a .second)
         × ((near far : List ℕ) (msg : Msg) → n + length (sendsOf links (now lower) (now higher) (now marks) v j a near far msg) ≤ length (now lent)) ⌝ }
     ensures { λ r. ⌜ Put (now (lower .entry)) v header carried (sendsOf links (now (lower .entry)) (now (higher .entry)) (now (marks .entry)) v j a)
         (now (lent .entry)) n (now (lent .exit)) r ⌝ }
@@ -188,10 +188,10 @@ fn post_all<'a>(
 }
 
 // 1 for a message, 0 for none.
-fn one(x: Out) -> u32
-    ensures { λ r. ⌜ (r ≡ length (sent x)) × (r ≤ 1) ⌝ }
+fn one(x: Packet) -> u32
+    ensures { λ r. ⌜ (r ≡ length (packetSends x)) × (r ≤ 1) ⌝ }
 {
-    if x.to == NONE {
+    if x.edge == NONE {
         return 0;
     }
     1
@@ -224,7 +224,7 @@ pub fn many<'a>(
     marks: &'a [u8; 1200],
     v: u16,
     j: u16,
-    a: Act,
+    a: Response,
 ) -> u32
     requires { ⌜ links ≤ 600 ⌝ }
     ensures { λ r. ⌜ ((near far : List ℕ) (msg : Msg) → r ≡ length (sendsOf links (now (lower .entry)) (now (higher .entry)) (now (marks .entry)) v j a near far msg)) × (r ≤ 602) ⌝ }
@@ -245,9 +245,9 @@ pub fn place<'a>(
     j: u16,
     header: u8,
     carried: u16,
-    a: Act,
+    a: Response,
 ) -> usize
-    requires { ⌜ Laid (now lent) n × (links ≤ 600) × OutOk (a .first) × OutOk (a .second)
+    requires { ⌜ Laid (now lent) n × (links ≤ 600) × PacketOk (a .first) × PacketOk (a .second)
         × ((near far : List ℕ) (msg : Msg) → n + length (sendsOf links (now lower) (now higher) (now marks) v j a near far msg) ≤ length (now lent))
         × (v < 192) ⌝ }
     ensures { λ r. ⌜ Put (now (lower .entry)) v header carried (sendsOf links (now (lower .entry)) (now (higher .entry)) (now (marks .entry)) v j a)

@@ -13,8 +13,8 @@ use Rattle.base.specs.LoopLaws.{by-test}
 use Rattle.base.specs.Pool.{All, nil, con, All-map, All-app, All-one}
 use Rattle.format_message.specs.Header.{kindAt, levelAt, findAt}
 use Rattle.format_word.specs.Word.{headerIn, carriedIn, linkIn}
-use Rattle.plan.specs.declared.Plan.{Plan}
 use Rattle.plan.specs.Accepted.{Accepted, accepted}
+use Rattle.plan.specs.Links.{Plan, modulesOf}
 use Rattle.node.specs.declared.Node.{Node}
 use Rattle.node.specs.Work.{ASLEEP, start}
 use Rattle.field.specs.Edges.{ownOf, linkOf, limitOf}
@@ -32,7 +32,7 @@ use Rattle.field_roundlaws.specs.Steady.{steady-wake, refused-asleep}
 use Rattle.field_roundlaws.specs.Progress.{awake-now, other-after}
 
 pub record Awake (p : Plan) (s : State) (v : ℕ) : Type 0 where
-  pub within : v < p .modules
+  pub within : v < modulesOf p
   pub awake : nodeAt s v .status ≢ ASLEEP
 
 -- v responded: it is awake, and the others are as they were
@@ -166,7 +166,7 @@ exactly-woken p lent z cs v =
     ))
 
 -- so whoever was not woken is asleep
-pub others-asleep : (p : Plan) (lent : List ℕ) → setUp p lent .answer ≡ 0 → (cs : List Call) (v : ℕ) → v < p .modules
+pub others-asleep : (p : Plan) (lent : List ℕ) → setUp p lent .answer ≡ 0 → (cs : List Call) (v : ℕ) → v < modulesOf p
     → ¬ List·Memᴰ v (wokenIn p (trail cs (setUp p lent .state))) → nodeAt (stateOf (after cs (setUp p lent .state))) v .status ≡ ASLEEP
 others-asleep p lent z cs v l n = by-eq (nodeAt (stateOf (after cs (setUp p lent .state))) v .status) ASLEEP (λ e. e)
     (λ m. absurd (n (exactly-woken p lent z cs v .0 (record { within = l; awake = m }))))

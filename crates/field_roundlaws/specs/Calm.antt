@@ -12,12 +12,12 @@ use Rattle.base.specs.LoopLaws.{by-test}
 use Rattle.base.specs.Pool.{All}
 use Rattle.base.specs.Keep.{keep}
 use Rattle.format_word.specs.Word.{linkIn}
-use Rattle.plan.specs.declared.Plan.{Plan}
+use Rattle.plan.specs.Links.{Plan, modulesOf}
 use Rattle.node.specs.Work.{ASLEEP, BACK}
 use Rattle.field.specs.Edges.{dest}
 use Rattle.field.specs.State.{State, nodeAt}
 use Rattle.field.specs.Step.{serveWork, serve, step}
-use Rattle.field_calls.specs.Rounds.{many}
+use Rattle.base.specs.Keep.{many}
 use Rattle.field_laws.specs.Keeps.{Sound}
 use Rattle.field_roundlaws.specs.Progress.{progress, up, Blocked, Still}
 
@@ -43,8 +43,8 @@ still-on a b = record { cells = b .cells ∙ a .cells; marks = b .marks ∙ a .m
 pub still-progress : (p : Plan) (x y : State) → Still x y → length (y .words) ≡ length (x .words) → progress p y ≡ progress p x
 unfolding progress
 still-progress p x y h e =
-    ap₂ (λ a b. a - b + sum (p .modules) (up y)) (h .sent) e
-    ∙ ap (λ c. x .sent - length (x .words) + sum (p .modules) (up (record { cells = c; marks = x .marks; words = x .words; sent = x .sent }))) (h .cells)
+    ap₂ (λ a b. a - b + sum (modulesOf p) (up y)) (h .sent) e
+    ∙ ap (λ c. x .sent - length (x .words) + sum (modulesOf p) (up (record { cells = c; marks = x .marks; words = x .words; sent = x .sent }))) (h .cells)
 
 pub still-blocked : (p : Plan) (x y : State) → Still x y → (w : ℕ) → Blocked p y w → Blocked p x w
 still-blocked p x y h w b = record {

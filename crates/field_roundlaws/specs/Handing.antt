@@ -16,8 +16,8 @@ use Rattle.base.specs.Pool.{All, nil, con, All-here, Out, here, there}
 use Rattle.base.specs.Keep.{keep, keep-yes, keep-app, keep-none, keep-no, first-out, first-passes, head-of, others}
 use Rattle.format_word.specs.Word.{headerIn, carriedIn, linkIn, handedIn, shaped, handOver}
 use Rattle.format_word.specs.Laws.{Unpacked, over}
-use Rattle.plan.specs.declared.Plan.{Plan}
 use Rattle.plan.specs.Accepted.{Accepted}
+use Rattle.plan.specs.Links.{Plan, linksOf}
 use Rattle.field.specs.State.{State}
 use Rattle.field.specs.Step.{inAir, hand, step}
 use Rattle.field.specs.Valid.{wordFits}
@@ -66,7 +66,7 @@ module _ (p : Plan) (a : Accepted p) (Good : State → Type 0) (calm : Calm p Go
     long : length (z .words) ≡ length (y .words)
     back : All B (z .words) → All B (y .words)
 
-  module _ (d : ℕ) (y : State) (z : State) (l : d < 2 * p .links) where
+  module _ (d : ℕ) (y : State) (z : State) (l : d < 2 * linksOf p) where
     sound-on : Sound p z → Sound p (hand p d z .state)
     unfolding step
     sound-on i = step-keeps p a z i 2 d
@@ -105,7 +105,7 @@ module _ (p : Plan) (a : Accepted p) (Good : State → Type 0) (calm : Calm p Go
         apart e n x q = not-right (not (handedIn x)) (linkIn x) e (λ r. n (sym q ∙ r))
 
   -- the whole turn of link d
-  turn-all : (d : ℕ) (y : State) → d < 2 * p .links → Sound p y → Good y → Ok (Turn d y (length (keep (inAir d) (y .words)))) (handTurn p d y)
+  turn-all : (d : ℕ) (y : State) → d < 2 * linksOf p → Sound p y → Good y → Ok (Turn d y (length (keep (inAir d) (y .words)))) (handTurn p d y)
   unfolding handTurn
   turn-all d y l i g = rw (many-keep (inAir d) (y .words))
       (loop-ok (Turn d y) (length (keep (inAir d) (y .words))) (λ j. hand p d) y
@@ -125,7 +125,7 @@ module _ (p : Plan) (a : Accepted p) (Good : State → Type 0) (calm : Calm p Go
   no-length [] e = refl
   no-length (x ∷ l) e = absurd (omega arith)
 
-  phase-on : (f : State) (k : ℕ) (y : State) → k < 2 * p .links → Handing f k y → Ok (Handing f (suc k)) (handTurn p k y)
+  phase-on : (f : State) (k : ℕ) (y : State) → k < 2 * linksOf p → Handing f k y → Ok (Handing f (suc k)) (handTurn p k y)
   phase-on f k y l t =
       let r = turn-all k y l (t .sound) (t .good) in
       let u = r .holds in
@@ -144,13 +144,13 @@ module _ (p : Plan) (a : Accepted p) (Good : State → Type 0) (calm : Calm p Go
       }
 
   -- THE LAW of the first half
-  pub handing : (f : State) → Sound p f → Good f → Ok (Handing f (2 * p .links)) (handPhase p f)
-  handing f i g = loop-ok (Handing f) (2 * p .links) (handTurn p) f
+  pub handing : (f : State) → Sound p f → Good f → Ok (Handing f (2 * linksOf p)) (handPhase p f)
+  handing f i g = loop-ok (Handing f) (2 * linksOf p) (handTurn p) f
       (record { sound = i; good = g; still = still-same f; empty = λ e l. absurd (not-suc-le-zero l); long = refl; back = λ b. b })
       (λ k y l t. phase-on f k y l t)
 
 -- every word was handed over then
-pub all-handed : (p : Plan) (l : List ℕ) → All (λ w. wordFits p w ≡ true) l → ((e : ℕ) → e < 2 * p .links → keep (inAir e) l ≡ []) → All (λ w. handedIn w ≡ true) l
+pub all-handed : (p : Plan) (l : List ℕ) → All (λ w. wordFits p w ≡ true) l → ((e : ℕ) → e < 2 * linksOf p → keep (inAir e) l ≡ []) → All (λ w. handedIn w ≡ true) l
 all-handed p [] f h = nil
 all-handed p (x ∷ l) (con f t) h = con (bool-cases (handedIn x) (λ e. e)
     (λ e. absurd (cons-nil (sym (keep-yes (inAir (linkIn x)) x l (made (not (handedIn x)) (linkIn x) (linkIn x) (ap not e) refl)) ∙ h (linkIn x) (word-link p x f)))))

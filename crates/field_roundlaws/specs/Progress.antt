@@ -12,8 +12,8 @@ use Rattle.base.specs.Cond.{bit, eqb-cases, eqb-diff, by-eq}
 use Rattle.base.specs.Sum.{sum, sum-le, sum-lt, sum-const}
 use Rattle.base.specs.Keep.{first-out, first-passes}
 use Rattle.format_word.specs.Word.{linkIn}
-use Rattle.plan.specs.declared.Plan.{Plan}
 use Rattle.plan.specs.Accepted.{Accepted}
+use Rattle.plan.specs.Links.{Plan, modulesOf}
 use Rattle.node.specs.declared.Node.{Node}
 use Rattle.node.specs.Work.{Work, ASLEEP, BACK, start, putBack}
 use Rattle.field.specs.Edges.{ownOf, linkOf, dest, limitOf, ceilingOf}
@@ -31,7 +31,7 @@ abbrev pub up : State → ℕ → ℕ
 up s v = bit (not (eqb (nodeAt s v .status) ASLEEP))
 
 unfoldable pub progress : Plan → State → ℕ
-progress p s = (s .sent - length (s .words)) + sum (p .modules) (up s)
+progress p s = (s .sent - length (s .words)) + sum (modulesOf p) (up s)
 
 up-one : (s : State) (v : ℕ) → nodeAt s v .status ≢ ASLEEP → up s v ≡ 1
 up-one s v n = ap (λ b. bit (not b)) (eqb-diff _ ASLEEP n)
@@ -39,10 +39,10 @@ up-one s v n = ap (λ b. bit (not b)) (eqb-diff _ ASLEEP n)
 up-le : (s : State) (v : ℕ) → up s v ≤ 1
 up-le s v = eqb-cases (nodeAt s v .status) ASLEEP (λ b. bit (not b) ≤ 1) (λ e. omega arith) (λ e. omega arith)
 
-pub awake-le : (p : Plan) (s : State) → sum (p .modules) (up s) ≤ p .modules
-awake-le p s = omega (arith, sum-le (p .modules) (up s) (λ v. 1) (λ v l. up-le s v), sum-const (p .modules) 1)
+pub awake-le : (p : Plan) (s : State) → sum (modulesOf p) (up s) ≤ modulesOf p
+awake-le p s = omega (arith, sum-le (modulesOf p) (up s) (λ v. 1) (λ v l. up-le s v), sum-const (modulesOf p) 1)
 
-pub progress-le : (p : Plan) (s : State) → Sound p s → progress p s ≤ ceilingOf p + p .modules
+pub progress-le : (p : Plan) (s : State) → Sound p s → progress p s ≤ ceilingOf p + modulesOf p
 unfolding progress
 progress-le p s i = omega (arith, i .fits .ceiling, awake-le p s)
 
@@ -95,7 +95,7 @@ module _ (p : Plan) (a : Accepted p) (s s′ : State) (v : ℕ) (i : Sound p s) 
   up-v : up s′ v ≡ 1
   up-v = up-one s′ v awake-now
 
-  up-all : (u : ℕ) → u < p .modules → up s u ≤ up s′ u
+  up-all : (u : ℕ) → u < modulesOf p → up s u ≤ up s′ u
   up-all u l = by-eq u v
       (λ e. subst (λ y. up s y ≤ up s′ y) (sym e) (omega (arith, up-v, up-le s v)))
       (λ n. omega (arith, ap (λ (m : Node). bit (not (eqb (m .status) ASLEEP))) (other-after u n)))
@@ -126,13 +126,13 @@ module _ (p : Plan) (a : Accepted p) (s s′ : State) (v : ℕ) (i : Sound p s) 
 
   consumed : w .answer ≢ BACK → progress p s < progress p s′
   unfolding progress
-  consumed n = omega (arith, sent-after, words-after, one-less, i .fits .waiting, sum-le (p .modules) (up s) (up s′) up-all, ap length (back-none n))
+  consumed n = omega (arith, sent-after, words-after, one-less, i .fits .waiting, sum-le (modulesOf p) (up s) (up s′) up-all, ap length (back-none n))
 
   woke : w .answer ≡ BACK → nodeAt s v .status ≡ ASLEEP → progress p s < progress p s′
   unfolding progress
   woke b e =
       let z : up s v ≡ 0 = ap (λ t. bit (not t)) (eq-eqb _ ASLEEP e) in
-      omega (arith, sent-after, words-after, one-less, i .fits .waiting, sum-lt (p .modules) v (up s) (up s′) (h .within) up-all (omega (arith, z, up-v)), ap length (back-one b))
+      omega (arith, sent-after, words-after, one-less, i .fits .waiting, sum-lt (modulesOf p) v (up s) (up s′) (h .within) up-all (omega (arith, z, up-v)), ap length (back-one b))
 
   is-put-back : w .answer ≡ BACK → nodeAt s v .status ≢ ASLEEP → w ≡ putBack fresh
   is-put-back b n = ⊎-elim (λ k. absurd (k .answer b)) (λ t. t .1) (ends n)

@@ -12,8 +12,8 @@ use Rattle.base.specs.Loop.{After, Ran}
 use Rattle.base.specs.LoopLaws.{runs-answer}
 use Rattle.base.specs.Pool.{All, nil, con}
 use Rattle.base.specs.Test.{every}
-use Rattle.plan.specs.declared.Plan.{Plan}
 use Rattle.plan.specs.Accepted.{Accepted, accepted}
+use Rattle.plan.specs.Links.{Plan, modulesOf}
 use Rattle.node.specs.Work.{BRANCH}
 use Rattle.field.specs.Edges.{ceilingOf}
 use Rattle.field.specs.State.{State, markAt}
@@ -129,7 +129,7 @@ module _ (p : Plan) (a : Accepted p) (Good : State → Type 0) (proto : Protocol
       (allowed cs (does c h .state) (does-live h i c) (plan-of-does h i c ∙ e) next)
 
   -- what a run of rounds leaves
-  settling : (h : Held) → Live h → h .field .plan ≡ p → Good (stateOf h) → (limit : ℕ) → ceilingOf p + p .modules ≤ limit → Settles p (runRounds limit h)
+  settling : (h : Held) → Live h → h .field .plan ≡ p → Good (stateOf h) → (limit : ℕ) → ceilingOf p + modulesOf p ≤ limit → Settles p (runRounds limit h)
   unfolding does onState
   settling h i e g limit l =
       let r = rested p a Good calm (stateOf h) (sound-held h i e) g limit in
@@ -137,7 +137,7 @@ module _ (p : Plan) (a : Accepted p) (Good : State → Type 0) (proto : Protocol
       record {
         rest = ap (λ (s : State). s .words) (state-of-does h i (rounds limit)) ∙ ap (λ (x : Ran State). x .state .words) q ∙ r .rest l;
         unrefused = answer-of-does h i (rounds limit) ∙ ap (λ (x : Ran State). x .answer) q ∙ r .answer;
-        within = subst (λ n. n ≤ ceilingOf p + p .modules) (sym (ap (λ (x : Ran Held). x .done) (does-state h i (rounds limit)) ∙ ap (λ (x : Ran State). x .done) q)) (r .within);
+        within = subst (λ n. n ≤ ceilingOf p + modulesOf p) (sym (ap (λ (x : Ran Held). x .done) (does-state h i (rounds limit)) ∙ ap (λ (x : Ran State). x .done) q)) (r .within);
       }
 
   -- all of it, for a list of calls on a live field that is good and has sent nothing

@@ -16,8 +16,8 @@ use Rattle.base.specs.Keep.{keep, keep-yes, keep-no}
 use Rattle.format_message.specs.Header.{kindAt, levelAt, findAt, msgOf}
 use Rattle.format_word.specs.Word.{headerIn, carriedIn, linkIn, handedIn, shaped, handOver}
 use Rattle.format_word.specs.Laws.{Unpacked, over}
-use Rattle.plan.specs.declared.Plan.{Plan}
 use Rattle.plan.specs.Accepted.{Accepted}
+use Rattle.plan.specs.Links.{Plan, modulesOf, linksOf}
 use Rattle.node.specs.Work.{ASLEEP, BACK}
 use Rattle.node.specs.Rules.{respond}
 use Rattle.field.specs.Edges.{dest, ceilingOf, ownOf, limitOf, linkOf}
@@ -42,7 +42,7 @@ module _ (p : Plan) (a : Accepted p) {B : ℕ → Type 0} where
   tail-all : {x : ℕ} {l : List ℕ} → All B (x ∷ l) → All B l
   tail-all (con h t) = t
 
-  cover : (l : List ℕ) → All (λ w. wordFits p w ≡ true) l → All (λ w. handedIn w ≡ true) l → ((u : ℕ) → u < p .modules → All B (keep (inQueue p u) l)) → All B l
+  cover : (l : List ℕ) → All (λ w. wordFits p w ≡ true) l → All (λ w. handedIn w ≡ true) l → ((u : ℕ) → u < modulesOf p → All B (keep (inQueue p u) l)) → All B l
   cover [] f h q = nil
   cover (x ∷ l) (con f fs) (con h hs) q =
       let u = dest p (linkIn x) in
@@ -90,7 +90,7 @@ module _ (p : Plan) (a : Accepted p) (Good : State → Type 0) (calm : Calm p Go
         holds = record { sound = s .holds .sound; good = s .holds .good; moves = go m y k (s .holds .quiet) };
       })
     where
-      go : (m y : State) → Handing p a Good calm (Blocked p f) (blocked-low p f) f (2 * p .links) m → (progress p m < progress p y) ⊎ Calmly p a Good calm m (p .modules) y
+      go : (m y : State) → Handing p a Good calm (Blocked p f) (blocked-low p f) f (2 * linksOf p) m → (progress p m < progress p y) ⊎ Calmly p a Good calm m (modulesOf p) y
           → (progress p f < progress p y) ⊎ (f .words ≡ [])
       go m y k (inl less) = inl (omega (arith, still-progress p f m (k .still) (k .long)))
       go m y k (inr c) = inr (calm .stuck f i g (k .back (All-map (λ x b. still-blocked p f m (k .still) x b)
@@ -130,7 +130,7 @@ module _ (p : Plan) (a : Accepted p) (Good : State → Type 0) (calm : Calm p Go
   going f i g (suc n) = going-on f n (roundsRun p n f) (going f i g n)
 
   -- all that could be sent was consumed
-  full : (f : State) (limit : ℕ) (r : Ran State) → Going f limit r → r .done ≡ limit → ceilingOf p + p .modules ≤ limit → r .state .words ≡ []
+  full : (f : State) (limit : ℕ) (r : Ran State) → Going f limit r → r .done ≡ limit → ceilingOf p + modulesOf p ≤ limit → r .state .words ≡ []
   unfolding progress
   full f limit r k e l = no-words (r .state .words)
       (omega (arith, k .risen, k .sound .fits .waiting, k .sound .fits .ceiling, awake-le p (r .state)))
@@ -138,8 +138,8 @@ module _ (p : Plan) (a : Accepted p) (Good : State → Type 0) (calm : Calm p Go
   -- THE LAW of a run of rounds: never refused; at rest within M + N rounds, if its limit lets it
   pub record Rested (limit : ℕ) (r : Ran State) : Type 0 where
     pub answer : r .answer ≡ 0
-    pub within : r .done ≤ ceilingOf p + p .modules
-    pub rest : ceilingOf p + p .modules ≤ limit → r .state .words ≡ []
+    pub within : r .done ≤ ceilingOf p + modulesOf p
+    pub rest : ceilingOf p + modulesOf p ≤ limit → r .state .words ≡ []
 
   pub rested : (f : State) → Sound p f → Good f → (limit : ℕ) → Rested limit (roundsRun p limit f)
   rested f i g limit =

@@ -13,13 +13,14 @@ use Rattle.base.specs.LoopLaws.{Ok, loop-ok}
 use Rattle.base.specs.Pool.{All, nil, con, All-app, All-one, All-map, All-here}
 use Rattle.base.specs.Keep.{keep, keep-nil, keep-app, keep-none, keep-no, first-out, first-passes, head-of, others}
 use Rattle.format_word.specs.Word.{linkIn, handedIn}
-use Rattle.plan.specs.declared.Plan.{Plan}
 use Rattle.plan.specs.Accepted.{Accepted}
+use Rattle.plan.specs.Links.{Plan, modulesOf}
 use Rattle.node.specs.Work.{Work, Send}
 use Rattle.field.specs.Edges.{dest}
 use Rattle.field.specs.State.{State, wordOf, posted}
 use Rattle.field.specs.Step.{inQueue, serveWork, backOf, serve, step}
-use Rattle.field_calls.specs.Rounds.{many, serveTurn, servePhase}
+use Rattle.base.specs.Keep.{many}
+use Rattle.field_calls.specs.Rounds.{serveTurn, servePhase}
 use Rattle.field_laws.specs.Cases.{Served, serves, took-it, serve-fine}
 use Rattle.field_laws.specs.Chan.{queue-parts, not-left, not-right}
 use Rattle.field_laws.specs.Sends.{Packs, reads}
@@ -57,7 +58,7 @@ module _ (p : Plan) (a : Accepted p) (Good : State → Type 0) (calm : Calm p Go
     queue : keep (inQueue p v) (z .words) ≡ left ++ again
     quiet : (progress p y < progress p z) ⊎ Quiet v y done z
 
-  module _ (v : ℕ) (y z : State) (l : v < p .modules) where
+  module _ (v : ℕ) (y z : State) (l : v < modulesOf p) where
     abbrev z′ : State
     z′ = serve p v z .state
 
@@ -148,7 +149,7 @@ module _ (p : Plan) (a : Accepted p) (Good : State → Type 0) (calm : Calm p Go
         }
 
   -- the whole turn of v
-  turn-all : (v : ℕ) (y : State) → v < p .modules → Sound p y → Good y → Ok (Serving v y (length (keep (inQueue p v) (y .words)))) (serveTurn p v y)
+  turn-all : (v : ℕ) (y : State) → v < modulesOf p → Sound p y → Good y → Ok (Serving v y (length (keep (inQueue p v) (y .words)))) (serveTurn p v y)
   unfolding serveTurn
   turn-all v y l i g = rw (many-keep (inQueue p v) (y .words))
       (loop-ok (Serving v y) (length (keep (inQueue p v) (y .words))) (λ j. serve p v) y
@@ -204,8 +205,8 @@ module _ (p : Plan) (a : Accepted p) (Good : State → Type 0) (calm : Calm p Go
       })
 
   -- THE LAW of the second half
-  pub serving : (m : State) → Sound p m → Good m → Ok (Phase m (p .modules)) (servePhase p m)
-  serving m i g = loop-ok (Phase m) (p .modules) (serveTurn p) m
+  pub serving : (m : State) → Sound p m → Good m → Ok (Phase m (modulesOf p)) (servePhase p m)
+  serving m i g = loop-ok (Phase m) (modulesOf p) (serveTurn p) m
       (record { sound = i; good = g; quiet = inr (record { still = still-same m; same = refl; blocked = λ u l. absurd (not-suc-le-zero l); later = λ u l. refl }) })
       (λ k y l t. let r = turn-all k y l (t .sound) (t .good) in
       record { fine = r .fine; holds = record { sound = r .holds .sound; good = r .holds .good; quiet = phase-quiet m k y (serveTurn p k y .state) (r .holds) (t .quiet) (r .holds .quiet) } })

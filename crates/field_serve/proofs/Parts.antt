@@ -11,8 +11,8 @@ use Rattle.format_word.specs.Word.{headerIn, carriedIn}
 use Rattle.node.specs.declared.Node.{Node}
 use Rattle.node.specs.Work.{Own}
 use Rattle.node.specs.Rules.{respond}
-use Rattle.node_response.specs.declared.Act.{Act}
-use Rattle.node_response.specs.Act.{workOf}
+use Rattle.node_response.specs.declared.Response.{Response}
+use Rattle.node_response.specs.Response.{workOf}
 use Rattle.node_joining.specs.Copies.{copiesIn}
 use Rattle.node_dispatch.specs.Fit.{Fit}
 use Rattle.field.specs.State.{msgIn}
@@ -28,6 +28,6 @@ module _ (x h kind level find carried : ℕ) (eh : h ≡ headerIn x) (ek : kind 
 pub fits-as : (links : ℕ) (lower higher : List ℕ) (v : ℕ) {i j : ℕ} {n o : Node} → i ≡ j → n ≡ o → Fit links lower higher v j o → Fit links lower higher v i n
 fits-as links lower higher v e f h = rw (e, f) h
 
-pub responds-as : (o : Own) (m : ℕ → ℕ) (r : Act) {limit top i j : ℕ} {g msg : Msg} {n node : Node} → limit ≡ top → i ≡ j → g ≡ msg → n ≡ node
+pub responds-as : (o : Own) (m : ℕ → ℕ) (r : Response) {limit top i j : ℕ} {g msg : Msg} {n node : Node} → limit ≡ top → i ≡ j → g ≡ msg → n ≡ node
     → workOf m (copiesIn o i g m) r ≡ respond o limit g i n m → workOf m (copiesIn o j msg m) r ≡ respond o top msg j node m
 responds-as o m r el ei eg en h = rw (← el, ← ei, ← eg, ← en) h

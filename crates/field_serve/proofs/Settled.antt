@@ -12,7 +12,7 @@ use Rattle.format_message.specs.Means.{Means}
 use Rattle.format_word.specs.Word.{headerIn, carriedIn, linkIn}
 use Rattle.plan.specs.declared.Plan.{Plan}
 use Rattle.node.specs.Work.{Work, REFUSED}
-use Rattle.node_response.specs.declared.Act.{Act}
+use Rattle.node_response.specs.declared.Response.{Response}
 use Rattle.field.specs.Edges.{linkOf, ceilingOf}
 use Rattle.field.specs.State.{State, putNode, posted, placed}
 use Rattle.field.specs.Step.{without, settle, backOf}
@@ -44,7 +44,7 @@ state-is : {a b c d e f : List ℕ} {g h : ℕ} → a ≡ b → c ≡ d → e �
     → _≡_ {A = State} (record { cells = a; marks = c; words = e; sent = g }) (record { cells = b; marks = d; words = f; sent = h })
 state-is p q r s = cc
 
-module _ (p : Plan) (cells marks lent : List ℕ) (n sent v i x : ℕ) (msg : Msg) (a : Act) where
+module _ (p : Plan) (cells marks lent : List ℕ) (n sent v i x : ℕ) (msg : Msg) (a : Response) where
   abbrev before : State
   before = stateOf cells marks lent n sent
 

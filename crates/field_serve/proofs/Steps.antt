@@ -21,8 +21,8 @@ use Rattle.plan.specs.declared.Plan.{Plan}
 use Rattle.node.specs.declared.Node.{Node}
 use Rattle.node.specs.Work.{Own, Work, Send, BACK, ASLEEP, TAKEN, earliest, anyEdge}
 use Rattle.node.specs.Rules.{wakeOn, wakes}
-use Rattle.node_response.specs.declared.Act.{Act}
-use Rattle.node_response.specs.Act.{workOf, Formed}
+use Rattle.node_response.specs.declared.Response.{Response}
+use Rattle.node_response.specs.Response.{workOf, Formed}
 use Rattle.node_joining.specs.Copies.{copiesIn}
 use Rattle.node_dispatch.specs.Fit.{Fit}
 use Rattle.field.specs.Edges.{ownOf, linkOf, limitOf, ceilingOf}
@@ -98,7 +98,7 @@ module _ (p : Plan) (cells marks lent : List ℕ) (n sent v : ℕ) (r : Ready p 
   many = length-take-le n lent (r .laid .within)
 
   -- what settling asks, of a response that stays within the lists
-  settles : (i j : ℕ) (msg : Msg) (a : Act) → v < p .modules → Formed a → WorkOk (ownOf p v) (limitOf p) (workBy p v j msg a before) → (i < n) ⊎ (a .answer ≢ BACK)
+  settles : (i j : ℕ) (msg : Msg) (a : Response) → v < p .modules → Formed a → WorkOk (ownOf p v) (limitOf p) (workBy p v j msg a before) → (i < n) ⊎ (a .answer ≢ BACK)
       → Settles (p .links) marks lent n sent (ceilingOf p) v i a
   settles i j msg a l f ok s = record {
     few = r .plan .linksOk;
@@ -123,7 +123,7 @@ module _ (p : Plan) (cells marks lent : List ℕ) (n sent v : ℕ) (r : Ready p 
     pub waking-43 : (o : Node) → o ≡ nodeIn cells v → o .status ≢ 0 → {d : Done} → refuses (λ p. wake p v) 43 d
     waking-43 o e h = stays p cells marks lent n sent r (λ p. wake p v) 43 (wake-43 p v before l (λ q. h (ap (λ (y : Node). y .status) e ∙ q)))
 
-    module _ (o : Node) (eo : o ≡ nodeIn cells v) (h : o .status ≡ 0) (a : Act) (f : Formed a)
+    module _ (o : Node) (eo : o ≡ nodeIn cells v) (h : o .status ≡ 0) (a : Response) (f : Formed a)
         (e : (cs : List Send) → workOf (markAt p before v) cs a ≡ wakes (ownOf p v) o (markAt p before v)) where
       is-wake : (j : ℕ) (msg : Msg) → workBy p v j msg a before ≡ wakeWork p v before
       is-wake j msg = e _ ∙ ap (λ (y : Node). wakes (ownOf p v) y (markAt p before v)) eo
@@ -180,7 +180,7 @@ module _ (p : Plan) (cells marks lent : List ℕ) (n sent v : ℕ) (r : Ready p 
               weight = ⊎-elim (λ e. inr e) (λ b. inl (omega (arith, r .plan .linksOk))) (o .weight);
             }
 
-        module _ (a : Act) (e : Responds p v x cells marks a) where
+        module _ (a : Response) (e : Responds p v x cells marks a) where
           is-serve : workBy p v (linkOf (linkIn x)) (msgIn x) a before ≡ serveWork p v x before
           is-serve = e .is lent n sent
 

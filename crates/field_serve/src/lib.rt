@@ -1,6 +1,6 @@
 // Two steps on lent arrays: a module wakes, a module serves the first word of its queue. (A hand-over is in `store`.)
 // A response is worked out by value, then settled: 32 and 33 before anything is written.
-use node_response::Act;
+use node_response::Response;
 use field_cells;
 use field_place;
 use field::CELLS;
@@ -85,7 +85,7 @@ fn settle<'a>(
     v: u16,
     i: usize,
     x: u64,
-    a: Act,
+    a: Response,
 ) -> Done
     requires { ⌜ Settles links (now marks) (now lent) n sent (ceiling modules links) v i a ⌝ }
     ensures { λ r. ⌜ ((near far : List ℕ) (msg : Msg) → Settled (planOf modules links (now (lower .entry)) (now (higher .entry)) near far) v i x msg a
@@ -119,7 +119,7 @@ fn response<'a>(
     marks: &'a [u8; 1200],
     v: u16,
     x: u64,
-) -> Act
+) -> Response
     requires { ⌜ (v < 192) × Fit links (now lower) (now higher) v (linkOf (linkIn x)) (nodeIn (now cells) v) × (listed (headerIn x) (carriedIn x) ≡ true) ⌝ }
     ensures { λ r. ⌜ Responds (planOf modules links (now (lower .entry)) (now (higher .entry)) (now (near .entry)) (now (far .entry))) v x
         (now (cells .entry)) (now (marks .entry)) r ⌝ }

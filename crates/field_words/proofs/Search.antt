@@ -8,7 +8,7 @@ use mathlib.Core.List.{List}
 use lib.ListN.{length, getD, drop, drop-of-length-le}
 use lib.Seq.{drop-cons}
 use Rattle.base.specs.Keep.{place}
-use Rattle.field_calls.specs.Rounds.{many}
+use Rattle.base.specs.Keep.{many}
 
 module _ (q : ℕ → Bool) (ws : List ℕ) where
   -- no word before place i passes

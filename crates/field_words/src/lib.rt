@@ -6,7 +6,7 @@ ghost use mathlib.Core.List.{[], _∷_, _++_};
 ghost use lib.ListN.{length, take, drop};
 ghost use Rattle.field.specs.Step.{inAir, place, without, hand};
 ghost use Rattle.field.specs.Held.{layout};
-ghost use Rattle.field_calls.specs.Rounds.{many};
+ghost use Rattle.base.specs.Keep.{many};
 ghost use Rattle.field_words.specs.Laid.{Laid};
 ghost use Rattle.field_words.specs.Queue.{Columns, destIn, inQueueIn};
 ghost use Rattle.field_words.specs.Hands.{Hands};

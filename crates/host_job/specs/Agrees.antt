@@ -47,7 +47,7 @@ settle-only p v w s words back = bool-cases (eqb (w .answer) REFUSED) (λ e. rw 
 
 wake-only : (h : Held) → Live h → 0 < h .field .plan .modules → nodeAt (stateOf h) 0 .status ≡ ASLEEP → Settling (stepAlone 1 0 h .answer)
 unfolding stepAlone step wake
-wake-only h i l e = rw (i .valid, lt-leb (h .field .plan .modules) 0 l, eq-eqb _ ASLEEP e) (settle-only (h .field .plan) 0 _ (stateOf h) (stateOf h .words) [])
+wake-only h i l e = rw (i .valid, lt-leb (modulesOf (h .field .plan)) 0 l, eq-eqb _ ASLEEP e) (settle-only (h .field .plan) 0 _ (stateOf h) (stateOf h .words) [])
 
 -- what demand 3 leaves of these
 unrefused : (r : ℕ) → Settling r → Allowed (one 1 0) r → r ≡ 0
@@ -93,7 +93,7 @@ module _ (p : Plan) (lent : List ℕ) (ok : setUp p lent .answer ≡ 0) where
       unrefused _ (wake-only start live some asleep) (head (first .refusals))
 
   -- M + N is below the limit
-  room : ceilingOf p + p .modules ≤ 65535
+  room : ceilingOf p + modulesOf p ≤ 65535
   room = let k = started p lent ok .plan in omega (arith, ceiling-small p k, accepted p k .modulesOk)
 
   -- so the job is that list of calls
@@ -119,7 +119,7 @@ module _ (p : Plan) (lent : List ℕ) (ok : setUp p lent .answer ≡ 0) where
   }
 
   -- THE TREE OF THE CENTRAL BUILDER: both ends of a link say branch where its byte is 1, rejected where it is 0
-  module _ (out : List ℕ) (built : centralTree p out .answer ≡ 0) (k : ℕ) (l : k < p .links) where
+  module _ (out : List ℕ) (built : centralTree p out .answer ≡ 0) (k : ℕ) (l : k < linksOf p) where
     pub same-tree : getD (centralTree p out .state) k 0 ≡ 1 → BothSay p (stateOf (settled p lent .state)) BRANCH k
     same-tree e = outcome .agreed .tree k l (tree-written p out built k l e)
 

@@ -14,7 +14,8 @@ use Rattle.plan.specs.declared.Plan.{Plan}
 use Rattle.plan.specs.Accepted.{Accepted}
 use Rattle.field.specs.State.{State}
 use Rattle.field.specs.Step.{inAir, inQueue, hand, serve}
-use Rattle.field_calls.specs.Rounds.{many, handTurn, handPhase, serveTurn, servePhase, round}
+use Rattle.base.specs.Keep.{many}
+use Rattle.field_calls.specs.Rounds.{handTurn, handPhase, serveTurn, servePhase, round}
 use Rattle.field_laws.specs.Keeps.{Sound, step-keeps}
 use Rattle.field_laws.specs.Trace.{hand-turn-tells}
 use Rattle.field_words.specs.Laid.{Laid}

@@ -8,7 +8,7 @@ use mathlib.Core.Bool.{Bool, true, false, cond, _&&_, false≢true}
 use borrow.Author.Tests.{eq-eqb, ne-eqb}
 use Rattle.base.specs.Cond.{bool-cases, by-eq}
 use Rattle.base.specs.Search.{lt-suc-cases}
-use Rattle.format_message.specs.Msg.{none}
+use Rattle.base.specs.None.{none, beforeBy}
 use Rattle.node.specs.Work.{Own, before, earliest}
 
 -- k is an own edge below n for which f holds, and the earliest of these
@@ -32,15 +32,15 @@ parts false b e = absurd (false≢true e)
 
 module _ (o : Own) where
   pub before-none : (a : ℕ) → a ≢ none → before o a none ≡ true
-  unfolding before
+  unfolding beforeBy
   before-none a h = simp (ne-eqb _ _ h)
 
   pub before-edges : (a b : ℕ) → a ≢ none → b ≢ none → before o a b ≡ o.earlier a b
-  unfolding before
+  unfolding beforeBy
   before-edges a b h k = simp (ne-eqb _ _ h, ne-eqb _ _ k)
 
   pub none-before : (b : ℕ) → before o none b ≡ false
-  unfolding before
+  unfolding beforeBy
   none-before b = refl
 
   module _ (f : ℕ → Bool) (n : ℕ) where

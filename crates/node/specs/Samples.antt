@@ -3,8 +3,9 @@ use Prim.Native.Nat.{ℕ}
 use mathlib.Core.Path.{_≡_, refl}
 use mathlib.Core.List.{List, [], _∷_}
 use Rattle.base.specs.Cond.{upd}
+use Rattle.base.specs.None.{beforeBy}
 use Rattle.format_message.specs.Msg.{Msg, none, connect, initiate, test, accept, reject, report, change}
-use Rattle.node.specs.Work.{before, earliest, number, onEach}
+use Rattle.node.specs.Work.{earliest, number, onEach}
 use Rattle.node.specs.Rules.{wakeOn, awake, doReport, testOn, changeRoot, countUp, absorb, coreEnd, onConnect, seek, onInitiate, onTest, childReport, coreReport, onReport, unlessAsleep, respondTo}
 use Rattle.node.specs.Table.{Row, Outcome, gots, wants}
 
@@ -98,5 +99,5 @@ table =
     ∷ []
 
 pub samples : gots table ≡ wants table
-unfolding upd before earliest number onEach wakeOn awake doReport testOn changeRoot countUp absorb coreEnd onConnect seek onInitiate onTest childReport coreReport onReport unlessAsleep respondTo
+unfolding upd beforeBy earliest number onEach wakeOn awake doReport testOn changeRoot countUp absorb coreEnd onConnect seek onInitiate onTest childReport coreReport onReport unlessAsleep respondTo
 samples = refl

@@ -5,6 +5,7 @@ use mathlib.Core.Bool.{Bool, true, false, not, cond, _&&_}
 use mathlib.Core.List.{List, [], _∷_, _++_}
 use lib.Dec.{eqb}
 use Rattle.base.specs.Cond.{bit, upd}
+use Rattle.base.specs.None.{beforeBy}
 use Rattle.format_message.specs.Msg.{Msg, none}
 use Rattle.node.specs.declared.Node.{Node}
 
@@ -64,8 +65,8 @@ pub record Own : Type 0 where
   pub earlier : ℕ → ℕ → Bool
 
 -- ""none" is later than all": a is earlier than b, for edges or none
-unfoldable pub before : Own → ℕ → ℕ → Bool
-before o a b = cond (eqb a none) false (cond (eqb b none) true (o.earlier a b))
+abbrev pub before : Own → ℕ → ℕ → Bool
+before o = beforeBy (o.earlier)
 
 -- a message and the own edge that it is sent on
 pub record Send : Type 0 where

@@ -13,8 +13,8 @@ use Rattle.node.specs.declared.Node.{Node}
 use Rattle.node.specs.Work.{Own, Work, ASLEEP, refused}
 use Rattle.node.specs.Rules.{awake, onConnect, onInitiate, onTest, onAccept, onReject, onReport, changeRoot, unlessAsleep, respondTo}
 use Rattle.node.specs.Laws.{asleep-refused, asleep-not}
-use Rattle.node_response.specs.declared.Act.{Act}
-use Rattle.node_response.specs.Act.{begun}
+use Rattle.node_response.specs.declared.Response.{Response}
+use Rattle.node_response.specs.Response.{begun}
 use Rattle.node_dispatch.specs.Fit.{Fresh}
 
 left-of : (a b : Bool) → (a && b) ≡ true → a ≡ true
@@ -42,8 +42,8 @@ module _ (level carried find : ℕ) where
       link (inl e) = inl (ltb-true carried 600 e)
       link (inr e) = inr (eqb-true carried none e)
 
-pub fresh : {a : Act} {n : Node} → a ≡ begun n → Fresh a
-fresh e = record { edge = ap (λ x. x .edge) e; copies = ap (λ x. x .copies) e; first = ap (λ x. x .first .to) e; second = ap (λ x. x .second .to) e }
+pub fresh : {a : Response} {n : Node} → a ≡ begun n → Fresh a
+fresh e = record { edge = ap (λ x. x .edge) e; copies = ap (λ x. x .copies) e; first = ap (λ x. x .first .edge) e; second = ap (λ x. x .second .edge) e }
 
 -- a sleeper refuses all but Connect and Test
 module _ (kind status : ℕ) where

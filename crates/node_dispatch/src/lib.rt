@@ -1,5 +1,5 @@
 // A node's response to a message, or to a wakeup: the dispatch by the message's kind.
-use node_response::Act;
+use node_response::Response;
 use node::Node;
 ghost use mathlib.Core.Path.{_≡_};
 ghost use mathlib.Core.Bool.{true, not, _&&_};
@@ -11,7 +11,7 @@ ghost use Rattle.format_message.specs.Listed.{listedAs};
 ghost use Rattle.node.specs.Work.{Send};
 ghost use Rattle.node.specs.Rules.{respondTo, respond, wakes};
 ghost use Rattle.node_edges.specs.Own.{ownIn, marksIn};
-ghost use Rattle.node_response.specs.Act.{Does, Formed, workOf};
+ghost use Rattle.node_response.specs.Response.{Does, Formed, workOf};
 ghost use Rattle.node_joining.specs.Copies.{copiesIn};
 ghost use Rattle.node_dispatch.specs.Fit.{Fit, Fresh};
 
@@ -37,8 +37,8 @@ fn by_kind<'a>(
     level: u16,
     carried: u16,
     find: u8,
-    a: Act,
-) -> Act
+    a: Response,
+) -> Response
     requires { ⌜ Fit links (now lower) (now higher) v j (a .node) × Fresh a × (listedAs kind level carried find ≡ true) ⌝ }
     ensures { λ r. ⌜ Does (marksIn links (now (lower .entry)) (now (higher .entry)) (now (marks .entry)) v) (copiesIn (ownIn links (now (lower .entry)) (now (higher .entry)) (now (near .entry)) (now (far .entry)) v) j (msgOf kind level carried find) (marksIn links (now (lower .entry)) (now (higher .entry)) (now (marks .entry)) v))
         (respondTo (ownIn links (now (lower .entry)) (now (higher .entry)) (now (near .entry)) (now (far .entry)) v) limit (msgOf kind level carried find) j) a r ⌝ }
@@ -109,7 +109,7 @@ pub fn respond<'a>(
     carried: u16,
     find: u8,
     n: Node,
-) -> Act
+) -> Response
     requires { ⌜ Fit links (now lower) (now higher) v j n × (listedAs kind level carried find ≡ true) ⌝ }
     ensures { λ r. ⌜ (workOf (marksIn links (now (lower .entry)) (now (higher .entry)) (now (marks .entry)) v) (copiesIn (ownIn links (now (lower .entry)) (now (higher .entry)) (now (near .entry)) (now (far .entry)) v) j (msgOf kind level carried find) (marksIn links (now (lower .entry)) (now (higher .entry)) (now (marks .entry)) v)) r
         ≡ respond (ownIn links (now (lower .entry)) (now (higher .entry)) (now (near .entry)) (now (far .entry)) v) limit (msgOf kind level carried find) j n (marksIn links (now (lower .entry)) (now (higher .entry)) (now (marks .entry)) v)) × Formed r ⌝ }
@@ -142,7 +142,7 @@ pub fn wakeup<'a>(
     marks: &'a [u8; 1200],
     v: u16,
     n: Node,
-) -> Act
+) -> Response
     requires { ⌜ links ≤ 600 ⌝ }
     ensures { λ r. ⌜ ((cs : List Send) → workOf (marksIn links (now (lower .entry)) (now (higher .entry)) (now (marks .entry)) v) cs r ≡ wakes (ownIn links (now (lower .entry)) (now (higher .entry)) (now (near .entry)) (now (far .entry)) v) n (marksIn links (now (lower .entry)) (now (higher .entry)) (now (marks .entry)) v)) × Formed r ⌝ }
 {

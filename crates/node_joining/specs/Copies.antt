@@ -14,8 +14,8 @@ use Rattle.node.specs.Rules.{told, seek, doTest, onInitiate}
 use Rattle.node.specs.Laws.{initiate-find, seek-refused, seek-tests}
 use Rattle.node_edges.specs.Own.{marked}
 use Rattle.node_edges.specs.Laws.{marked-none}
-use Rattle.node_response.specs.declared.Act.{Act}
-use Rattle.node_response.specs.Act.{workOf, Does}
+use Rattle.node_response.specs.declared.Response.{Response}
+use Rattle.node_response.specs.Response.{workOf, Does}
 use Rattle.node_response.specs.Laws.{then, told-as, tells-all, sets-node}
 
 -- "for all i ≠ j such that SE(i) = Branch": the message on each, by rising edge number
@@ -26,12 +26,12 @@ abbrev pub informedAs : ℕ → ℕ → ℕ → ℕ → Node → Node
 informedAs status l f j n =
     record { status = status; level = l; identity = f; weight = none; best = none; test = n .test; branch = j; count = n .count; halted = n .halted }
 
-module _ (o : Own) (m : ℕ → ℕ) (a : Act) (clean : a .edge ≡ none) where
+module _ (o : Own) (m : ℕ → ℕ) (a : Response) (clean : a .edge ≡ none) where
   -- the count of the branches
   pub count-branches : (cs : List Send) (j k : ℕ) → number o (branches j (workOf m cs a)) k ≡ number o (λ i. not (eqb i j) && eqb (m i) BRANCH) k
   count-branches cs j k = rw (marked-none m (a .edge) (a .mark) 0 clean)
 
-  module _ (l f find j : ℕ) (c : a .copies ≡ 0) (x : a .first .to ≡ none) (y : a .second .to ≡ none) where
+  module _ (l f find j : ℕ) (c : a .copies ≡ 0) (x : a .first .edge ≡ none) (y : a .second .edge ≡ none) where
     does-tell : (status : ℕ) → status ≡ cond (eqb find 1) FIND FOUND
         → Does m (copiesIn o j (initiate l f find) m) (told o l f find j) a
         (record { answer = a .answer; node = informedAs status l f j (a .node); edge = a .edge; mark = a .mark; copies = 1; first = a .first; second = a .second })
@@ -50,7 +50,7 @@ module _ (o : Own) (m : ℕ → ℕ) (a : Act) (clean : a .edge ≡ none) where
     tell-find h = does-tell FIND (rw (eq-eqb _ _ h))
 
 -- find-count with the branches, as they were counted: n branches, d own edges, s in all
-module _ (o : Own) (m : ℕ → ℕ) (cs : List Send) (a : Act) (l f find j n d s : ℕ)
+module _ (o : Own) (m : ℕ → ℕ) (cs : List Send) (a : Response) (l f find j n d s : ℕ)
     (clean : a .edge ≡ none) (h : find ≡ 1) (en : n ≡ number o (λ k. not (eqb k j) && eqb (m k) BRANCH) (o.edges)) (ed : d ≡ degree o) (es : s ≡ a .node .count + n) where
   total : s ≡ a .node .count + number o (branches j (workOf m cs a)) (o.edges)
   total = omega (arith, es, en, count-branches o m a clean cs j (o.edges))

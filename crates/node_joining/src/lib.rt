@@ -1,5 +1,5 @@
 // The procedures test, wakeup and change-root, and the responses to Connect and Initiate, worked out by value from the plan's columns and the marks: v is the node, j the own edge that the message came by.
-use node_response::Act;
+use node_response::Response;
 use base::NONE;
 use node::Node;
 ghost use mathlib.Core.Path.{_≡_};
@@ -12,7 +12,7 @@ ghost use Rattle.node.specs.Work.{Send};
 ghost use Rattle.node.specs.Rules.{doTest, wakeup, awake, changeRoot, joined, absorb, coreEnd, onConnect, onInitiate};
 ghost use Rattle.node_edges.specs.Own.{isOwn, ownIn, marksIn};
 ghost use Rattle.node_joining.specs.Copies.{copiesIn};
-ghost use Rattle.node_response.specs.Act.{Does};
+ghost use Rattle.node_response.specs.Response.{Does};
 
 // Procedure test.
 pub fn do_test<'a>(
@@ -23,9 +23,9 @@ pub fn do_test<'a>(
     far: &'a [u16; 600],
     marks: &'a [u8; 1200],
     v: u16,
-    a: Act,
-) -> Act
-    requires { ⌜ (links ≤ 600) × (a .second .to ≡ none) ⌝ }
+    a: Response,
+) -> Response
+    requires { ⌜ (links ≤ 600) × (a .second .edge ≡ none) ⌝ }
     ensures { λ r. ⌜ ((cs : List Send) → Does (marksIn links (now (lower .entry)) (now (higher .entry)) (now (marks .entry)) v) cs (doTest (ownIn links (now (lower .entry)) (now (higher .entry)) (now (near .entry)) (now (far .entry)) v)) a r) ⌝ }
 {
     node_response::test_on(
@@ -43,10 +43,10 @@ pub fn wake<'a>(
     far: &'a [u16; 600],
     marks: &'a [u8; 1200],
     v: u16,
-    a: Act,
-) -> Act
-    requires { ⌜ (links ≤ 600) × (a .edge ≡ none) × (a .first .to ≡ none) × (a .second .to ≡ none) ⌝ }
-    ensures { λ r. ⌜ ((m : ℕ → ℕ) (cs : List Send) → Does m cs (wakeup (ownIn links (now (lower .entry)) (now (higher .entry)) (now (near .entry)) (now (far .entry)) v)) a r) × (r .second .to ≡ none) × (r .node .level ≡ 0) ⌝ }
+    a: Response,
+) -> Response
+    requires { ⌜ (links ≤ 600) × (a .edge ≡ none) × (a .first .edge ≡ none) × (a .second .edge ≡ none) ⌝ }
+    ensures { λ r. ⌜ ((m : ℕ → ℕ) (cs : List Send) → Does m cs (wakeup (ownIn links (now (lower .entry)) (now (higher .entry)) (now (near .entry)) (now (far .entry)) v)) a r) × (r .second .edge ≡ none) × (r .node .level ≡ 0) ⌝ }
 {
     node_response::wake_on(
         node_edges::earliest_own(links, lower, higher, near, far, marks, v),
@@ -63,10 +63,10 @@ pub fn wakened<'a>(
     far: &'a [u16; 600],
     marks: &'a [u8; 1200],
     v: u16,
-    a: Act,
-) -> Act
-    requires { ⌜ (links ≤ 600) × (a .edge ≡ none) × (a .first .to ≡ none) × (a .second .to ≡ none) ⌝ }
-    ensures { λ r. ⌜ ((m : ℕ → ℕ) (cs : List Send) → Does m cs (awake (ownIn links (now (lower .entry)) (now (higher .entry)) (now (near .entry)) (now (far .entry)) v)) a r) × (r .second .to ≡ none) × ((r .edge ≡ none) ⊎ (r .node .level ≡ 0)) ⌝ }
+    a: Response,
+) -> Response
+    requires { ⌜ (links ≤ 600) × (a .edge ≡ none) × (a .first .edge ≡ none) × (a .second .edge ≡ none) ⌝ }
+    ensures { λ r. ⌜ ((m : ℕ → ℕ) (cs : List Send) → Does m cs (awake (ownIn links (now (lower .entry)) (now (higher .entry)) (now (near .entry)) (now (far .entry)) v)) a r) × (r .second .edge ≡ none) × ((r .edge ≡ none) ⊎ (r .node .level ≡ 0)) ⌝ }
 {
     if a.node.status == 0 {
         return wake(links, lower, higher, near, far, marks, v, a);
@@ -81,9 +81,9 @@ pub fn change_root<'a>(
     higher: &'a [u16; 600],
     marks: &'a [u8; 1200],
     v: u16,
-    a: Act,
-) -> Act
-    requires { ⌜ (links ≤ 600) × (a .edge ≡ none) × (a .second .to ≡ none) × ((a .node .best ≡ none) ⊎ (isOwn links (now lower) (now higher) v (a .node .best) ≡ true)) ⌝ }
+    a: Response,
+) -> Response
+    requires { ⌜ (links ≤ 600) × (a .edge ≡ none) × (a .second .edge ≡ none) × ((a .node .best ≡ none) ⊎ (isOwn links (now lower) (now higher) v (a .node .best) ≡ true)) ⌝ }
     ensures { λ r. ⌜ ((cs : List Send) → Does (marksIn links (now (lower .entry)) (now (higher .entry)) (now (marks .entry)) v) cs changeRoot a r) ⌝ }
 {
     let e = a.node.best;
@@ -100,8 +100,8 @@ pub fn change_root<'a>(
 }
 
 // Edge j becomes a branch and its other end is told, with the Find bit.
-fn join(j: u16, find: u8, a: Act) -> Act
-    requires { ⌜ (j ≢ none) × (a .edge ≡ none) × (a .second .to ≡ none) ⌝ }
+fn join(j: u16, find: u8, a: Response) -> Response
+    requires { ⌜ (j ≢ none) × (a .edge ≡ none) × (a .second .edge ≡ none) ⌝ }
     ensures { λ r. ⌜ ((m : ℕ → ℕ) (cs : List Send) → Does m cs (joined j find) a r) ⌝ }
 {
     let mut b = a;
@@ -118,9 +118,9 @@ fn absorb<'a>(
     marks: &'a [u8; 1200],
     v: u16,
     j: u16,
-    a: Act,
-) -> Act
-    requires { ⌜ (links ≤ 600) × (j ≢ none) × (a .edge ≡ none) × (a .second .to ≡ none) ⌝ }
+    a: Response,
+) -> Response
+    requires { ⌜ (links ≤ 600) × (j ≢ none) × (a .edge ≡ none) × (a .second .edge ≡ none) ⌝ }
     ensures { λ r. ⌜ ((near far : List ℕ) (m : ℕ → ℕ) (cs : List Send) → Does m cs (absorb (ownIn links (now (lower .entry)) (now (higher .entry)) near far v) j) a r) ⌝ }
 {
     if a.node.status != 1 {
@@ -136,8 +136,8 @@ fn absorb<'a>(
 }
 
 // A Connect of the own level on a branch: the next level begins.
-fn core_end(limit: u16, j: u16, a: Act) -> Act
-    requires { ⌜ (j ≢ none) × (a .second .to ≡ none) ⌝ }
+fn core_end(limit: u16, j: u16, a: Response) -> Response
+    requires { ⌜ (j ≢ none) × (a .second .edge ≡ none) ⌝ }
     ensures { λ r. ⌜ ((m : ℕ → ℕ) (cs : List Send) → Does m cs (coreEnd limit j) a r) ⌝ }
 {
     if limit <= a.node.level {
@@ -156,9 +156,9 @@ pub fn on_connect<'a>(
     limit: u16,
     l: u16,
     j: u16,
-    a: Act,
-) -> Act
-    requires { ⌜ (links ≤ 600) × (isOwn links (now lower) (now higher) v j ≡ true) × (a .second .to ≡ none) × ((a .edge ≡ none) ⊎ (a .node .level ≡ 0)) ⌝ }
+    a: Response,
+) -> Response
+    requires { ⌜ (links ≤ 600) × (isOwn links (now lower) (now higher) v j ≡ true) × (a .second .edge ≡ none) × ((a .edge ≡ none) ⊎ (a .node .level ≡ 0)) ⌝ }
     ensures { λ r. ⌜ ((near far : List ℕ) (cs : List Send) → Does (marksIn links (now (lower .entry)) (now (higher .entry)) (now (marks .entry)) v) cs (onConnect (ownIn links (now (lower .entry)) (now (higher .entry)) near far v) limit l j) a r) ⌝ }
 {
     if l < a.node.level {
@@ -189,9 +189,9 @@ pub fn on_initiate<'a>(
     f: u16,
     find: u8,
     j: u16,
-    a: Act,
-) -> Act
-    requires { ⌜ (links ≤ 600) × (a .edge ≡ none) × (a .copies ≡ 0) × (a .first .to ≡ none) × (a .second .to ≡ none) ⌝ }
+    a: Response,
+) -> Response
+    requires { ⌜ (links ≤ 600) × (a .edge ≡ none) × (a .copies ≡ 0) × (a .first .edge ≡ none) × (a .second .edge ≡ none) ⌝ }
     ensures { λ r. ⌜ Does (marksIn links (now (lower .entry)) (now (higher .entry)) (now (marks .entry)) v) (copiesIn (ownIn links (now (lower .entry)) (now (higher .entry)) (now (near .entry)) (now (far .entry)) v) j (initiate l f find) (marksIn links (now (lower .entry)) (now (higher .entry)) (now (marks .entry)) v))
         (onInitiate (ownIn links (now (lower .entry)) (now (higher .entry)) (now (near .entry)) (now (far .entry)) v) l f find j) a r ⌝ }
 {

@@ -13,12 +13,12 @@ use Rattle.node.specs.declared.Node.{Node}
 use Rattle.node.specs.Work.{Send, Work, send, setMark, withNode, start}
 use Rattle.node_edges.specs.Own.{marked}
 use Rattle.node.specs.Rules.{copied}
-use Rattle.node_response.specs.declared.Out.{Out}
-use Rattle.node_response.specs.declared.Act.{Act}
-use Rattle.node_response.specs.Act.{msgIn, outFor, sent, copiesOf, workOf, Formed, Does, Says, begun}
+use Rattle.node_response.specs.declared.Packet.{Packet}
+use Rattle.node_response.specs.declared.Response.{Response}
+use Rattle.node_response.specs.Response.{packetMsg, packetFor, packetSends, copiesOf, workOf, Formed, Does, Says, begun}
 
--- an Out that says a message says it, on its edge
-pub msg-for : (to : ℕ) (m : Msg) → msgIn (outFor to m) ≡ m
+-- an Packet that says a message says it, on its edge
+pub msg-for : (to : ℕ) (m : Msg) → packetMsg (packetFor to m) ≡ m
 unfolding msgOf
 msg-for to (connect l) = refl
 msg-for to (initiate l i f) = refl
@@ -28,7 +28,7 @@ msg-for to reject = refl
 msg-for to (report w) = refl
 msg-for to change = refl
 
-pub to-for : (to : ℕ) (m : Msg) → outFor to m .to ≡ to
+pub to-for : (to : ℕ) (m : Msg) → packetFor to m .edge ≡ to
 to-for to (connect l) = refl
 to-for to (initiate l i f) = refl
 to-for to (test l i) = refl
@@ -37,8 +37,8 @@ to-for to reject = refl
 to-for to (report w) = refl
 to-for to change = refl
 
--- the parts of what a well written Out says are its own: so it is packed as it stands
-pub parts-for : (to : ℕ) (m : Msg) → partsOf m ≡ parts (outFor to m .kind) (outFor to m .level) (outFor to m .carried) (outFor to m .find)
+-- the parts of what a well written Packet says are its own: so it is packed as it stands
+pub parts-for : (to : ℕ) (m : Msg) → partsOf m ≡ parts (packetFor to m .kind) (packetFor to m .level) (packetFor to m .carried) (packetFor to m .find)
 unfolding partsOf
 parts-for to (connect l) = refl
 parts-for to (initiate l i f) = refl
@@ -48,20 +48,20 @@ parts-for to reject = refl
 parts-for to (report w) = refl
 parts-for to change = refl
 
-pub out-parts : (x : Out) → outFor (x .to) (msgIn x) ≡ x → partsOf (msgIn x) ≡ parts (x .kind) (x .level) (x .carried) (x .find)
-out-parts x e = parts-for (x .to) (msgIn x) ∙ ap (λ y. parts (y .kind) (y .level) (y .carried) (y .find)) e
+pub out-parts : (x : Packet) → packetFor (x .edge) (packetMsg x) ≡ x → partsOf (packetMsg x) ≡ parts (x .kind) (x .level) (x .carried) (x .find)
+out-parts x e = parts-for (x .edge) (packetMsg x) ∙ ap (λ y. parts (y .kind) (y .level) (y .carried) (y .find)) e
 
-module _ (x : Out) (to : ℕ) (m : Msg) (e : x ≡ outFor to m) where
-  pub formed-for : outFor (x .to) (msgIn x) ≡ x
+module _ (x : Packet) (to : ℕ) (m : Msg) (e : x ≡ packetFor to m) where
+  pub formed-for : packetFor (x .edge) (packetMsg x) ≡ x
   formed-for = rw (e, msg-for, to-for)
 
-  pub sent-for : to ≢ none → sent x ≡ record { edge = to; msg = m } ∷ []
-  unfolding sent
-  sent-for n = rw (e, msg-for, to-for, ne-eqb _ _ n)
+  pub packet-sends : to ≢ none → packetSends x ≡ record { edge = to; msg = m } ∷ []
+  unfolding packetSends
+  packet-sends n = rw (e, msg-for, to-for, ne-eqb _ _ n)
 
-pub sent-none : (x : Out) → x .to ≡ none → sent x ≡ []
-unfolding sent
-sent-none x h = rw (eq-eqb _ _ h)
+pub packet-none : (x : Packet) → x .edge ≡ none → packetSends x ≡ []
+unfolding packetSends
+packet-none x h = rw (eq-eqb _ _ h)
 
 -- a message behind the copies C, where first and second say F and S
 module _ (C F S X : List Send) (y : Send) (p : X ≡ y ∷ []) (s : S ≡ []) where
@@ -72,38 +72,38 @@ module _ (C F S X : List Send) (y : Send) (p : X ≡ y ∷ []) (s : S ≡ []) wh
   sends-second = rw (p, s, append-nil, append-assoc)
 
 -- one message more, in the first place or in the second
-module _ (m : ℕ → ℕ) (cs : List Send) (x : Out) (a : Act) (free : a .second .to ≡ none) where
-  pub says-first : a .first .to ≡ none
+module _ (m : ℕ → ℕ) (cs : List Send) (x : Packet) (a : Response) (free : a .second .edge ≡ none) where
+  pub says-first : a .first .edge ≡ none
       → Says m cs x a (record { answer = a .answer; node = a .node; edge = a .edge; mark = a .mark; copies = a .copies; first = x; second = a .second })
   says-first h =
       record {
         does = λ to msg e n. record {
           work = ap (λ l. record { answer = a .answer; node = a .node; mark = marked m (a .edge) (a .mark); sends = l })
-              (sends-first (copiesOf (a .copies) cs) _ _ _ _ (sent-for x to msg e n) (sent-none (a .second) free) (sent-none (a .first) h));
+              (sends-first (copiesOf (a .copies) cs) _ _ _ _ (packet-sends x to msg e n) (packet-none (a .second) free) (packet-none (a .first) h));
           formed = λ g. record { first = formed-for x to msg e; second = g .second };
         };
         room = λ q. free;
       }
 
-  pub says-second : a .first .to ≢ none
+  pub says-second : a .first .edge ≢ none
       → Says m cs x a (record { answer = a .answer; node = a .node; edge = a .edge; mark = a .mark; copies = a .copies; first = a .first; second = x })
   says-second h =
       record {
         does = λ to msg e n. record {
           work = ap (λ l. record { answer = a .answer; node = a .node; mark = marked m (a .edge) (a .mark); sends = l })
-              (sends-second (copiesOf (a .copies) cs) (sent (a .first)) _ _ _ (sent-for x to msg e n) (sent-none (a .second) free));
+              (sends-second (copiesOf (a .copies) cs) (packetSends (a .first)) _ _ _ (packet-sends x to msg e n) (packet-none (a .second) free));
           formed = λ g. record { first = g .first; second = formed-for x to msg e };
         };
         room = λ q. absurd (h q);
       }
 
 -- another node
-pub sets-node : (m : ℕ → ℕ) (cs : List Send) (a : Act) (n : Node)
+pub sets-node : (m : ℕ → ℕ) (cs : List Send) (a : Response) (n : Node)
     → Does m cs (withNode n) a (record { answer = a .answer; node = n; edge = a .edge; mark = a .mark; copies = a .copies; first = a .first; second = a .second })
 sets-node m cs a n = record { work = refl; formed = λ g. record { first = g .first; second = g .second } }
 
 -- the mark of a response
-module _ (m : ℕ → ℕ) (cs : List Send) (a : Act) (k c : ℕ) where
+module _ (m : ℕ → ℕ) (cs : List Send) (a : Response) (k c : ℕ) where
   pub marks-edge : a .edge ≡ none → k ≢ none
       → Does m cs (setMark k c) a (record { answer = a .answer; node = a .node; edge = k; mark = c; copies = a .copies; first = a .first; second = a .second })
   unfolding marked
@@ -111,36 +111,36 @@ module _ (m : ℕ → ℕ) (cs : List Send) (a : Act) (k c : ℕ) where
       record { work = rw (ne-eqb _ _ n, eq-eqb _ _ h); formed = λ g. record { first = g .first; second = g .second } }
 
 -- the copies of an Initiate, before all else
-module _ (m : ℕ → ℕ) (cs : List Send) (a : Act) where
-  pub tells-all : a .copies ≢ 1 → a .first .to ≡ none → a .second .to ≡ none
+module _ (m : ℕ → ℕ) (cs : List Send) (a : Response) where
+  pub tells-all : a .copies ≢ 1 → a .first .edge ≡ none → a .second .edge ≡ none
       → Does m cs (copied cs) a (record { answer = a .answer; node = a .node; edge = a .edge; mark = a .mark; copies = 1; first = a .first; second = a .second })
   unfolding copiesOf
   tells-all c f s =
       record {
         work = ap (λ l. record { answer = a .answer; node = a .node; mark = marked m (a .edge) (a .mark); sends = l })
-            (rw (ne-eqb _ _ c, sent-none (a .first) f, sent-none (a .second) s) (append-nil cs));
+            (rw (ne-eqb _ _ c, packet-none (a .first) f, packet-none (a .second) s) (append-nil cs));
         formed = λ g. record { first = g .first; second = g .second };
       }
 
 -- one part after another
-module _ {m : ℕ → ℕ} {cs : List Send} {f g : Work → Work} {a b r : Act} where
+module _ {m : ℕ → ℕ} {cs : List Send} {f g : Work → Work} {a b r : Response} where
   pub then : Does m cs g b r → Does m cs f a b → Does m cs (λ w. g (f w)) a r
   then q p = record { work = q .work ∙ ap g (p .work); formed = λ x. q .formed (p .formed x) }
 
 -- the same part, told otherwise
-module _ {m : ℕ → ℕ} {cs : List Send} {f g : Work → Work} {a r : Act} where
+module _ {m : ℕ → ℕ} {cs : List Send} {f g : Work → Work} {a r : Response} where
   pub told-as : Does m cs f a r → f (workOf m cs a) ≡ g (workOf m cs a) → Does m cs g a r
   told-as p e = record { work = p .work ∙ e; formed = p .formed }
 
 -- nothing was done
-module _ (m : ℕ → ℕ) (cs : List Send) (a : Act) where
+module _ (m : ℕ → ℕ) (cs : List Send) (a : Response) where
   pub stays : (f : Work → Work) → f (workOf m cs a) ≡ workOf m cs a → Does m cs f a a
   stays f e = record { work = sym e; formed = λ g. g }
 
 -- the start
 module _ (m : ℕ → ℕ) (n : Node) where
   pub begun-work : (cs : List Send) → workOf m cs (begun n) ≡ start n m
-  unfolding marked sent copiesOf
+  unfolding marked packetSends copiesOf
   begun-work cs = refl
 
   pub begun-formed : Formed (begun n)
@@ -148,6 +148,6 @@ module _ (m : ℕ → ℕ) (n : Node) where
   begun-formed = record { first = refl; second = refl }
 
 -- the end: a response from its start on
-module _ {m : ℕ → ℕ} {cs : List Send} {f : Work → Work} {a r : Act} {n : Node} where
+module _ {m : ℕ → ℕ} {cs : List Send} {f : Work → Work} {a r : Response} {n : Node} where
   pub done : a ≡ begun n → Does m cs f a r → (workOf m cs r ≡ f (start n m)) × Formed r
   done e d = (d .work ∙ ap f (ap (workOf m cs) e ∙ begun-work m n cs), d .formed (rw e (begun-formed m n)))

@@ -1,2 +1,2 @@
-pub mod Act
+pub mod Response
 pub mod Laws

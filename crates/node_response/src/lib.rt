@@ -7,11 +7,11 @@ ghost use Prim.Native.Nat.{ℕ};
 ghost use Rattle.format_message.specs.Msg.{none, connect, initiate, test, accept, reject, report, change};
 ghost use Rattle.node.specs.Work.{Send, putBack, refused};
 ghost use Rattle.node.specs.Rules.{doReport, testOn, wakeOn};
-ghost use Rattle.node_response.specs.Act.{Does, Says, outFor, begun};
+ghost use Rattle.node_response.specs.Response.{Does, Says, packetFor, begun};
 
 // A message and the own edge that it goes by, none for no message.
-pub struct Out {
-    pub to: u16,
+pub struct Packet {
+    pub edge: u16,
     pub kind: u8,
     pub level: u16,
     pub carried: u16,
@@ -20,21 +20,21 @@ pub struct Out {
 
 // answer: 0 taken, 1 put back, 32 refused. edge's mark becomes mark, edge none for no mark. copies: 1 if the served message is copied to
 // every other branch. The copies go out first, then first, then second.
-pub struct Act {
+pub struct Response {
     pub answer: u32,
     pub node: Node,
     pub edge: u16,
     pub mark: u8,
     pub copies: u8,
-    pub first: Out,
-    pub second: Out,
+    pub first: Packet,
+    pub second: Packet,
 }
 
-pub fn a_connect(to: u16, level: u16) -> Out
-    ensures { λ r. ⌜ r ≡ outFor to (connect level) ⌝ }
+pub fn a_connect(edge: u16, level: u16) -> Packet
+    ensures { λ r. ⌜ r ≡ packetFor edge (connect level) ⌝ }
 {
-    Out {
-        to: to,
+    Packet {
+        edge: edge,
         kind: 1,
         level: level,
         carried: NONE,
@@ -42,11 +42,11 @@ pub fn a_connect(to: u16, level: u16) -> Out
     }
 }
 
-pub fn an_initiate(to: u16, level: u16, identity: u16, find: u8) -> Out
-    ensures { λ r. ⌜ r ≡ outFor to (initiate level identity find) ⌝ }
+pub fn an_initiate(edge: u16, level: u16, identity: u16, find: u8) -> Packet
+    ensures { λ r. ⌜ r ≡ packetFor edge (initiate level identity find) ⌝ }
 {
-    Out {
-        to: to,
+    Packet {
+        edge: edge,
         kind: 2,
         level: level,
         carried: identity,
@@ -54,11 +54,11 @@ pub fn an_initiate(to: u16, level: u16, identity: u16, find: u8) -> Out
     }
 }
 
-pub fn a_test(to: u16, level: u16, identity: u16) -> Out
-    ensures { λ r. ⌜ r ≡ outFor to (test level identity) ⌝ }
+pub fn a_test(edge: u16, level: u16, identity: u16) -> Packet
+    ensures { λ r. ⌜ r ≡ packetFor edge (test level identity) ⌝ }
 {
-    Out {
-        to: to,
+    Packet {
+        edge: edge,
         kind: 3,
         level: level,
         carried: identity,
@@ -66,11 +66,11 @@ pub fn a_test(to: u16, level: u16, identity: u16) -> Out
     }
 }
 
-pub fn an_accept(to: u16) -> Out
-    ensures { λ r. ⌜ r ≡ outFor to accept ⌝ }
+pub fn an_accept(edge: u16) -> Packet
+    ensures { λ r. ⌜ r ≡ packetFor edge accept ⌝ }
 {
-    Out {
-        to: to,
+    Packet {
+        edge: edge,
         kind: 4,
         level: 0,
         carried: NONE,
@@ -78,11 +78,11 @@ pub fn an_accept(to: u16) -> Out
     }
 }
 
-pub fn a_reject(to: u16) -> Out
-    ensures { λ r. ⌜ r ≡ outFor to reject ⌝ }
+pub fn a_reject(edge: u16) -> Packet
+    ensures { λ r. ⌜ r ≡ packetFor edge reject ⌝ }
 {
-    Out {
-        to: to,
+    Packet {
+        edge: edge,
         kind: 5,
         level: 0,
         carried: NONE,
@@ -90,11 +90,11 @@ pub fn a_reject(to: u16) -> Out
     }
 }
 
-pub fn a_report(to: u16, weight: u16) -> Out
-    ensures { λ r. ⌜ r ≡ outFor to (report weight) ⌝ }
+pub fn a_report(edge: u16, weight: u16) -> Packet
+    ensures { λ r. ⌜ r ≡ packetFor edge (report weight) ⌝ }
 {
-    Out {
-        to: to,
+    Packet {
+        edge: edge,
         kind: 6,
         level: 0,
         carried: weight,
@@ -102,11 +102,11 @@ pub fn a_report(to: u16, weight: u16) -> Out
     }
 }
 
-pub fn a_change(to: u16) -> Out
-    ensures { λ r. ⌜ r ≡ outFor to change ⌝ }
+pub fn a_change(edge: u16) -> Packet
+    ensures { λ r. ⌜ r ≡ packetFor edge change ⌝ }
 {
-    Out {
-        to: to,
+    Packet {
+        edge: edge,
         kind: 7,
         level: 0,
         carried: NONE,
@@ -115,11 +115,11 @@ pub fn a_change(to: u16) -> Out
 }
 
 // Nothing done yet.
-pub fn begin(n: Node) -> Act
+pub fn begin(n: Node) -> Response
     ensures { λ r. ⌜ r ≡ begun n ⌝ }
 {
     let x = a_change(NONE);
-    Act {
+    Response {
         answer: 0,
         node: n,
         edge: NONE,
@@ -130,7 +130,7 @@ pub fn begin(n: Node) -> Act
     }
 }
 
-pub fn refuse(a: Act) -> Act
+pub fn refuse(a: Response) -> Response
     ensures { λ r. ⌜ ((m : ℕ → ℕ) (cs : List Send) → Does m cs refused a r) ⌝ }
 {
     let mut r = a;
@@ -138,7 +138,7 @@ pub fn refuse(a: Act) -> Act
     r
 }
 
-pub fn back(a: Act) -> Act
+pub fn back(a: Response) -> Response
     ensures { λ r. ⌜ ((m : ℕ → ℕ) (cs : List Send) → Does m cs putBack a r) ⌝ }
 {
     let mut r = a;
@@ -147,12 +147,12 @@ pub fn back(a: Act) -> Act
 }
 
 // One message more, behind those that are sent already.
-pub fn say(a: Act, x: Out) -> Act
-    requires { ⌜ a .second .to ≡ none ⌝ }
+pub fn say(a: Response, x: Packet) -> Response
+    requires { ⌜ a .second .edge ≡ none ⌝ }
     ensures { λ r. ⌜ ((m : ℕ → ℕ) (cs : List Send) → Says m cs x a r) ⌝ }
 {
     let mut r = a;
-    if a.first.to == NONE {
+    if a.first.edge == NONE {
         r.first = x;
         return r;
     }
@@ -161,8 +161,8 @@ pub fn say(a: Act, x: Out) -> Act
 }
 
 // Procedure report.
-pub fn do_report(a: Act) -> Act
-    requires { ⌜ a .second .to ≡ none ⌝ }
+pub fn do_report(a: Response) -> Response
+    requires { ⌜ a .second .edge ≡ none ⌝ }
     ensures { λ r. ⌜ ((m : ℕ → ℕ) (cs : List Send) → Does m cs doReport a r) ⌝ }
 {
     if a.node.count != 0 {
@@ -180,8 +180,8 @@ pub fn do_report(a: Act) -> Act
 }
 
 // Procedure test, for the earliest own edge k with mark Basic, or none.
-pub fn test_on(k: u16, a: Act) -> Act
-    requires { ⌜ a .second .to ≡ none ⌝ }
+pub fn test_on(k: u16, a: Response) -> Response
+    requires { ⌜ a .second .edge ≡ none ⌝ }
     ensures { λ r. ⌜ ((m : ℕ → ℕ) (cs : List Send) → Does m cs (testOn k) a r) ⌝ }
 {
     let mut b = a;
@@ -197,9 +197,9 @@ pub fn test_on(k: u16, a: Act) -> Act
 }
 
 // Procedure wakeup, for the earliest own edge k, or none. Nothing was done before it.
-pub fn wake_on(k: u16, a: Act) -> Act
-    requires { ⌜ (a .edge ≡ none) × (a .first .to ≡ none) × (a .second .to ≡ none) ⌝ }
-    ensures { λ r. ⌜ ((m : ℕ → ℕ) (cs : List Send) → Does m cs (wakeOn k) a r) × (r .second .to ≡ none) × (r .node .level ≡ 0) ⌝ }
+pub fn wake_on(k: u16, a: Response) -> Response
+    requires { ⌜ (a .edge ≡ none) × (a .first .edge ≡ none) × (a .second .edge ≡ none) ⌝ }
+    ensures { λ r. ⌜ ((m : ℕ → ℕ) (cs : List Send) → Does m cs (wakeOn k) a r) × (r .second .edge ≡ none) × (r .node .level ≡ 0) ⌝ }
 {
     let mut n = Node {
         status: 2,

@@ -1,5 +1,5 @@
 // The responses to Test, Accept, Reject and Report, worked out by value: v is the node, j the own edge that the message came by.
-use node_response::Act;
+use node_response::Response;
 use base::NONE;
 use node::Node;
 ghost use mathlib.Core.Path.{_≡_};
@@ -13,7 +13,7 @@ ghost use Rattle.plan.specs.Weights.{beforeIn};
 ghost use Rattle.node.specs.Work.{Send};
 ghost use Rattle.node.specs.Rules.{strike, onTest, onAccept, onReject, childReport, coreReport, onReport};
 ghost use Rattle.node_edges.specs.Own.{isOwn, ownIn, marksIn};
-ghost use Rattle.node_response.specs.Act.{Does};
+ghost use Rattle.node_response.specs.Response.{Does};
 ghost use Rattle.node_searching.specs.Laws.{bettered};
 
 // The mark of a rejected edge, x before: a branch stays a branch.
@@ -34,8 +34,8 @@ fn strike<'a>(
     marks: &'a [u8; 1200],
     v: u16,
     j: u16,
-    a: Act,
-) -> Act
+    a: Response,
+) -> Response
     requires { ⌜ (links ≤ 600) × (isOwn links (now lower) (now higher) v j ≡ true) × (a .edge ≡ none) ⌝ }
     ensures { λ r. ⌜ ((cs : List Send) → Does (marksIn links (now (lower .entry)) (now (higher .entry)) (now (marks .entry)) v) cs (strike j) a r) × (r .second ≡ a .second) ⌝ }
 {
@@ -58,9 +58,9 @@ pub fn on_test<'a>(
     l: u16,
     f: u16,
     j: u16,
-    a: Act,
-) -> Act
-    requires { ⌜ (links ≤ 600) × (isOwn links (now lower) (now higher) v j ≡ true) × (a .second .to ≡ none) × ((a .edge ≡ none) ⊎ (a .node .level ≡ 0)) × (0 < l) ⌝ }
+    a: Response,
+) -> Response
+    requires { ⌜ (links ≤ 600) × (isOwn links (now lower) (now higher) v j ≡ true) × (a .second .edge ≡ none) × ((a .edge ≡ none) ⊎ (a .node .level ≡ 0)) × (0 < l) ⌝ }
     ensures { λ r. ⌜ ((cs : List Send) → Does (marksIn links (now (lower .entry)) (now (higher .entry)) (now (marks .entry)) v) cs (onTest (ownIn links (now (lower .entry)) (now (higher .entry)) (now (near .entry)) (now (far .entry)) v) l f j) a r) ⌝ }
 {
     if a.node.level < l {
@@ -86,9 +86,9 @@ pub fn on_reject<'a>(
     marks: &'a [u8; 1200],
     v: u16,
     j: u16,
-    a: Act,
-) -> Act
-    requires { ⌜ (links ≤ 600) × (isOwn links (now lower) (now higher) v j ≡ true) × (a .second .to ≡ none) × (a .edge ≡ none) ⌝ }
+    a: Response,
+) -> Response
+    requires { ⌜ (links ≤ 600) × (isOwn links (now lower) (now higher) v j ≡ true) × (a .second .edge ≡ none) × (a .edge ≡ none) ⌝ }
     ensures { λ r. ⌜ ((cs : List Send) → Does (marksIn links (now (lower .entry)) (now (higher .entry)) (now (marks .entry)) v) cs (onReject (ownIn links (now (lower .entry)) (now (higher .entry)) (now (near .entry)) (now (far .entry)) v) j) a r) ⌝ }
 {
     node_joining::do_test(
@@ -118,8 +118,8 @@ fn better<'a>(near: &'a [u16; 600], far: &'a [u16; 600], j: u16, x: u16, n: Node
 }
 
 // Accept.
-pub fn on_accept<'a>(near: &'a [u16; 600], far: &'a [u16; 600], j: u16, a: Act) -> Act
-    requires { ⌜ (j < 600) × (a .second .to ≡ none) × ((a .node .weight < 600) ⊎ (a .node .weight ≡ none)) ⌝ }
+pub fn on_accept<'a>(near: &'a [u16; 600], far: &'a [u16; 600], j: u16, a: Response) -> Response
+    requires { ⌜ (j < 600) × (a .second .edge ≡ none) × ((a .node .weight < 600) ⊎ (a .node .weight ≡ none)) ⌝ }
     ensures { λ r. ⌜ ((links v : ℕ) (lower higher : List ℕ) (m : ℕ → ℕ) (cs : List Send) → Does m cs (onAccept (ownIn links lower higher (now (near .entry)) (now (far .entry)) v) j) a r) ⌝ }
 {
     let mut n = a.node;
@@ -131,8 +131,8 @@ pub fn on_accept<'a>(near: &'a [u16; 600], far: &'a [u16; 600], j: u16, a: Act) 
 }
 
 // Report(x) of a node below.
-fn child_report<'a>(near: &'a [u16; 600], far: &'a [u16; 600], x: u16, j: u16, a: Act) -> Act
-    requires { ⌜ ((x < 600) ⊎ (x ≡ none)) × (a .second .to ≡ none) × ((a .node .weight < 600) ⊎ (a .node .weight ≡ none)) ⌝ }
+fn child_report<'a>(near: &'a [u16; 600], far: &'a [u16; 600], x: u16, j: u16, a: Response) -> Response
+    requires { ⌜ ((x < 600) ⊎ (x ≡ none)) × (a .second .edge ≡ none) × ((a .node .weight < 600) ⊎ (a .node .weight ≡ none)) ⌝ }
     ensures { λ r. ⌜ ((links v : ℕ) (lower higher : List ℕ) (m : ℕ → ℕ) (cs : List Send) → Does m cs (childReport (ownIn links lower higher (now (near .entry)) (now (far .entry)) v) x j) a r) ⌝ }
 {
     if a.node.count == 0 {
@@ -157,9 +157,9 @@ fn core_report<'a>(
     marks: &'a [u8; 1200],
     v: u16,
     x: u16,
-    a: Act,
-) -> Act
-    requires { ⌜ (links ≤ 600) × (a .edge ≡ none) × (a .second .to ≡ none) × ((a .node .best ≡ none) ⊎ (isOwn links (now lower) (now higher) v (a .node .best) ≡ true))
+    a: Response,
+) -> Response
+    requires { ⌜ (links ≤ 600) × (a .edge ≡ none) × (a .second .edge ≡ none) × ((a .node .best ≡ none) ⊎ (isOwn links (now lower) (now higher) v (a .node .best) ≡ true))
         × ((x < 600) ⊎ (x ≡ none)) × ((a .node .weight < 600) ⊎ (a .node .weight ≡ none)) ⌝ }
     ensures { λ r. ⌜ ((cs : List Send) → Does (marksIn links (now (lower .entry)) (now (higher .entry)) (now (marks .entry)) v) cs (coreReport (ownIn links (now (lower .entry)) (now (higher .entry)) (now (near .entry)) (now (far .entry)) v) x) a r) ⌝ }
 {
@@ -188,9 +188,9 @@ pub fn on_report<'a>(
     v: u16,
     x: u16,
     j: u16,
-    a: Act,
-) -> Act
-    requires { ⌜ (links ≤ 600) × (a .edge ≡ none) × (a .second .to ≡ none) × ((a .node .best ≡ none) ⊎ (isOwn links (now lower) (now higher) v (a .node .best) ≡ true))
+    a: Response,
+) -> Response
+    requires { ⌜ (links ≤ 600) × (a .edge ≡ none) × (a .second .edge ≡ none) × ((a .node .best ≡ none) ⊎ (isOwn links (now lower) (now higher) v (a .node .best) ≡ true))
         × ((x < 600) ⊎ (x ≡ none)) × ((a .node .weight < 600) ⊎ (a .node .weight ≡ none)) ⌝ }
     ensures { λ r. ⌜ ((cs : List Send) → Does (marksIn links (now (lower .entry)) (now (higher .entry)) (now (marks .entry)) v) cs (onReport (ownIn links (now (lower .entry)) (now (higher .entry)) (now (near .entry)) (now (far .entry)) v) x j) a r) ⌝ }
 {

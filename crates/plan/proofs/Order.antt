@@ -2,16 +2,16 @@
 use Prim.Native.Nat.{ℕ}
 use mathlib.Core.Path.{_≡_, sym, _∙_}
 use mathlib.Core.Logic.{_≢_}
-use mathlib.Core.List.{List}
 use lib.Dec.{ltb}
+use Rattle.plan.specs.Links.{Plan}
 use Rattle.plan.specs.Keys.{key-same, key-other}
-use Rattle.plan.specs.Weights.{costIn, earlierIn}
+use Rattle.plan.specs.Weights.{cost, earlier}
 
-module _ (near far : List ℕ) (a b x y : ℕ) (p : x ≡ costIn near far a) (q : y ≡ costIn near far b) where
-  pub same-cost : x ≡ y → ltb a b ≡ earlierIn near far a b
-  unfolding earlierIn
-  same-cost e = sym (key-same (costIn near far) ltb a b (sym p ∙ e ∙ q))
+module _ (plan : Plan) (a b x y : ℕ) (p : x ≡ cost plan a) (q : y ≡ cost plan b) where
+  pub same-cost : x ≡ y → ltb a b ≡ earlier plan a b
+  unfolding earlier
+  same-cost e = sym (key-same (cost plan) ltb a b (sym p ∙ e ∙ q))
 
-  pub other-cost : x ≢ y → ltb x y ≡ earlierIn near far a b
-  unfolding earlierIn
-  other-cost d = rw (p, q) (sym (key-other (costIn near far) ltb a b (λ e. d (p ∙ e ∙ sym q))))
+  pub other-cost : x ≢ y → ltb x y ≡ earlier plan a b
+  unfolding earlier
+  other-cost d = rw (p, q) (sym (key-other (cost plan) ltb a b (λ e. d (p ∙ e ∙ sym q))))

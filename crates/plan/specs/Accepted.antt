@@ -5,32 +5,32 @@ use mathlib.Core.Path.{_≡_, refl, subst}
 use mathlib.Core.Bool.{Bool, true}
 use borrow.Author.Tests.{ltb-false, leb-false, le-ltb, lt-leb, eqb-false, ne-eqb, not-false}
 use Rattle.base.specs.Cond.{by-eq}
+use Rattle.base.specs.Limits.{maxModules, maxLinks, maxReading}
 use Rattle.base.specs.Refuse.{fine, fine-first, first-fine, or-false}
 use Rattle.graph.specs.Decide.{Connected, connected-ways, ways-connected}
-use Rattle.plan.specs.declared.Plan.{Plan}
-use Rattle.plan.specs.Links.{low, high, readLow, readHigh, graphOf}
+use Rattle.plan.specs.Links.{Plan, modulesOf, linksOf, lowerOf, higherOf, nearOf, farOf, graphOf}
 use Rattle.plan.specs.Refusal.{countsRefusal, inOrder, linkVerdict, linkRefusal, linksRefusal, planRefusal}
 
 -- link k is as document 01 says
 pub record LinkOk (p : Plan) (k : ℕ) : Type 0 where
-  pub ordered : low p k < high p k
-  pub inside : high p k < p .modules
-  pub after : inOrder (p .lower) (p .higher) k ≡ true
-  pub nearOk : readLow p k ≤ 2000
-  pub farOk : readHigh p k ≤ 2000
+  pub ordered : lowerOf p k < higherOf p k
+  pub inside : higherOf p k < modulesOf p
+  pub after : inOrder p k ≡ true
+  pub nearOk : nearOf p k ≤ maxReading
+  pub farOk : farOf p k ≤ maxReading
 
 pub record Accepted (p : Plan) : Type 0 where
-  pub someone : 1 ≤ p .modules
-  pub modulesOk : p .modules ≤ 192
-  pub linksOk : p .links ≤ 600
-  pub each : (k : ℕ) → k < p .links → LinkOk p k
-  pub whole : Connected (graphOf p) (p .modules)
+  pub someone : 1 ≤ modulesOf p
+  pub modulesOk : modulesOf p ≤ maxModules
+  pub linksOk : linksOf p ≤ maxLinks
+  pub each : (k : ℕ) → k < linksOf p → LinkOk p k
+  pub whole : Connected (graphOf p) (modulesOf p)
 
 -- N and L within their limits
 pub record Counts (n l : ℕ) : Type 0 where
   pub someone : 1 ≤ n
-  pub modulesOk : n ≤ 192
-  pub linksOk : l ≤ 600
+  pub modulesOk : n ≤ maxModules
+  pub linksOk : l ≤ maxLinks
 
 pub counted : (n l : ℕ) (fits : Bool) → countsRefusal n l fits ≡ 0 → Counts n l × (fits ≡ true)
 counted n l fits h =
@@ -44,7 +44,7 @@ counted n l fits h =
     nonzero d = omega arith
 
 pub counted-back : (n l : ℕ) → Counts n l → countsRefusal n l true ≡ 0
-counted-back n l o = rw (ne-eqb n 0 nobody, le-ltb 192 n (o .modulesOk), le-ltb 600 l (o .linksOk))
+counted-back n l o = rw (ne-eqb n 0 nobody, le-ltb maxModules n (o .modulesOk), le-ltb maxLinks l (o .linksOk))
   where
     nobody : n ≡ 0 → ⊥
     nobody e = omega (arith, o .someone)
@@ -69,11 +69,11 @@ module _ (p : Plan) where
   pub accepted-link : (k : ℕ) → LinkOk p k → linkRefusal p k ≡ 0
   unfolding linkVerdict
   accepted-link k o = rw (
-    lt-leb (high p k) (low p k) (o .ordered),
-    lt-leb (p .modules) (high p k) (o .inside),
+    lt-leb (higherOf p k) (lowerOf p k) (o .ordered),
+    lt-leb (modulesOf p) (higherOf p k) (o .inside),
     o .after,
-    le-ltb 2000 (readLow p k) (o .nearOk),
-    le-ltb 2000 (readHigh p k) (o .farOk),
+    le-ltb maxReading (nearOf p k) (o .nearOk),
+    le-ltb maxReading (farOf p k) (o .farOk),
   )
 
   pub links-accepted : (n k : ℕ) → linksRefusal p n k ≡ 0 → (j : ℕ) → k ≤ j → j < k + n → linkRefusal p j ≡ 0
@@ -92,14 +92,14 @@ module _ (p : Plan) where
   unfolding planRefusal
   accepted h =
       let f = fine-first _ h in
-      let o = counted (p .modules) (p .links) true (f .0) .0 in
+      let o = counted (modulesOf p) (linksOf p) true (f .0) .0 in
       let fl = fine-first _ (f .1) in
       let f19 = fine _ 18 (fl .1) in
       record {
         someone = o .someone;
         modulesOk = o .modulesOk;
         linksOk = o .linksOk;
-        each = λ k l. link-accepted k (links-accepted (p .links) 0 (fl .0) k (omega arith) (omega arith));
+        each = λ k l. link-accepted k (links-accepted (linksOf p) 0 (fl .0) k (omega arith) (omega arith));
         whole = connected-ways _ _ (not-false _ (f19 .0));
       }
 
@@ -107,5 +107,5 @@ module _ (p : Plan) where
   pub accepted-back : Accepted p → planRefusal p ≡ 0
   unfolding planRefusal
   accepted-back a =
-      first-fine (counted-back (p .modules) (p .links) (record { someone = a .someone; modulesOk = a .modulesOk; linksOk = a .linksOk }))
-      (first-fine (accepted-links (p .links) 0 (λ j l m. accepted-link j (a .each j (omega arith)))) (rw (ways-connected (graphOf p) (p .modules) (a .whole))))
+      first-fine (counted-back (modulesOf p) (linksOf p) (record { someone = a .someone; modulesOk = a .modulesOk; linksOk = a .linksOk }))
+      (first-fine (accepted-links (linksOf p) 0 (λ j l m. accepted-link j (a .each j (omega arith)))) (rw (ways-connected (graphOf p) (modulesOf p) (a .whole))))

@@ -5,14 +5,15 @@ use mathlib.Core.Path.{_≡_}
 use Rattle.base.specs.Log.{log2, log2-lt}
 pub use Rattle.base.specs.Ceiling.{ceiling}
 use Rattle.base.specs.Ceiling.{ceiling-most}
-use Rattle.plan.specs.declared.Plan.{Plan}
+use Rattle.base.specs.Limits.{maxWords}
+use Rattle.plan.specs.Links.{Plan, modulesOf, linksOf}
 use Rattle.plan.specs.Refusal.{planRefusal}
 use Rattle.plan.specs.Accepted.{Accepted, accepted}
 
 -- an accepted plan's levels fit three bits
-pub level-small : (p : Plan) → Accepted p → log2 (p .modules) < 8
-level-small p a = log2-lt 8 (p .modules) (omega arith) (omega (arith, a .modulesOk))
+pub level-small : (p : Plan) → Accepted p → log2 (modulesOf p) < 8
+level-small p a = log2-lt 8 (modulesOf p) (omega arith) (omega (arith, a .modulesOk))
 
 -- the ceiling of the largest plan
-pub ceiling-small : (p : Plan) → planRefusal p ≡ 0 → ceiling (p .modules) (p .links) ≤ 7920
-ceiling-small p a = let k = accepted p a in ceiling-most (p .modules) (p .links) (k .modulesOk) (k .linksOk)
+pub ceiling-small : (p : Plan) → planRefusal p ≡ 0 → ceiling (modulesOf p) (linksOf p) ≤ maxWords
+ceiling-small p a = let k = accepted p a in ceiling-most (modulesOf p) (linksOf p) (k .modulesOk) (k .linksOk)

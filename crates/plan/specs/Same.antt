@@ -4,26 +4,25 @@ use native.Mathlib.Omega.{arith}
 use mathlib.Core.Path.{_≡_, refl, sym, _∙_}
 use Rattle.graph.specs.Graph.{Joins, up, down, Way, stop, go}
 use Rattle.graph.specs.Ways.{Any}
-use Rattle.plan.specs.declared.Plan.{Plan}
-use Rattle.plan.specs.Links.{low, high, readLow, readHigh, graphOf}
+use Rattle.plan.specs.Links.{Plan, modulesOf, linksOf, lowerOf, higherOf, nearOf, farOf, graphOf}
 use Rattle.plan.specs.Refusal.{inOrder, planRefusal}
 use Rattle.plan.specs.Accepted.{Accepted, LinkOk, accepted, accepted-back}
 
 pub record Same (p q : Plan) : Type 0 where
-  pub modules : p .modules ≡ q .modules
-  pub links : p .links ≡ q .links
-  pub lows : (k : ℕ) → k < p .links → low p k ≡ low q k
-  pub highs : (k : ℕ) → k < p .links → high p k ≡ high q k
-  pub nears : (k : ℕ) → k < p .links → readLow p k ≡ readLow q k
-  pub fars : (k : ℕ) → k < p .links → readHigh p k ≡ readHigh q k
+  pub modules : modulesOf p ≡ modulesOf q
+  pub links : linksOf p ≡ linksOf q
+  pub lows : (k : ℕ) → k < linksOf p → lowerOf p k ≡ lowerOf q k
+  pub highs : (k : ℕ) → k < linksOf p → higherOf p k ≡ higherOf q k
+  pub nears : (k : ℕ) → k < linksOf p → nearOf p k ≡ nearOf q k
+  pub fars : (k : ℕ) → k < linksOf p → farOf p k ≡ farOf q k
 
 module _ {p q : Plan} (e : Same p q) where
-  same-order : (k : ℕ) → k < p .links → inOrder (p .lower) (p .higher) k ≡ inOrder (q .lower) (q .higher) k
+  same-order : (k : ℕ) → k < linksOf p → inOrder p k ≡ inOrder q k
   unfolding inOrder
   same-order zero l = refl
   same-order (suc k) l = rw (e .lows k (omega arith), e .highs k (omega arith), e .lows (suc k) l, e .highs (suc k) l)
 
-  same-link : (k : ℕ) → k < p .links → LinkOk p k → LinkOk q k
+  same-link : (k : ℕ) → k < linksOf p → LinkOk p k → LinkOk q k
   same-link k l o =
       let a = e .lows k l in
       let b = e .highs k l in
@@ -48,7 +47,7 @@ module _ {p q : Plan} (e : Same p q) where
     someone = omega (arith, a .someone, e .modules);
     modulesOk = omega (arith, a .modulesOk, e .modules);
     linksOk = omega (arith, a .linksOk, e .links);
-    each = λ k l. let m : k < p .links = omega (arith, e .links) in same-link k m (a .each k m);
+    each = λ k l. let m : k < linksOf p = omega (arith, e .links) in same-link k m (a .each k m);
     whole = λ u v lu lv. same-way (a .whole u v (omega (arith, e .modules)) (omega (arith, e .modules)));
   }
 

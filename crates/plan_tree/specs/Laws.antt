@@ -30,27 +30,27 @@ module _ (p : Plan) (out : List ℕ) where
   unfolding treeRefusal
   refused-plan n = answers-refused (planRefusal p) out (treeBytes p) n ∙ answers (planRefusal p) (rw (eqb-diff (planRefusal p) 0 n))
 
-  pub refused-size : planRefusal p ≡ 0 → length out ≢ p .links → record { answer = 20; state = out } ≡ centralTree p out
+  pub refused-size : planRefusal p ≡ 0 → length out ≢ linksOf p → record { answer = 20; state = out } ≡ centralTree p out
   unfolding treeRefusal
-  refused-size z n = answers 20 (rw (z, eqb-diff (length out) (p .links) n))
+  refused-size z n = answers 20 (rw (z, eqb-diff (length out) (linksOf p) n))
 
-  pub built : planRefusal p ≡ 0 → length out ≡ p .links → record { answer = 0; state = treeBytes p } ≡ centralTree p out
+  pub built : planRefusal p ≡ 0 → length out ≡ linksOf p → record { answer = 0; state = treeBytes p } ≡ centralTree p out
   unfolding treeRefusal
-  built z e = answers 0 (rw (z, e, eqb-same (p .links)))
+  built z e = answers 0 (rw (z, e, eqb-same (linksOf p)))
 
   -- what an answer of 0 tells
-  pub answered : centralTree p out .answer ≡ 0 → (planRefusal p ≡ 0) × (length out ≡ p .links)
+  pub answered : centralTree p out .answer ≡ 0 → (planRefusal p ≡ 0) × (length out ≡ linksOf p)
   answered e = by-eq (planRefusal p) 0
-      (λ z. by-eq (length out) (p .links) (λ l. (z, l)) (λ n. absurd (omega (arith, ap (λ b. b .answer) (refused-size z n)))))
+      (λ z. by-eq (length out) (linksOf p) (λ l. (z, l)) (λ n. absurd (omega (arith, ap (λ b. b .answer) (refused-size z n)))))
       (λ n. absurd (n (ap (λ b. b .answer) (refused-plan n) ∙ e)))
 
   pub answered-bytes : centralTree p out .answer ≡ 0 → centralTree p out .state ≡ treeBytes p
   answered-bytes e = let a = answered e in sym (ap (λ b. b .state) (built (a .0) (a .1)))
 
 -- bytes that mark the tree edges are the tree's bytes
-pub exact-bytes : (p : Plan) (s : List ℕ) → length s ≡ p .links → Exact (graphOf p) (earlier p) (at s) → s ≡ treeBytes p
+pub exact-bytes : (p : Plan) (s : List ℕ) → length s ≡ linksOf p → Exact (graphOf p) (earlier p) (at s) → s ≡ treeBytes p
 unfolding treeBytes
-exact-bytes p s e x = tabulated (p .links) (λ k. bit (treeLink p k)) s e (λ k l. bool-cases (treeLink p k)
+exact-bytes p s e x = tabulated (linksOf p) (λ k. bit (treeLink p k)) s e (λ k l. bool-cases (treeLink p k)
     (λ t. rw t (x.all k l (inTree-tree (graphOf p) (earlier p) k t)))
     (λ f. rw f (by-eq (at s k) 1 (λ q. absurd (true≢false (sym (tree-inTree (graphOf p) (earlier p) k (x.tree k l q)) ∙ f))) (λ n. omega (arith, x.byte k l)))))
 

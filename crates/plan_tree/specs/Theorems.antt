@@ -34,53 +34,53 @@ module _ (p : Plan) (out : List ℕ) (taken : centralTree p out .answer ≡ 0) w
   marked k = eqb (byte k) 1
 
   -- L bytes
-  pub written-length : length (centralTree p out .state) ≡ p .links
+  pub written-length : length (centralTree p out .state) ≡ linksOf p
   unfolding treeBytes
-  written-length = rw (answered-bytes p out taken) (length-tabulate (p .links) (λ k. bit (treeLink p k)))
+  written-length = rw (answered-bytes p out taken) (length-tabulate (linksOf p) (λ k. bit (treeLink p k)))
 
-  written-byte : (k : ℕ) → k < p .links → byte k ≡ bit (treeLink p k)
+  written-byte : (k : ℕ) → k < linksOf p → byte k ≡ bit (treeLink p k)
   unfolding treeBytes
-  written-byte k l = rw (answered-bytes p out taken) (getD-tabulate (p .links) (λ j. bit (treeLink p j)) k l)
+  written-byte k l = rw (answered-bytes p out taken) (getD-tabulate (linksOf p) (λ j. bit (treeLink p j)) k l)
 
-  written-marked : (k : ℕ) → k < p .links → marked k ≡ treeLink p k
+  written-marked : (k : ℕ) → k < linksOf p → marked k ≡ treeLink p k
   written-marked k l = rw (written-byte k l) (bool-cases (treeLink p k) (λ t. rw t) (λ f. rw f))
 
   -- 1 FOR A TREE LINK, 0 otherwise: by the path rule
-  pub written-tree : (k : ℕ) → k < p .links → InTree (graphOf p) (earlier p) k → byte k ≡ 1
+  pub written-tree : (k : ℕ) → k < linksOf p → InTree (graphOf p) (earlier p) k → byte k ≡ 1
   written-tree k l t = written-byte k l ∙ rw (tree-inTree (graphOf p) (earlier p) k t)
 
-  pub tree-written : (k : ℕ) → k < p .links → byte k ≡ 1 → InTree (graphOf p) (earlier p) k
+  pub tree-written : (k : ℕ) → k < linksOf p → byte k ≡ 1 → InTree (graphOf p) (earlier p) k
   tree-written k l e = inTree-tree (graphOf p) (earlier p) k (bool-cases (treeLink p k) (λ t. t) (λ f. absurd (omega (arith, written-byte k l, ap bit f))))
 
-  pub written-other : (k : ℕ) → k < p .links → ¬ InTree (graphOf p) (earlier p) k → byte k ≡ 0
+  pub written-other : (k : ℕ) → k < linksOf p → ¬ InTree (graphOf p) (earlier p) k → byte k ≡ 0
   written-other k l n = written-byte k l ∙ bool-cases (treeLink p k) (λ t. absurd (n (inTree-tree (graphOf p) (earlier p) k t))) (λ f. rw f)
 
   -- SPANNING: the marked links join whatever links join; so, the plan being connected, all modules
   pub written-joins : {S : ℕ → Type 0} {u v : ℕ} → Way (graphOf p) S u v → Way (graphOf p) (λ k. byte k ≡ 1) u v
   written-joins w = wider written-tree (spans (graphOf p) (orderOf p) w)
 
-  pub written-spans : (u v : ℕ) → u < p .modules → v < p .modules → Way (graphOf p) (λ k. byte k ≡ 1) u v
+  pub written-spans : (u v : ℕ) → u < modulesOf p → v < modulesOf p → Way (graphOf p) (λ k. byte k ≡ 1) u v
   written-spans u v lu lv = written-joins (accepted p (answered p out taken .0) .whole u v lu lv)
 
   -- NO CYCLE: without one of them the others do not join its ends
-  pub written-acyclic : (k : ℕ) → k < p .links → byte k ≡ 1 → ¬ Way (graphOf p) (But (λ j. byte j ≡ 1) k) (low p k) (high p k)
+  pub written-acyclic : (k : ℕ) → k < linksOf p → byte k ≡ 1 → ¬ Way (graphOf p) (But (λ j. byte j ≡ 1) k) (lowerOf p k) (higherOf p k)
   written-acyclic k l e w = spare (graphOf p) (orderOf p) k l (tree-written k l e) (wider (λ j lj m. (tree-written j lj (m .0), m .1)) w)
 
   -- LEAST TOTAL COST
   written-total : total (graphOf p) (cost p) marked ≡ total (graphOf p) (cost p) (treeLink p)
   unfolding total
-  written-total = sum-eq (p .links) _ _ (λ k l. rw (written-marked k l))
+  written-total = sum-eq (linksOf p) _ _ (λ k l. rw (written-marked k l))
 
   -- among the sets that join what the links join
   pub written-least-parts : (s : ℕ → Bool) → Spanning (graphOf p) s → total (graphOf p) (cost p) marked ≤ total (graphOf p) (cost p) s
   written-least-parts s sp = rw written-total (tree-least (graphOf p) (orderOf p) (cost p) (earlier-cost p) s sp)
 
   -- "no set of links joining all modules has a smaller total cost"
-  pub written-least : (s : ℕ → Bool) → ((u v : ℕ) → u < p .modules → v < p .modules → Way (graphOf p) (Set s) u v)
+  pub written-least : (s : ℕ → Bool) → ((u v : ℕ) → u < modulesOf p → v < modulesOf p → Way (graphOf p) (Set s) u v)
       → total (graphOf p) (cost p) marked ≤ total (graphOf p) (cost p) s
   written-least s all =
       let a = accepted p (answered p out taken .0) in
-      rw written-total (tree-least-all (graphOf p) (orderOf p) (cost p) (earlier-cost p) (p .modules)
+      rw written-total (tree-least-all (graphOf p) (orderOf p) (cost p) (earlier-cost p) (modulesOf p)
       (λ k l. let o = a.each k l in (omega (arith, o.ordered, o.inside), o.inside)) s all)
 
 -- a refused call alters no byte

@@ -22,12 +22,12 @@ treeLink p k = inTree (graphOf p) (earlier p) k
 -- "The central builder writes L bytes, 1 for a tree link and 0 otherwise."
 unfoldable pub treeBytes : Plan → List ℕ
 unfolding tabulate inTree
-treeBytes p = tabulate (p .links) (λ k. bit (treeLink p k))
+treeBytes p = tabulate (linksOf p) (λ k. bit (treeLink p k))
 
 -- the plan's refusals 14 to 19, then "20 tree buffer not L bytes"
 unfoldable pub treeRefusal : Plan → List ℕ → ℕ
 unfolding planRefusal
-treeRefusal p out = first (planRefusal p) (orElse (not (eqb (length out) (p .links))) 20 0)
+treeRefusal p out = first (planRefusal p) (orElse (not (eqb (length out) (linksOf p))) 20 0)
 
 -- the answer, and what the lent buffer holds then: a refused call alters no byte
 unfoldable pub centralTree : Plan → List ℕ → After (List ℕ)

@@ -36,9 +36,9 @@ use Rattle.program_report.specs.Reported.{reported, settled-shown, plan-
 use Rattle.program_report.specs.Tree.{treeLines, Marked, lines-tree, total-tree, coreLine, core-two}
 
 -- the mark of a link's lower module stands at 2 × k
-lower-mark : (p : Plan) (s : State) (k : ℕ) → k < p .links → markAt p s (low p k) k ≡ getD (s .marks) (2 * k) 0
+lower-mark : (p : Plan) (s : State) (k : ℕ) → k < linksOf p → markAt p s (lowerOf p k) k ≡ getD (s .marks) (2 * k) 0
 unfolding marksIn isOwn endIn
-lower-mark p s k l = rw (lt-ltb k (p .links) l, eqb-same (low p k)) refl
+lower-mark p s k l = rw (lt-ltb k (linksOf p) l, eqb-same (lowerOf p k)) refl
 
 module _ (s : List ℕ) (z : readPlan s .refusal ≡ 0) where
   abbrev p : Plan
@@ -67,22 +67,22 @@ module _ (s : List ℕ) (z : readPlan s .refusal ≡ 0) where
       ap (λ (r : Ran Held). r .state .field .plan) (settled-is p lent set) ∙ after-plan calls (setUp p lent .state) live ∙ ap (λ (h : Held). h .field .plan) (q .is)
 
   -- the lower end of a link marks it 1 where the tree has it, 2 elsewhere
-  marked : Marked p (ran .state .field .marks) (p .links)
+  marked : Marked p (ran .state .field .marks) (linksOf p)
   marked k l = bool-cases (treeLink p k)
       (λ t. rw t (ap (λ m. eqb m 1) (own-mark ∙ outcome p lent set .agreed .tree k l (inTree-tree (graphOf p) (earlier p) k t) .lower)))
       (λ f. rw f (ap (λ m. eqb m 1) (own-mark ∙ outcome p lent set .agreed .others k l (λ t. true≢false (sym (tree-inTree (graphOf p) (earlier p) k t) ∙ f)) .lower)))
     where
-      own-mark : getD (ran .state .field .marks) (2 * k) 0 ≡ markAt p (stateOf (ran .state)) (low p k) k
+      own-mark : getD (ran .state .field .marks) (2 * k) 0 ≡ markAt p (stateOf (ran .state)) (lowerOf p k) k
       own-mark = sym (lower-mark p (stateOf (ran .state)) k l)
 
   -- the core line of two modules or more: the ends of one tree link
   pub record CoreNamed (core : List ℕ) : Type 0 where
     pub link : ℕ
-    pub within : link < p .links
+    pub within : link < linksOf p
     pub tree : TreeLink p link
-    pub named : core ≡ coreLine (low p link) (high p link)
+    pub named : core ≡ coreLine (lowerOf p link) (higherOf p link)
 
-  core-named : 2 ≤ p .modules → CoreNamed (coreText (p .modules) (ran .state .field .cells))
+  core-named : 2 ≤ modulesOf p → CoreNamed (coreText (modulesOf p) (ran .state .field .cells))
   core-named m =
       let c = outcome p lent set .agreed .core m in
       let cells = ran .state .field .cells in
@@ -91,9 +91,9 @@ module _ (s : List ℕ) (z : readPlan s .refusal ≡ 0) where
         link = c .link;
         within = c .within;
         tree = c .tree;
-        named = core-two cells (low p (c .link)) (high p (c .link)) (p .modules) (o .ordered) (o .inside)
-            (c .halted (low p (c .link)) (omega (arith, o .ordered, o .inside)) .1 (inl refl))
-            (c .halted (high p (c .link)) (o .inside) .1 (inr refl))
+        named = core-two cells (lowerOf p (c .link)) (higherOf p (c .link)) (modulesOf p) (o .ordered) (o .inside)
+            (c .halted (lowerOf p (c .link)) (omega (arith, o .ordered, o .inside)) .1 (inl refl))
+            (c .halted (higherOf p (c .link)) (o .inside) .1 (inr refl))
             (λ v l a b e. ⊎-elim a b (c .halted v l .0 e))
             (acc .modulesOk);
       }
@@ -105,21 +105,21 @@ module _ (s : List ℕ) (z : readPlan s .refusal ≡ 0) where
   pub record Says : Type 0 where
     pub core : List ℕ
     pub says : reported s
-        ≡ headText (p .modules) (p .links) ++ treeLines p (p .links) ++ line "total " (total (graphOf p) (cost p) (treeLink p)) ++ core
+        ≡ headText (modulesOf p) (linksOf p) ++ treeLines p (linksOf p) ++ line "total " (total (graphOf p) (cost p) (treeLink p)) ++ core
         ++ tailText (ran .state .field .sent) (ceilingOf p) (ran .done)
-    pub alone : p .modules ≡ 1 → core ≡ ascii "core none\n"
-    pub others : 2 ≤ p .modules → CoreNamed core
+    pub alone : modulesOf p ≡ 1 → core ≡ ascii "core none\n"
+    pub others : 2 ≤ modulesOf p → CoreNamed core
     pub within : ran .state .field .sent ≤ ceilingOf p
-    pub soon : ran .done ≤ ceilingOf p + p .modules
+    pub soon : ran .done ≤ ceilingOf p + modulesOf p
 
   pub report-says : Says
   unfolding total
   report-says = record {
-    core = coreText (p .modules) (ran .state .field .cells);
+    core = coreText (modulesOf p) (ran .state .field .cells);
     says = never-refused
         ∙ report-of (ran .state .field) (ran .done) p own-plan (accepted p (read-taken s (readPlan s) refl z) .linksOk)
-        (lines-tree p _ (p .links) marked) (total-tree p _ (p .links) marked) refl;
-    alone = λ e. core-none (p .modules) _ (omega arith);
+        (lines-tree p _ (linksOf p) marked) (total-tree p _ (linksOf p) marked) refl;
+    alone = λ e. core-none (modulesOf p) _ (omega arith);
     others = core-named;
     within = outcome p lent set .ceiling;
     soon = outcome p lent set .settles .within;

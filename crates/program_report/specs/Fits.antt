@@ -35,8 +35,8 @@ branches-length : (p : Plan) (marks : List ℕ) (k : ℕ) → length (branchLine
 unfolding branchLines
 branches-length p marks zero = omega arith
 branches-length p marks (suc k) =
-    rw (length-append (branchLines p marks k) (branchText (getD marks (2 * k) 0) (getD (p .lower) k 0) (getD (p .higher) k 0) (cost p k)))
-    (omega (arith, branches-length p marks k, branch-length (getD marks (2 * k) 0) (getD (p .lower) k 0) (getD (p .higher) k 0) (cost p k)))
+    rw (length-append (branchLines p marks k) (branchText (getD marks (2 * k) 0) (lowerOf p k) (higherOf p k) (cost p k)))
+    (omega (arith, branches-length p marks k, branch-length (getD marks (2 * k) 0) (lowerOf p k) (higherOf p k) (cost p k)))
 
 end-length : (halted v : ℕ) → length (endText halted v) ≤ 21
 unfolding endText
@@ -72,16 +72,16 @@ pub report-length : (f : Field) (rounds : ℕ) → length (reportText f rounds) 
 unfolding reportText
 report-length f rounds =
     let p = f .plan in
-    let h = headText (p .modules) (p .links) in
-    let b = branchLines p (f .marks) (min (p .links) 600) in
-    let sum = total p (f .marks) (min (p .links) 600) in
-    let k = coreText (p .modules) (f .cells) in
-    let t = tailText (f .sent) (ceiling (p .modules) (p .links)) rounds in
+    let h = headText (modulesOf p) (linksOf p) in
+    let b = branchLines p (f .marks) (min (linksOf p) 600) in
+    let sum = total p (f .marks) (min (linksOf p) 600) in
+    let k = coreText (modulesOf p) (f .cells) in
+    let t = tailText (f .sent) (ceiling (modulesOf p) (linksOf p)) rounds in
     both (h ++ b ++ line "total " sum ++ k) t
     (both (h ++ b ++ line "total " sum) k
-    (both (h ++ b) (line "total " sum) (both h b (head-length (p .modules) (p .links)) (lines-length p (f .marks) (p .links))) (line-length "total " sum))
-    (core-length (p .modules) (f .cells)))
-    (tail-length (f .sent) (ceiling (p .modules) (p .links)) rounds)
+    (both (h ++ b) (line "total " sum) (both h b (head-length (modulesOf p) (linksOf p)) (lines-length p (f .marks) (linksOf p))) (line-length "total " sum))
+    (core-length (modulesOf p) (f .cells)))
+    (tail-length (f .sent) (ceiling (modulesOf p) (linksOf p)) rounds)
 
 refused-length : (number : ℕ) → length (refusedText number) ≤ 46202
 refused-length number = omega (arith, line-length "refused " number)

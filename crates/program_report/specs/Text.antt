@@ -34,7 +34,7 @@ branchText mark lower higher c = cond (eqb mark 1) (branchLine lower higher c) [
 unfoldable pub branchLines : Plan → List ℕ → ℕ → List ℕ
 branchLines p marks zero = []
 branchLines p marks (suc k) =
-    branchLines p marks k ++ branchText (getD marks (2 * k) 0) (getD (p .lower) k 0) (getD (p .higher) k 0) (cost p k)
+    branchLines p marks k ++ branchText (getD marks (2 * k) 0) (lowerOf p k) (higherOf p k) (cost p k)
 
 -- "core names the halted ends": of the modules below v, by number
 unfoldable pub endText : ℕ → ℕ → List ℕ
@@ -55,35 +55,35 @@ tailText sent most rounds = named "messages " sent ++ line " of " most ++ line "
 -- The whole. (An accepted plan has no more than 600 links and 192 modules, and a field has room for no more.)
 unfoldable pub reportText : Field → ℕ → List ℕ
 reportText f rounds =
-    headText (f .plan .modules) (f .plan .links)
-    ++ branchLines (f .plan) (f .marks) (min (f .plan .links) 600)
-    ++ line "total " (total (f .plan) (f .marks) (min (f .plan .links) 600))
-    ++ coreText (f .plan .modules) (f .cells)
-    ++ tailText (f .sent) (ceiling (f .plan .modules) (f .plan .links)) rounds
+    headText (modulesOf (f .plan)) (linksOf (f .plan))
+    ++ branchLines (f .plan) (f .marks) (min (linksOf (f .plan)) 600)
+    ++ line "total " (total (f .plan) (f .marks) (min (linksOf (f .plan)) 600))
+    ++ coreText (modulesOf (f .plan)) (f .cells)
+    ++ tailText (f .sent) (ceiling (modulesOf (f .plan)) (linksOf (f .plan))) rounds
 
 -- its five parts, each put on what the part before left
 pub report-parts : (f : Field) (rounds : ℕ) (p : Page) {q₁ q₂ q₃ q₄ q₅ : Page}
-    → q₁ ≡ put p (headText (f .plan .modules) (f .plan .links))
-    → q₂ ≡ put q₁ (branchLines (f .plan) (f .marks) (min (f .plan .links) 600))
-    → q₃ ≡ put q₂ (line "total " (total (f .plan) (f .marks) (min (f .plan .links) 600)))
-    → q₄ ≡ put q₃ (coreText (f .plan .modules) (f .cells))
-    → q₅ ≡ put q₄ (tailText (f .sent) (ceiling (f .plan .modules) (f .plan .links)) rounds)
+    → q₁ ≡ put p (headText (modulesOf (f .plan)) (linksOf (f .plan)))
+    → q₂ ≡ put q₁ (branchLines (f .plan) (f .marks) (min (linksOf (f .plan)) 600))
+    → q₃ ≡ put q₂ (line "total " (total (f .plan) (f .marks) (min (linksOf (f .plan)) 600)))
+    → q₄ ≡ put q₃ (coreText (modulesOf (f .plan)) (f .cells))
+    → q₅ ≡ put q₄ (tailText (f .sent) (ceiling (modulesOf (f .plan)) (linksOf (f .plan))) rounds)
     → q₅ ≡ put p (reportText f rounds)
 unfolding reportText
 report-parts f rounds p e₁ e₂ e₃ e₄ e₅ =
-    let h = headText (f .plan .modules) (f .plan .links) in
-    let b = branchLines (f .plan) (f .marks) (min (f .plan .links) 600) in
-    let t = line "total " (total (f .plan) (f .marks) (min (f .plan .links) 600)) in
-    let k = coreText (f .plan .modules) (f .cells) in
+    let h = headText (modulesOf (f .plan)) (linksOf (f .plan)) in
+    let b = branchLines (f .plan) (f .marks) (min (linksOf (f .plan)) 600) in
+    let t = line "total " (total (f .plan) (f .marks) (min (linksOf (f .plan)) 600)) in
+    let k = coreText (modulesOf (f .plan)) (f .cells) in
     put-on p (h ++ b ++ t ++ k) _ (put-on p (h ++ b ++ t) k (put-on p (h ++ b) t (put-on p h b e₁ e₂) e₃) e₄) e₅
 
 -- the same of a plan that a field has room for, each part as it is known to be
-pub report-of : (f : Field) (rounds : ℕ) (p : Plan) → f .plan ≡ p → p .links ≤ 600 → {b k : List ℕ} {t : ℕ}
-    → branchLines p (f .marks) (p .links) ≡ b → total p (f .marks) (p .links) ≡ t → coreText (p .modules) (f .cells) ≡ k
+pub report-of : (f : Field) (rounds : ℕ) (p : Plan) → f .plan ≡ p → linksOf p ≤ 600 → {b k : List ℕ} {t : ℕ}
+    → branchLines p (f .marks) (linksOf p) ≡ b → total p (f .marks) (linksOf p) ≡ t → coreText (modulesOf p) (f .cells) ≡ k
     → reportText f rounds
-    ≡ headText (p .modules) (p .links) ++ b ++ line "total " t ++ k ++ tailText (f .sent) (ceiling (p .modules) (p .links)) rounds
+    ≡ headText (modulesOf p) (linksOf p) ++ b ++ line "total " t ++ k ++ tailText (f .sent) (ceiling (modulesOf p) (linksOf p)) rounds
 unfolding reportText
-report-of f rounds p e l eb et ek = let all : min (p .links) 600 ≡ p .links = omega arith in rw (e, all, eb, et, ek) refl
+report-of f rounds p e l eb et ek = let all : min (linksOf p) 600 ≡ linksOf p = omega arith in rw (e, all, eb, et, ek) refl
 
 -- For code: which line, one turn more.
 module _ (mark lower higher c : ℕ) where
@@ -117,8 +117,8 @@ pub lines-none : (p : Plan) (marks : List ℕ) → branchLines p marks 0 ≡ []
 unfolding branchLines
 lines-none p marks = refl
 
-pub lines-turn : (p : Plan) (marks : List ℕ) (k c : ℕ) → c ≡ costOf (getD (p .near) k 0) (getD (p .far) k 0)
-    → branchLines p marks k ++ branchText (getD marks (2 * k) 0) (getD (p .lower) k 0) (getD (p .higher) k 0) c ≡ branchLines p marks (k + 1)
+pub lines-turn : (p : Plan) (marks : List ℕ) (k c : ℕ) → c ≡ costOf (nearOf p k) (farOf p k)
+    → branchLines p marks k ++ branchText (getD marks (2 * k) 0) (lowerOf p k) (higherOf p k) c ≡ branchLines p marks (k + 1)
 unfolding branchLines costIn
 lines-turn p marks k c e = rw (add-one k, e) refl
 

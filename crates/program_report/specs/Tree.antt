@@ -21,7 +21,7 @@ use Rattle.program_report.specs.Text.{named, branchLine, branchText, bra
 -- the lines of the tree's links below k, by number: `treeLink` is what the central builder writes
 unfoldable pub treeLines : Plan → ℕ → List ℕ
 treeLines p zero = []
-treeLines p (suc k) = treeLines p k ++ cond (treeLink p k) (branchLine (low p k) (high p k) (cost p k)) []
+treeLines p (suc k) = treeLines p k ++ cond (treeLink p k) (branchLine (lowerOf p k) (higherOf p k) (cost p k)) []
 
 module _ (p : Plan) (marks : List ℕ) where
   -- of the links below n, lower ends mark those of the tree

@@ -3,13 +3,13 @@ use Prim.Native.Nat.{ℕ}
 use native.Mathlib.Omega.{arith}
 use mathlib.Core.Path.{_≡_, ap, _∙_}
 use mathlib.Core.Logic.{inl, inr, ⊎-elim}
-use Rattle.protocol.specs.Plan.{Plan, key}
+use Rattle.protocol.specs.Network.{Network, key}
 use Rattle.protocol.specs.State.{State, set-bw, set-be}
 use Rattle.protocol.specs.Notion.{CoreEnds}
 use Rattle.protocol.specs.Traffic.{Tokens, Reports}
 use Rattle.protocol.specs.Flow.{Flow}
 
-module _ (p : Plan) (s : State) (bw be : ℕ → ℕ) where
+module _ (p : Network) (s : State) (bw be : ℕ → ℕ) where
   abbrev pub rated : State
   rated = set-be (set-bw s bw) be
 

@@ -8,7 +8,7 @@ use Rattle.base.specs.Cond.{by-eq}
 use Rattle.base.specs.Pool.{sumL}
 use Rattle.graph.specs.Ways.{flip}
 use Rattle.format_message.specs.Msg.{Msg, none, connect, initiate, test, report}
-use Rattle.protocol.specs.Plan.{Plan, Ends, edge-some, ends-irr}
+use Rattle.protocol.specs.Network.{Network, Ends, edge-some, ends-irr}
 use Rattle.protocol.specs.State.{State}
 use Rattle.protocol.specs.Kind.{isC, isA, Fits}
 use Rattle.protocol.specs.Chan.{In, Bef, heads, sum-none}
@@ -16,7 +16,7 @@ use Rattle.protocol.specs.Lemmas.{no-answers, none-in}
 use Rattle.protocol.specs.Notion.{GL, GC, DK, Inf, Jn, Half, Changing, Root, Waits, Spent}
 use Rattle.protocol.specs.Inv.{Inv}
 
-module _ {p : Plan} {s : State} (i : Inv p s) where
+module _ {p : Network} {s : State} (i : Inv p s) where
   -- ---- a sleeper is as at setup
 
   pub sleep-lev : (v : ℕ) → s.st v ≡ 0 → s.lev v ≡ 0

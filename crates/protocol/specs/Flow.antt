@@ -3,13 +3,13 @@
 use Prim.Native.Nat.{ℕ}
 use mathlib.Core.List.{List}
 use Rattle.format_message.specs.Msg.{Msg}
-use Rattle.protocol.specs.Plan.{Plan}
+use Rattle.protocol.specs.Network.{Network}
 use Rattle.protocol.specs.State.{State, set-te, set-ch, set-ot, set-op}
 use Rattle.protocol.specs.Search.{Pending, Tests}
 use Rattle.protocol.specs.Traffic.{Hush, Tokens, Connects, Initiates, Telling, Testing, Answers, Reports, Owing, Bests, Ordered}
 use Rattle.protocol.specs.Inv.{Inv}
 
-pub record Flow (p : Plan) (s : State) : Type 0 where
+pub record Flow (p : Network) (s : State) : Type 0 where
   pub G6c : Hush p s
   pub Dc : Tokens p s
   pub C1 : Connects p s
@@ -19,7 +19,7 @@ pub record Flow (p : Plan) (s : State) : Type 0 where
   pub F4c : Owing p s
   pub Q1 : Ordered p s
 
-module _ {p : Plan} {s : State} (i : Inv p s) where
+module _ {p : Network} {s : State} (i : Inv p s) where
   pub flow : Flow p s
   flow = record { G6c = i.G6c; Dc = i.Dc; C1 = i.C1; I1 = i.I1; T4 = i.T4; R1 = i.R1; F4c = i.F4c; Q1 = i.Q1 }
 

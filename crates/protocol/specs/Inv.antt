@@ -1,12 +1,12 @@
 -- THE INVARIANT. Every small step keeps it; it holds at setup.
-use Rattle.protocol.specs.Plan.{Plan}
+use Rattle.protocol.specs.Network.{Network}
 use Rattle.protocol.specs.State.{State}
 use Rattle.protocol.specs.Fragments.{Ranges, Values, Levels, Sizes, Cores, Sleepers, Marks, Inbounds}
 use Rattle.protocol.specs.Decisions.{Halves, ChangeRoots, Rootings, Finishes}
 use Rattle.protocol.specs.Search.{Parents, Kids, Finds, Pending, Counts, Tests, Weights}
 use Rattle.protocol.specs.Traffic.{Hush, Tokens, Connects, Initiates, Telling, Testing, Answers, Reports, Owing, Bests, Ordered}
 
-pub record Inv (p : Plan) (s : State) : Type 0 where
+pub record Inv (p : Network) (s : State) : Type 0 where
   -- over tables
   pub W0 : Ranges s.st s.halt s.due s.dk s.mark
   pub W1 : Values p s.bw s.be

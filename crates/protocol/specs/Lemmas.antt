@@ -12,7 +12,7 @@ use Rattle.base.specs.Sum.{sum, sum-change, sum-eq, le-sum}
 use Rattle.graph.specs.Graph.{Graph, Joins, up, down}
 use Rattle.graph.specs.Ways.{ends-same, ends-two}
 use Rattle.format_message.specs.Msg.{Msg, connect, initiate, test, accept, reject, report, change}
-use Rattle.protocol.specs.Plan.{Plan, Ends}
+use Rattle.protocol.specs.Network.{Network, Ends}
 use Rattle.protocol.specs.State.{State}
 use Rattle.protocol.specs.Step.{bulk, fan, fill, copy}
 use Rattle.protocol.specs.Kind.{isC, isI, isCI, isT, isA, isR, isK, Fits, raise, raise-in, top}
@@ -242,11 +242,11 @@ same-edge {g} {u} {v} d e q = ends-two (subst (λ n. Joins g n u v) q d) e
 
 -- joined, of an edge and of its ends
 
-pub joined-both : (p : Plan) (mark : ℕ → ℕ → ℕ) {k a b : ℕ} → Ends p k a b → Joined p mark k → Both mark k a b
+pub joined-both : (p : Network) (mark : ℕ → ℕ → ℕ) {k a b : ℕ} → Ends p k a b → Joined p mark k → Both mark k a b
 joined-both p mark {k} (up l e f) j = (sym (ap (λ x. mark x k) e) ∙ j .0, sym (ap (λ x. mark x k) f) ∙ j .1)
 joined-both p mark {k} (down l e f) j = (sym (ap (λ x. mark x k) e) ∙ j .1, sym (ap (λ x. mark x k) f) ∙ j .0)
 
-pub both-joined : (p : Plan) (mark : ℕ → ℕ → ℕ) {k a b : ℕ} → Ends p k a b → Both mark k a b → Joined p mark k
+pub both-joined : (p : Network) (mark : ℕ → ℕ → ℕ) {k a b : ℕ} → Ends p k a b → Both mark k a b → Joined p mark k
 both-joined p mark {k} (up l e f) j = (ap (λ x. mark x k) e ∙ j .0, ap (λ x. mark x k) f ∙ j .1)
 both-joined p mark {k} (down l e f) j = (ap (λ x. mark x k) f ∙ j .1, ap (λ x. mark x k) e ∙ j .0)
 

@@ -1,4 +1,4 @@
-pub mod Plan
+pub mod Network
 pub mod State
 pub mod Step
 pub mod Run

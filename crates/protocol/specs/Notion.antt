@@ -5,7 +5,7 @@ use mathlib.Core.Logic.{_≢_, _⊎_}
 use Rattle.base.specs.Pool.{sumL}
 use Rattle.graph.specs.Size.{size}
 use Rattle.format_message.specs.Msg.{Msg, none, initiate, report}
-use Rattle.protocol.specs.Plan.{Plan, Ends, key, rank}
+use Rattle.protocol.specs.Network.{Network, Ends, key, rank}
 use Rattle.protocol.specs.State.{State}
 use Rattle.protocol.specs.Kind.{isCI, isR}
 use Rattle.protocol.specs.Chan.{In, Bef}
@@ -19,11 +19,11 @@ abbrev pub Both : (ℕ → ℕ → ℕ) → ℕ → ℕ → ℕ → Type 0
 Both mark k a b = (mark a k ≡ 1) × (mark b k ≡ 1)
 
 -- the same of k alone
-abbrev pub Joined : Plan → (ℕ → ℕ → ℕ) → ℕ → Type 0
+abbrev pub Joined : Network → (ℕ → ℕ → ℕ) → ℕ → Type 0
 Joined p mark k = Both mark k (p.g.lo k) (p.g.hi k)
 
 -- no edge that a node of a's fragment has marked Basic has a rank below n
-abbrev pub Bounding : Plan → (ℕ → ℕ) → (ℕ → ℕ → ℕ) → ℕ → ℕ → Type 0
+abbrev pub Bounding : Network → (ℕ → ℕ) → (ℕ → ℕ → ℕ) → ℕ → ℕ → Type 0
 Bounding p fr mark n a = (u j w : ℕ) → fr u ≡ fr a → Ends p j u w → mark u j ≡ 0 → n ≤ rank p j
 
 -- the decision of z's fragment is of kind d, with node z and edge k
@@ -39,7 +39,7 @@ abbrev pub Awaits : (ℕ → ℕ) → ℕ → ℕ → ℕ → Type 0
 Awaits te ot u k = (te u ≡ k) × (ot ≢ suc u)
 
 -- the number of nodes of label a
-abbrev pub members : Plan → (ℕ → ℕ) → ℕ → ℕ
+abbrev pub members : Network → (ℕ → ℕ) → ℕ → ℕ
 members p fr a = size p.N fr a
 
 -- ---- over the state
@@ -61,7 +61,7 @@ Inf s v = Informed s.lev s.fr s.gl v
 abbrev pub Jn : State → ℕ → ℕ → ℕ → Type 0
 Jn s k a b = Both s.mark k a b
 
-abbrev pub Bounds : Plan → State → ℕ → ℕ → Type 0
+abbrev pub Bounds : Network → State → ℕ → ℕ → Type 0
 Bounds p s n a = Bounding p s.fr s.mark n a
 
 -- z has sent Connect over k, and k is not Branch at its other end
@@ -87,7 +87,7 @@ abbrev pub Live : State → ℕ → Type 0
 Live s x = (s.st x ≡ 1) ⊎ ((s.ib x ≡ GC s x) ⊎ (1 ≤ sumL isR (s.ch x (s.ib x))))
 
 -- some live best weight in u's fragment has a rank of at most n
-abbrev pub Covered : Plan → State → ℕ → ℕ → Type 0
+abbrev pub Covered : Network → State → ℕ → ℕ → Type 0
 Covered p s u n = (x : ℕ) × (s.fr x ≡ s.fr u) × Inf s x × (s.bw x ≢ none) × Live s x × (key p (s.bw x) ≤ n)
 
 -- A Report w from u to v over k is of one of three kinds:
@@ -103,7 +103,7 @@ CoreEnds s u v k w =
     × ((Inf s v × (sumL isCI (s.ch u k) ≡ 0)) ⊎ ((s.lev v < GL s v) × In (initiate (GL s v) k 1) (s.ch u k)))
 
 -- or one that will do nothing (no Connect or Initiate ahead of it), but for none against none in a finished fragment
-abbrev pub Spent : Plan → State → ℕ → ℕ → ℕ → ℕ → Type 0
+abbrev pub Spent : Network → State → ℕ → ℕ → ℕ → ℕ → Type 0
 Spent p s u v k w =
     (s.ib v ≡ k) × (s.id v ≡ k) × (s.ub v ≡ k) × (s.st v ≡ 2) × ((m : Msg) → Bef m (report w) (s.ch u k) → isCI m ≡ 0)
     × ((key p w < key p (s.bw v)) ⊎ ((w ≡ none) × (s.bw v ≡ none) × (DK s v ≡ 4) × (GC s v ≡ k)))

@@ -6,7 +6,7 @@ use mathlib.Core.Logic.{_≢_, inl, inr, ⊎-elim}
 use mathlib.Core.List.{List}
 use Rattle.base.specs.Pool.{sumL}
 use Rattle.format_message.specs.Msg.{Msg}
-use Rattle.protocol.specs.Plan.{Plan, Ends}
+use Rattle.protocol.specs.Network.{Network, Ends}
 use Rattle.protocol.specs.State.{State, set-ch}
 use Rattle.protocol.specs.Kind.{isC, isI, isCI, isR, isK, Only, Rouse, Fits, call-parts}
 use Rattle.protocol.specs.Chan.{In, at2, snoc, snoc-old, in-snoc2, snoc-bef, snoc-sum, snoc-all, snoc-else}
@@ -18,7 +18,7 @@ use Rattle.protocol.specs.Traffic.{Hush, Tokens, Telling, Ordered}
 use Rattle.protocol.specs.Flow.{Flow}
 
 -- m is neither Connect nor Initiate
-pub post-telling : (p : Plan) (s : State) (v k : ℕ) (m : Msg) → isCI m ≡ 0 → Telling p s → Telling p (set-ch s (snoc s.ch v k m))
+pub post-telling : (p : Network) (s : State) (v k : ℕ) (m : Msg) → isCI m ≡ 0 → Telling p s → Telling p (set-ch s (snoc s.ch v k m))
 post-telling p s v k m h o = record {
   u2 = λ j w c e b n. o.u2 j w c e b n ∙ sym (snoc-top s.ch v k m no-init (s.lev c) w j);
   t2i = λ j w c e b t n l. in-snoc2 s.ch v k m w j (o.t2i j w c e b t n l);
@@ -33,7 +33,7 @@ post-telling p s v k m h o = record {
     same : (w j : ℕ) → sumL isC (snoc s.ch v k m w j) ≡ sumL isC (s.ch w j)
     same = snoc-sum s.ch v k m isC (omega (arith, call-parts m))
 
-module _ (p : Plan) (s : State) (v k : ℕ) {m : Msg} (h : Plain m) where
+module _ (p : Network) (s : State) (v k : ℕ) {m : Msg} (h : Plain m) where
   abbrev posted : ℕ → ℕ → List Msg
   posted = snoc s.ch v k m
 

@@ -18,8 +18,8 @@ pub use Rattle.graph.specs.Cut.{cut-rank}
 pub use Rattle.graph.specs.Size.{size-mono, size-both, level-merge}
 unfoldable pub use Rattle.graph.specs.Size.{size}
 pub use Rattle.format_message.specs.Msg.{Msg, none, connect, initiate, test, accept, reject, report, change}
-pub use Rattle.protocol.specs.Plan.{Plan, Ends, Tree, rank, key-none, key-some, key-edge, rank-lt, rank-inj, edge-some, ends-irr, ends-key, ends-rank, end-lt}
-unfoldable pub use Rattle.protocol.specs.Plan.{key}
+pub use Rattle.protocol.specs.Network.{Network, Ends, Tree, rank, key-none, key-some, key-edge, rank-lt, rank-inj, edge-some, ends-irr, ends-key, ends-rank, end-lt}
+unfoldable pub use Rattle.protocol.specs.Network.{key}
 pub use Rattle.protocol.specs.State.{State, setup, set-st, set-lev, set-id, set-bw, set-be, set-te, set-ib, set-fc, set-halt, set-mark, set-ch, set-fr}
 pub use Rattle.protocol.specs.State.{set-gl, set-gc, set-dk, set-dn, set-de, set-due, set-dep, set-side, set-ub, set-owe, set-ot, set-op, set-oo}
 pub use Rattle.protocol.specs.Step.{Step, Idle, Blocked, First, FirstBasic, Flag, Better, Strike, Mode, Place}

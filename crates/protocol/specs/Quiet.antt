@@ -8,14 +8,14 @@ use Rattle.base.specs.Sum.{le-sum}
 use Rattle.base.specs.Search.{strong}
 use Rattle.graph.specs.Graph.{Way, stop, go}
 use Rattle.graph.specs.Ways.{joins-lt, flip, ends-two}
-use Rattle.protocol.specs.Plan.{Plan, Ends}
+use Rattle.protocol.specs.Network.{Network, Ends}
 use Rattle.protocol.specs.State.{State}
 use Rattle.protocol.specs.Lemmas.{joined-both}
 use Rattle.protocol.specs.Notion.{GL, GC, Inf, Jn, Joined, Outst}
 use Rattle.protocol.specs.Inv.{Inv}
 use Rattle.protocol.specs.Facts.{inf-cases, fc-find, up-other}
 
-module _ {p : Plan} {s : State} (i : Inv p s) where
+module _ {p : Network} {s : State} (i : Inv p s) where
   -- who waits for a Report is Find
   pub parent-find : (k v c : ℕ) → Ends p k v c → Inf s v → Jn s k v c → s.ib v ≢ k → Outst s c k → s.st v ≡ 1
   parent-find k v c e h j n o = fc-find i v (λ z. omega (arith, i.F4.f4 v, i.F4c.f4n k v c e h j n o, le-sum p.g.L k (s.owe v) (joins-lt e)))

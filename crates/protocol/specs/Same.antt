@@ -7,7 +7,7 @@ use mathlib.Core.Logic.{_⊎_, inl, inr, ⊎-elim}
 use mathlib.Core.List.{List}
 use Rattle.base.specs.Pool.{sumL}
 use Rattle.format_message.specs.Msg.{Msg, connect, initiate, test, accept, reject, report}
-use Rattle.protocol.specs.Plan.{Plan, Ends, rank}
+use Rattle.protocol.specs.Network.{Network, Ends, rank}
 use Rattle.protocol.specs.State.{State, set-ch}
 use Rattle.protocol.specs.Kind.{isCI, isT, isA, isR}
 use Rattle.protocol.specs.Chan.{In, Bef}
@@ -34,7 +34,7 @@ last f (inr (inr (inr d))) = inr (inr (inr (f d)))
 
 -- ---- as many Reports on each channel
 
-module _ (p : Plan) (s : State) (c′ : ℕ → ℕ → List Msg) (rep : (w j : ℕ) → sumL isR (c′ w j) ≡ sumL isR (s.ch w j)) where
+module _ (p : Network) (s : State) (c′ : ℕ → ℕ → List Msg) (rep : (w j : ℕ) → sumL isR (c′ w j) ≡ sumL isR (s.ch w j)) where
   pub live-to : (x : ℕ) → Live s x → Live (set-ch s c′) x
   live-to x = live-ch s c′ x (λ r. inr (inr (omega (arith, rep x (s.ib x)))))
 
@@ -55,16 +55,16 @@ module _ (p : Plan) (s : State) (c′ : ℕ → ℕ → List Msg) (rep : (w j : 
 
 -- ---- no new Connect, Initiate, answer
 
-pub connects-same : (p : Plan) (s : State) (c′ : ℕ → ℕ → List Msg) → ((w j l : ℕ) → In (connect l) (c′ w j) → In (connect l) (s.ch w j))
+pub connects-same : (p : Network) (s : State) (c′ : ℕ → ℕ → List Msg) → ((w j l : ℕ) → In (connect l) (c′ w j) → In (connect l) (s.ch w j))
     → Connects p s → Connects p (set-ch s c′)
 connects-same p s c′ old o = record { c1m = λ k u v l e n. o.c1m k u v l e (old u k l n); c1 = λ k u v l e n m. o.c1 k u v l e (old u k l n) m }
 
-pub initiates-same : (p : Plan) (s : State) (c′ : ℕ → ℕ → List Msg) → ((w j l f x : ℕ) → In (initiate l f x) (c′ w j) → In (initiate l f x) (s.ch w j))
+pub initiates-same : (p : Network) (s : State) (c′ : ℕ → ℕ → List Msg) → ((w j l f x : ℕ) → In (initiate l f x) (c′ w j) → In (initiate l f x) (s.ch w j))
     → Initiates p s → Initiates p (set-ch s c′)
 initiates-same p s c′ old o = record { i1 = λ k u v l f x e n. o.i1 k u v l f x e (old u k l f x n) }
 
 -- an Initiate stays in order where marks, inbound edges or dues change, but not for it
-pub init-ok : {p : Plan} {lev fr gl gc ub due ub′ due′ : ℕ → ℕ} {mark mark′ : ℕ → ℕ → ℕ} {k u v l f x : ℕ} → InitOk p lev fr gl gc ub due mark k u v l f x
+pub init-ok : {p : Network} {lev fr gl gc ub due ub′ due′ : ℕ → ℕ} {mark mark′ : ℕ → ℕ → ℕ} {k u v l f x : ℕ} → InitOk p lev fr gl gc ub due mark k u v l f x
     → Both mark′ k u v → ub′ v ≡ k → due′ v ≡ due v → InitOk p lev fr gl gc ub′ due′ mark′ k u v l f x
 init-ok t j u d = record {
   i1j = j;
@@ -79,12 +79,12 @@ init-ok t j u d = record {
   i1z = t.i1z;
 }
 
-pub answers-same : (p : Plan) (s : State) (c′ : ℕ → ℕ → List Msg) → ((w j : ℕ) → In accept (c′ w j) → In accept (s.ch w j))
+pub answers-same : (p : Network) (s : State) (c′ : ℕ → ℕ → List Msg) → ((w j : ℕ) → In accept (c′ w j) → In accept (s.ch w j))
     → ((w j : ℕ) → In reject (c′ w j) → In reject (s.ch w j)) → Answers p s → Answers p (set-ch s c′)
 answers-same p s c′ ya yr o = record { a1 = λ k u v e n. o.a1 k u v e (ya u k n); j1 = λ k u v e n. o.j1 k u v e (yr u k n) }
 
 -- as many Tests and answers on each channel, and no new Test
-pub testing-same : (p : Plan) (s : State) (c′ : ℕ → ℕ → List Msg) → ((w j l f : ℕ) → In (test l f) (c′ w j) → In (test l f) (s.ch w j))
+pub testing-same : (p : Network) (s : State) (c′ : ℕ → ℕ → List Msg) → ((w j l f : ℕ) → In (test l f) (c′ w j) → In (test l f) (s.ch w j))
     → ((w j : ℕ) → sumL isT (c′ w j) ≡ sumL isT (s.ch w j)) → ((w j : ℕ) → sumL isA (c′ w j) ≡ sumL isA (s.ch w j)) → Testing p s → Testing p (set-ch s c′)
 testing-same p s c′ old t a o = record {
   e1 = λ k u v l f e n. o.e1 k u v l f e (old u k l f n);
@@ -110,10 +110,10 @@ pub around-same : {c l : List Msg} {w : ℕ} → l ≡ c → In (report w) l →
 around-same {c} {w} q h = subst (λ x. Around c x w) (sym q)
     (record { was = subst (λ x. In (report w) x) q h; call-sum = refl; in-init = λ n f x i. i; behind = λ n b. inl b; ahead = λ n b. inl b })
 
-abbrev pub Alike : Plan → State → (ℕ → ℕ → List Msg) → Type 0
+abbrev pub Alike : Network → State → (ℕ → ℕ → List Msg) → Type 0
 Alike p s c′ = (k u v w : ℕ) → Ends p k u v → In (report w) (c′ u k) → Around (s.ch u k) (c′ u k) w
 
-module _ (p : Plan) (s : State) (c′ : ℕ → ℕ → List Msg) where
+module _ (p : Network) (s : State) (c′ : ℕ → ℕ → List Msg) where
   pub core-same : (u v k w : ℕ) → Around (s.ch u k) (c′ u k) w → CoreEnds s u v k w → CoreEnds (set-ch s c′) u v k w
   core-same u v k w h t = (
     t .0,

@@ -4,11 +4,11 @@ use mathlib.Core.Path.{_≡_}
 use mathlib.Core.Logic.{_≢_, _⊎_}
 use Rattle.base.specs.Sum.{sum}
 use Rattle.format_message.specs.Msg.{none}
-use Rattle.protocol.specs.Plan.{Plan, Ends, rank}
+use Rattle.protocol.specs.Network.{Network, Ends, rank}
 use Rattle.protocol.specs.Notion.{Informed, Both, Awaits}
 
 -- T1: the in-branch of an informed node v
-pub record Parents (p : Plan) (lev fr gl gc ib ub dep side dk : ℕ → ℕ) : Type 0 where
+pub record Parents (p : Network) (lev fr gl gc ib ub dep side dk : ℕ → ℕ) : Type 0 where
   pub t1 : (v : ℕ) → Informed lev fr gl v → ib v ≢ none
   -- it is the core, at depth 0,
   pub t1d : (v : ℕ) → Informed lev fr gl v → ib v ≡ gc (fr v) → (dep v ≡ 0) × (side v ≡ v)
@@ -27,7 +27,7 @@ pub record LowOk (lev fr gl ib ub due : ℕ → ℕ) (k x : ℕ) : Type 0 where
   pub t4i : ib x ≢ k
 
 -- T2 to T4: those beyond a joined edge, those not informed yet
-pub record Kids (p : Plan) (lev fr gl gc ib ub due : ℕ → ℕ) (mark : ℕ → ℕ → ℕ) : Type 0 where
+pub record Kids (p : Network) (lev fr gl gc ib ub due : ℕ → ℕ) (mark : ℕ → ℕ → ℕ) : Type 0 where
   -- an informed node beyond a joined edge that is not the in-branch is a child
   pub t2 : (k v c : ℕ) → Ends p k v c → Both mark k v c → Informed lev fr gl v → ib v ≢ k → Informed lev fr gl c → ib c ≡ k
   -- joined nodes that are both uninformed are equally due
@@ -56,13 +56,13 @@ pub record Pending (st te fc : ℕ → ℕ) (ot op : ℕ) : Type 0 where
   pub f5p : (v : ℕ) → op ≡ suc v → st v ≡ 1
 
 -- F4: the find-count is the number of edges over which a Report is owed (what is owed: Traffic)
-pub record Counts (p : Plan) (fc : ℕ → ℕ) (owe : ℕ → ℕ → ℕ) : Type 0 where
+pub record Counts (p : Network) (fc : ℕ → ℕ) (owe : ℕ → ℕ → ℕ) : Type 0 where
   pub f4 : (v : ℕ) → fc v ≡ sum p.g.L (owe v)
   pub f4l : (v k : ℕ) → owe v k ≤ 1
   pub f4o : (v k : ℕ) → owe v k ≢ 0 → (c : ℕ) × Ends p k v c
 
 -- E2: the test edge of v
-pub record Tests (p : Plan) (te ib : ℕ → ℕ) (mark : ℕ → ℕ → ℕ) (ot : ℕ) : Type 0 where
+pub record Tests (p : Network) (te ib : ℕ → ℕ) (mark : ℕ → ℕ → ℕ) (ot : ℕ) : Type 0 where
   -- it is an own edge,
   pub e2o : (v : ℕ) → te v ≢ none → (u : ℕ) × Ends p (te v) v u
   -- and while v waits: earlier own edges are not Basic,
@@ -74,7 +74,7 @@ pub record Tests (p : Plan) (te ib : ℕ → ℕ) (mark : ℕ → ℕ → ℕ) (
   pub m6 : (k v u : ℕ) → Ends p k v u → mark v k ≡ 2 → mark u k ≡ 0 → Awaits te ot u k
 
 -- B1: the best weight of an informed node v
-pub record Weights (p : Plan) (lev fr gl bw be side : ℕ → ℕ) : Type 0 where
+pub record Weights (p : Network) (lev fr gl bw be side : ℕ → ℕ) : Type 0 where
   -- best edge none exactly if best weight none
   pub b1n : (v : ℕ) → Informed lev fr gl v → bw v ≡ none → be v ≡ none
   pub b1m : (v : ℕ) → Informed lev fr gl v → be v ≡ none → bw v ≡ none

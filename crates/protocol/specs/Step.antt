@@ -9,7 +9,7 @@ use lib.Dec.{eqb}
 use Rattle.base.specs.Cond.{upd, upd2, bit}
 use Rattle.base.specs.Sum.{sum}
 use Rattle.format_message.specs.Msg.{Msg, none, connect, initiate, test, accept, reject, report, change}
-use Rattle.protocol.specs.Plan.{Plan, Ends, key, rank}
+use Rattle.protocol.specs.Network.{Network, Ends, key, rank}
 use Rattle.protocol.specs.State.{State, set-st, set-lev, set-id, set-bw, set-be, set-te, set-ib, set-fc, set-halt, set-mark, set-ch, set-fr, set-gl}
 use Rattle.protocol.specs.State.{set-gc, set-dk, set-dn, set-de, set-due, set-dep, set-side, set-ub, set-owe, set-ot, set-op, set-oo}
 
@@ -30,11 +30,11 @@ Blocked s v k (report w) = (s.ib v ≡ k) × (s.st v ≡ 1)
 Blocked s v k change = ⊥
 
 -- k is the earliest own edge of v
-abbrev pub First : Plan → ℕ → ℕ → Type 0
+abbrev pub First : Network → ℕ → ℕ → Type 0
 First p v k = (j w : ℕ) → Ends p j v w → rank p k ≤ rank p j
 
 -- k is the earliest own edge of v with mark Basic
-abbrev pub FirstBasic : Plan → State → ℕ → ℕ → Type 0
+abbrev pub FirstBasic : Network → State → ℕ → ℕ → Type 0
 FirstBasic p s v k = (s.mark v k ≡ 0) × ((j w : ℕ) → Ends p j v w → s.mark v j ≡ 0 → rank p k ≤ rank p j)
 
 -- x is v's Find bit
@@ -42,7 +42,7 @@ abbrev pub Flag : State → ℕ → ℕ → Type 0
 Flag s v x = ((s.st v ≡ 1) × (x ≡ 1)) ⊎ ((s.st v ≢ 1) × (x ≡ 0))
 
 -- weight w, from edge k, against v's best: b and e are the new best weight and best edge
-abbrev pub Better : Plan → State → ℕ → ℕ → ℕ → ℕ → ℕ → Type 0
+abbrev pub Better : Network → State → ℕ → ℕ → ℕ → ℕ → ℕ → Type 0
 Better p s v w k b e = ((key p w < key p (s.bw v)) × (b ≡ w) × (e ≡ k)) ⊎ ((key p (s.bw v) ≤ key p w) × (b ≡ s.bw v) × (e ≡ s.be v))
 
 -- c is v's mark for k once Basic has become Rejected
@@ -140,7 +140,7 @@ unfoldable pub fill : (ℕ → ℕ → ℕ) → ℕ → (ℕ → Bool) → ℕ �
 fill t v f x a j = cond (eqb v a && f j) x (t a j)
 
 -- (4) v takes the values of Initiate (l, f, x) that came over k and sends the copies. a: new status, d, e: depth and side, b: open test
-abbrev pub informed : Plan → State → ℕ → ℕ → ℕ → ℕ → ℕ → ℕ → ℕ → ℕ → ℕ → State
+abbrev pub informed : Network → State → ℕ → ℕ → ℕ → ℕ → ℕ → ℕ → ℕ → ℕ → ℕ → State
 informed p s v k l f x a d e b =
     set-ot
     (set-owe
@@ -180,7 +180,7 @@ reported s v k = set-op (set-due (set-st (send s v k (report (s.bw v))) (upd s.s
 
 -- ---- the steps
 
-pub data Step (p : Plan) (s : State) : State → Type 0 where
+pub data Step (p : Network) (s : State) : State → Type 0 where
   -- (2) wakeup of a node without edges, of one whose earliest edge k is no branch at the other end y, of one where it is
   wake-lone : {v : ℕ} → Idle s → v < p.N → s.st v ≡ 0 → ((k u : ℕ) → Ends p k v u → ⊥)
       → Step p s (set-halt (set-dk (woken s v) (upd s.dk (s.fr v) 4)) (upd s.halt v 1))

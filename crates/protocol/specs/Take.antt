@@ -7,7 +7,7 @@ use mathlib.Core.List.{List, [], _∷_}
 use Rattle.base.specs.Cond.{upd2, upd2-elim}
 use Rattle.base.specs.Pool.{sumL}
 use Rattle.format_message.specs.Msg.{Msg, test, accept, reject}
-use Rattle.protocol.specs.Plan.{Plan}
+use Rattle.protocol.specs.Network.{Network}
 use Rattle.protocol.specs.State.{State, set-ch}
 use Rattle.protocol.specs.Kind.{isC, isI, isCI, isR, isK, call-parts}
 use Rattle.protocol.specs.Chan.{In, in-nil, at2, pop-head, pop-in, in-pop, pop-bef, pop-sum, pop-all}
@@ -16,7 +16,7 @@ use Rattle.protocol.specs.Same.{Alike, connects-same, initiates-same, ow
 use Rattle.protocol.specs.Traffic.{Hush, Tokens, Connects, Initiates, Telling, Ordered}
 use Rattle.protocol.specs.Flow.{Flow}
 
-module _ (p : Plan) (s : State) (u k : ℕ) {m : Msg} {r : List Msg} (q : s.ch u k ≡ m ∷ r) where
+module _ (p : Network) (s : State) (u k : ℕ) {m : Msg} {r : List Msg} (q : s.ch u k ≡ m ∷ r) where
   abbrev taken : ℕ → ℕ → List Msg
   taken = upd2 s.ch u k r
 
@@ -81,7 +81,7 @@ plain-accept = record { no-call = refl; no-rep = refl; no-change = refl }
 pub plain-reject : Plain reject
 plain-reject = record { no-call = refl; no-rep = refl; no-change = refl }
 
-module _ (p : Plan) (s : State) (u k : ℕ) {m : Msg} {r : List Msg} (q : s.ch u k ≡ m ∷ r) (h : Plain m) where
+module _ (p : Network) (s : State) (u k : ℕ) {m : Msg} {r : List Msg} (q : s.ch u k ≡ m ∷ r) (h : Plain m) where
   abbrev c′ : ℕ → ℕ → List Msg
   c′ = upd2 s.ch u k r
 

@@ -5,19 +5,19 @@ use mathlib.Core.Logic.{_≢_, _⊎_}
 use mathlib.Core.List.{[]}
 use Rattle.base.specs.Pool.{All, sumL}
 use Rattle.format_message.specs.Msg.{Msg, none, connect, initiate, test, accept, reject, report, change}
-use Rattle.protocol.specs.Plan.{Plan, Ends, key, rank}
+use Rattle.protocol.specs.Network.{Network, Ends, key, rank}
 use Rattle.protocol.specs.State.{State}
 use Rattle.protocol.specs.Kind.{isC, isT, isA, isR, Only, Rouse, Fits, top}
 use Rattle.protocol.specs.Chan.{In, Bef}
 use Rattle.protocol.specs.Notion.{Informed, Both, Awaits, GL, GC, DK, Inf, Jn, Half, Changing, Root, Waits, Outst, Covered, Child, CoreEnds, Spent}
 
 -- G6: a sleeper has sent nothing, and only Connect and Test are on their way to it
-pub record Hush (p : Plan) (s : State) : Type 0 where
+pub record Hush (p : Network) (s : State) : Type 0 where
   pub g6o : (k v u : ℕ) → Ends p k v u → s.st v ≡ 0 → s.ch v k ≡ []
   pub g6i : (k u v : ℕ) → Ends p k u v → s.st v ≡ 0 → All Rouse (s.ch u k)
 
 -- D1 to D4, D7, K1: the messages of a decision
-pub record Tokens (p : Plan) (s : State) : Type 0 where
+pub record Tokens (p : Network) (s : State) : Type 0 where
   -- half: besides answers the channel holds just that Connect of the fragment's level
   pub d1c : (k z y : ℕ) → Ends p k z y → Half s z k → In (connect (GL s z)) (s.ch z k)
   pub d1a : (k z y : ℕ) → Ends p k z y → Half s z k → All (Only (GL s z)) (s.ch z k)
@@ -34,13 +34,13 @@ pub record Tokens (p : Plan) (s : State) : Type 0 where
       → (1 ≤ sumL isR (s.ch x k)) ⊎ (Inf s y × (s.st y ≡ 2) × (key p (s.bw x) < key p (s.bw y)) × (1 ≤ sumL isR (s.ch y k)))
 
 -- C1: a Connect from u to v over k
-pub record Connects (p : Plan) (s : State) : Type 0 where
+pub record Connects (p : Network) (s : State) : Type 0 where
   pub c1m : (k u v l : ℕ) → Ends p k u v → In (connect l) (s.ch u k) → s.mark u k ≡ 1
   -- on a joined edge: the core, one level below, to an end of that level
   pub c1 : (k u v l : ℕ) → Ends p k u v → In (connect l) (s.ch u k) → s.mark v k ≡ 1 → (GC s u ≡ k) × (l + 1 ≡ GL s u) × (s.lev v ≡ l)
 
 -- I1: an Initiate (l, f, x) from u to v over k
-pub record InitOk (p : Plan) (lev fr gl gc ub due : ℕ → ℕ) (mark : ℕ → ℕ → ℕ) (k u v l f x : ℕ) : Type 0 where
+pub record InitOk (p : Network) (lev fr gl gc ub due : ℕ → ℕ) (mark : ℕ → ℕ → ℕ) (k u v l f x : ℕ) : Type 0 where
   -- on a joined edge that is inbound for its receiver, whose level it raises, to at most the fragment's
   pub i1j : Both mark k u v
   pub i1u : ub v ≡ k
@@ -56,11 +56,11 @@ pub record InitOk (p : Plan) (lev fr gl gc ub due : ℕ → ℕ) (mark : ℕ →
   -- below it: Found
   pub i1z : l < gl (fr v) → x ≡ 0
 
-pub record Initiates (p : Plan) (s : State) : Type 0 where
+pub record Initiates (p : Network) (s : State) : Type 0 where
   pub i1 : (k u v l f x : ℕ) → Ends p k u v → In (initiate l f x) (s.ch u k) → InitOk p s.lev s.fr s.gl s.gc s.ub s.due s.mark k u v l f x
 
 -- T2, T4, U2: Initiates to come
-pub record Telling (p : Plan) (s : State) : Type 0 where
+pub record Telling (p : Network) (s : State) : Type 0 where
   -- what v was told has arrived across a joined edge that is not inbound for v, or is on its way, and nothing newer
   pub u2 : (k v c : ℕ) → Ends p k v c → Jn s k v c → s.ub v ≢ k → s.lev v ≡ top (s.lev c) (s.ch v k)
   -- an uninformed child has the Initiate of the fragment's level on its way
@@ -71,7 +71,7 @@ pub record Telling (p : Plan) (s : State) : Type 0 where
   pub t4n : (k x y : ℕ) → Ends p k x y → Jn s k x y → GC s x ≡ k → 1 ≤ sumL isC (s.ch x k) → (s.lev x < GL s x) × (¬ In (initiate (GL s x) k 1) (s.ch y k))
 
 -- E1, E2, M6: a Test, and what the owner of a test edge waits for
-pub record Testing (p : Plan) (s : State) : Type 0 where
+pub record Testing (p : Network) (s : State) : Type 0 where
   -- it carries level and identity of its informed sender
   pub e1 : (k u v l f : ℕ) → Ends p k u v → In (test l f) (s.ch u k) → (s.lev u ≡ l) × (s.id u ≡ f) × Inf s u
   -- its sender waits for the answer, or it crossed: Rejected at the sender, and the receiver waits
@@ -98,12 +98,12 @@ pub record RejectOk (te fr : ℕ → ℕ) (mark : ℕ → ℕ → ℕ) (ot k u v
   pub j1m : mark v k ≡ 0 → mark u k ≡ 2
 
 -- A1, J1
-pub record Answers (p : Plan) (s : State) : Type 0 where
+pub record Answers (p : Network) (s : State) : Type 0 where
   pub a1 : (k u v : ℕ) → Ends p k u v → In accept (s.ch u k) → AcceptOk s.te s.fr s.lev s.mark s.ot k u v
   pub j1 : (k u v : ℕ) → Ends p k u v → In reject (s.ch u k) → RejectOk s.te s.fr s.mark s.ot k u v
 
 -- R1: a Report w from u to v over k
-pub record Reports (p : Plan) (s : State) : Type 0 where
+pub record Reports (p : Network) (s : State) : Type 0 where
   pub r1r : (k u v w : ℕ) → Ends p k u v → In (report w) (s.ch u k) → w ≢ none → w < p.g.L
   pub r1j : (k u v w : ℕ) → Ends p k u v → In (report w) (s.ch u k) → Jn s k u v
   pub r1 : (k u v w : ℕ) → Ends p k u v → In (report w) (s.ch u k) → Child s u v k w ⊎ (CoreEnds s u v k w ⊎ Spent p s u v k w)
@@ -111,12 +111,12 @@ pub record Reports (p : Plan) (s : State) : Type 0 where
   pub r1c : (k u v w : ℕ) → Ends p k u v → In (report w) (s.ch u k) → Inf s v → DK s v ≡ 0 → GC s v ≡ k → CoreEnds s u v k w
 
 -- F4: over which edges a Report is owed
-pub record Owing (p : Plan) (s : State) : Type 0 where
+pub record Owing (p : Network) (s : State) : Type 0 where
   pub f4y : (k v c : ℕ) → Ends p k v c → s.owe v k ≢ 0 → Inf s v × Jn s k v c × (s.ib v ≢ k) × Outst s c k
   pub f4n : (k v c : ℕ) → Ends p k v c → Inf s v → Jn s k v c → s.ib v ≢ k → Outst s c k → s.owe v k ≡ 1
 
 -- B1, B2: best weights
-pub record Bests (p : Plan) (s : State) : Type 0 where
+pub record Bests (p : Network) (s : State) : Type 0 where
   -- a best edge other than the best weight leads to an informed Found child with that best weight, whose Report is consumed
   pub b1e : (v : ℕ) → Inf s v → s.bw v ≢ none → s.be v ≢ s.bw v
       → (c : ℕ) × Ends p (s.be v) v c × Jn s (s.be v) v c × (s.ib v ≢ s.be v) × Inf s c × (s.ib c ≡ s.be v) × (s.bw c ≡ s.bw v) × (s.st c ≡ 2) × (sumL isR (s.ch c (s.be v)) ≡ 0)
@@ -125,5 +125,5 @@ pub record Bests (p : Plan) (s : State) : Type 0 where
       → ((s.lev u < GL s u) × (s.due u ≡ 1)) ⊎ ((s.ot ≡ suc u) ⊎ (((s.te u ≢ none) × (key p (s.te u) ≤ rank p k)) ⊎ Covered p s u (rank p k)))
 
 -- Q1: the order in a channel
-pub record Ordered (p : Plan) (s : State) : Type 0 where
+pub record Ordered (p : Network) (s : State) : Type 0 where
   pub q1 : (k u v : ℕ) (m n : Msg) → Ends p k u v → Bef m n (s.ch u k) → Fits m n

@@ -1,7 +1,7 @@
 -- v, which is Find, weighs w, which came over its own edge k, against its best: the clauses on best weights and best edges.
 use Rattle.protocol.specs.Prelude.{ℕ, _≤_, _<_, arith, _≡_, sym, ap, subst, _∙_, _≢_, _⊎_, inl, ⊎-elim, by-eq}
 use Rattle.protocol.specs.Prelude.{List, upd, upd-elim, upd-same, upd-other, sumL, Msg, none}
-use Rattle.protocol.specs.Prelude.{Plan, Ends, key, joins-lt, edge-some, key-none, key-edge, rank-lt, State, Better, set-bw, set-be, set-te, set-fc, set-owe, set-op, set-ch, isR}
+use Rattle.protocol.specs.Prelude.{Network, Ends, key, joins-lt, edge-some, key-none, key-edge, rank-lt, State, Better, set-bw, set-be, set-te, set-fc, set-owe, set-op, set-ch, isR}
 use Rattle.protocol.specs.Prelude.{GL, DK, Inf, Jn, Live, Covered, Inv, Flow, decided-find, no-root}
 use Rattle.protocol.specs.Fragments.{Values, Sleepers}
 use Rattle.protocol.specs.Decisions.{ChangeRoots, Rootings, Finishes}
@@ -9,14 +9,14 @@ use Rattle.protocol.specs.Search.{Pending, Counts, Tests, Weights}
 use Rattle.protocol.specs.Traffic.{Testing, Answers, Bests}
 
 -- weight w leaves v's fragment, from an informed node of v's side to a node of no lower level
-abbrev pub Leaves : Plan → State → ℕ → ℕ → Type 0
+abbrev pub Leaves : Network → State → ℕ → ℕ → Type 0
 Leaves p s v w = (x : ℕ) × (y : ℕ) × Ends p w x y × (s.fr x ≡ s.fr v) × (s.fr y ≢ s.fr v) × (GL s v ≤ s.lev y) × Inf s x × (s.side x ≡ s.side v)
 
 -- x's best edge j leads to a child with best weight n whose Report has been consumed; c′ are the channels
-abbrev pub Kid : Plan → State → (ℕ → ℕ) → (ℕ → ℕ → List Msg) → ℕ → ℕ → ℕ → Type 0
+abbrev pub Kid : Network → State → (ℕ → ℕ) → (ℕ → ℕ → List Msg) → ℕ → ℕ → ℕ → Type 0
 Kid p s bw c′ x j n = (c : ℕ) × Ends p j x c × Jn s j x c × (s.ib x ≢ j) × Inf s c × (s.ib c ≡ j) × (bw c ≡ n) × (s.st c ≡ 2) × (sumL isR (c′ c j) ≡ 0)
 
-module _ {p : Plan} {s : State} (i : Inv p s) {u v w k b e : ℕ} (calm : s.oo ≡ 0) (find : s.st v ≡ 1) (ends : Ends p k v u)
+module _ {p : Network} {s : State} (i : Inv p s) {u v w k b e : ℕ} (calm : s.oo ≡ 0) (find : s.st v ≡ 1) (ends : Ends p k v u)
     (better : Better p s v w k b e) (leaves : w ≢ none → Leaves p s v w) where
   abbrev bw′ : ℕ → ℕ
   bw′ = upd s.bw v b

@@ -11,7 +11,7 @@ use Rattle.base.specs.Sum.{sum, sum-eq}
 use Rattle.graph.specs.Ways.{joins-lt}
 use Rattle.format_message.specs.Msg.{Msg}
 use Rattle.node.specs.Work.{Own, Send, number, onEach}
-use Rattle.protocol.specs.Plan.{Plan}
+use Rattle.protocol.specs.Network.{Network}
 use Rattle.protocol.specs.Step.{fan}
 use Rattle.protocol.specs.Lemmas.{fan-elim}
 use Rattle.protocol_bridge.specs.Real.{ownP, post}
@@ -35,7 +35,7 @@ each-length o f m (suc n) = bool-cases (o.own n && f n)
     (λ e. rw e (omega (arith, length-append (onEach o f m n) [], each-length o f m n)))
 
 -- f holds of own edges only
-module _ (p : Plan) (v : ℕ) (f : ℕ → Bool) (mine : (j : ℕ) → f j ≡ true → ownP p v .own j ≡ true) (m : Msg) where
+module _ (p : Network) (v : ℕ) (f : ℕ → Bool) (mine : (j : ℕ) → f j ≡ true → ownP p v .own j ≡ true) (m : Msg) where
   -- the copies over edges below n
   abbrev sent : ℕ → List Send
   sent n = onEach (ownP p v) f m n

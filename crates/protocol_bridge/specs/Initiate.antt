@@ -15,7 +15,7 @@ use Rattle.node.specs.Work as W
 use Rattle.node.specs.Rules.{told, copies, onInitiate}
 use Rattle.node.specs.Rules as N
 use Rattle.node.specs.Laws.{seek-tests, initiate-find, initiate-found}
-use Rattle.protocol.specs.Prelude.{Plan, State, Step, Mode, Place, GC, pop-head, pop, copy, fan, informed, copy-yes}
+use Rattle.protocol.specs.Prelude.{Network, State, Step, Mode, Place, GC, pop-head, pop, copy, fan, informed, copy-yes}
 use Rattle.protocol.specs.Step.{tell}
 use Rattle.protocol_invariant.specs.Safe.{initiate-ok}
 use Rattle.protocol_bridge.specs.Real.{Real, real, ownP, post}
@@ -25,7 +25,7 @@ use Rattle.protocol_bridge.specs.Copies.{copies-fan, copies-number, copi
 use Rattle.protocol_bridge.specs.Fin.{At, Fin, Keeps, Serving, after, last, same, fc-is, mark-is, at-count, at-told, at-copied}
 use Rattle.protocol_bridge.specs.Finish.{test-fin}
 
-module _ {p : Plan} (keeps : Keeps p) {s : State} {r : Real} {u v k l f x : ℕ} {rest : List Msg} {w : Work} (sv : Serving p s r u v k (initiate l f x) rest w) where
+module _ {p : Network} (keeps : Keeps p) {s : State} {r : Real} {u v k l f x : ℕ} {rest : List Msg} {w : Work} (sv : Serving p s r u v k (initiate l f x) rest w) where
   abbrev o : W.Own
   o = ownP p v
 

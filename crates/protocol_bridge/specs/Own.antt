@@ -14,13 +14,13 @@ use Rattle.graph.specs.Rank as R
 use Rattle.format_message.specs.Msg.{none}
 use Rattle.node.specs.Work.{before, earliest, number, anyEdge, degree}
 use Rattle.node.specs.First.{first, before-none, before-edges, none-before}
-use Rattle.protocol.specs.Plan.{Plan, Ends, key, rank, key-none, key-edge, rank-lt}
+use Rattle.protocol.specs.Network.{Network, Ends, key, rank, key-none, key-edge, rank-lt}
 use Rattle.protocol.specs.State.{State}
 use Rattle.protocol.specs.Inv.{Inv}
 use Rattle.protocol_invariant.specs.Safe as S
 use Rattle.protocol_bridge.specs.Real.{ownP}
 
-module _ (p : Plan) (v : ℕ) where
+module _ (p : Network) (v : ℕ) where
   -- ---- own edges are those that end at v
 
   pub own-ends : (k : ℕ) → ownP p v .own k ≡ true → (u : ℕ) × Ends p k v u

@@ -6,7 +6,7 @@ use lib.Dec.{eqb, ltb}
 use Rattle.base.specs.Cond.{upd, upd2}
 use Rattle.format_message.specs.Msg.{Msg}
 use Rattle.node.specs.Work.{Own, Work, Send}
-use Rattle.protocol.specs.Plan.{Plan}
+use Rattle.protocol.specs.Network.{Network}
 use Rattle.protocol.specs.State.{State}
 
 -- one table for each of a module's values that the protocol knows, the marks, and the channels
@@ -27,7 +27,7 @@ abbrev pub real : State → Real
 real s = record { st = s.st; lev = s.lev; id = s.id; bw = s.bw; be = s.be; te = s.te; ib = s.ib; fc = s.fc; halt = s.halt; mark = s.mark; ch = s.ch }
 
 -- v's edges as its rules see them
-abbrev pub ownP : Plan → ℕ → Own
+abbrev pub ownP : Network → ℕ → Own
 ownP p v = record { edges = p.g.L; own = λ k. ltb k p.g.L && (eqb (p.g.lo k) v || eqb (p.g.hi k) v); earlier = p.order.earlier }
 
 -- v's messages at the ends of its channels, one after the other

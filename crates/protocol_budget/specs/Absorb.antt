@@ -1,14 +1,14 @@
 -- A fragment is absorbed: its node u gets an Initiate, and the others are below the level that they then have to reach.
 use Rattle.protocol.specs.Prelude.{ℕ, _+_, _≤_, _<_, arith, _≡_, sym, ap, subst, _∙_, _⊎_, by-eq}
 use Rattle.protocol.specs.Prelude.{List, _∷_, upd2, upd2-elim, Msg, connect, initiate}
-use Rattle.protocol.specs.Prelude.{Plan, Ends, flip, ends-same, State, Idle, Flag}
+use Rattle.protocol.specs.Prelude.{Network, Ends, flip, ends-same, State, Idle, Flag}
 use Rattle.protocol.specs.Prelude.{In, all-in, pop-head, at2, GL, Half, Inv}
 use Rattle.protocol_budget.specs.Paid.{Dues, Tries, Paid}
 use Rattle.protocol_budget.specs.Height.{keep, tb-none, tb-le}
 use Rattle.protocol.specs.Prelude.{bulk-in, bulk-out, send, pop, absorbed, half-at}
 use Rattle.protocol_budget.specs.Raise.{Raised, raise}
 
-module _ {p : Plan} {z n : ℕ} {s : State} (i : Inv p s) (h : Paid p z s n) {u v k l x : ℕ} {r : List Msg} (idle : Idle s) (ends : Ends p k u v) (q : s.ch u k ≡ connect l ∷ r)
+module _ {p : Network} {z n : ℕ} {s : State} (i : Inv p s) (h : Paid p z s n) {u v k l x : ℕ} {r : List Msg} (idle : Idle s) (ends : Ends p k u v) (q : s.ch u k ≡ connect l ∷ r)
     (low : l < s.lev v) (flag : Flag s v x) where
   abbrev S′ : State
   S′ = absorbed (pop s u k r) u v k x

@@ -1,7 +1,7 @@
 -- A Reject, and a Test that crossed: nothing is sent. Where both ends had sent a Test, the edge pays back both.
 use Rattle.protocol.specs.Prelude.{ℕ, suc, _+_, _≤_, arith, _≡_, refl, sym, ap, subst, _∙_, _≢_, _⊎_, inl, inr, ⊎-elim, by-eq}
 use Rattle.protocol.specs.Prelude.{List, _∷_, sumL, upd, upd-elim, upd-same, upd-other, upd2, upd2-elim, sum-upd, Msg, test, reject}
-use Rattle.protocol.specs.Prelude.{Plan, Ends, end-lt, joins-lt, flip, other-end, same-edge, ends-irr, State, Idle, Strike, set-ot, pop, marked}
+use Rattle.protocol.specs.Prelude.{Network, Ends, end-lt, joins-lt, flip, other-end, same-edge, ends-irr, State, Idle, Strike, set-ot, pop, marked}
 use Rattle.protocol.specs.Prelude.{isI, isT, isA, isY, In, pop-head, pop-sum, else-same, here-new, at2, Inf, Waits, Inv, waits-find}
 use Rattle.protocol_budget.specs.Paid.{LT, Paid, lt-else, lt-same, yes-le}
 use Rattle.protocol_budget.specs.Height.{heights-pop, tb-inf}
@@ -10,7 +10,7 @@ use Rattle.protocol_search.specs.Rejected as J
 use Rattle.protocol_search.specs.Own as O
 use Rattle.protocol_search.specs.Strike.{struck, up2, dn0, dn-other}
 
-module _ {p : Plan} {z n : ℕ} {s : State} (i : Inv p s) (h : Paid p z s n) {u v k c : ℕ} {m : Msg} {r : List Msg} (idle : Idle s) (ends : Ends p k u v)
+module _ {p : Network} {z n : ℕ} {s : State} (i : Inv p s) (h : Paid p z s n) {u v k c : ℕ} {m : Msg} {r : List Msg} (idle : Idle s) (ends : Ends p k u v)
     (q : s.ch u k ≡ m ∷ r) (no-init : isI m ≡ 0) (no-yes : isY m ≡ 0) (wait : Waits s v k) (strike : Strike s v k c) where
   abbrev c′ : ℕ → ℕ → List Msg
   c′ = upd2 s.ch u k r
@@ -128,12 +128,12 @@ module _ {p : Plan} {z n : ℕ} {s : State} (i : Inv p s) (h : Paid p z s n) {u 
           (λ o. omega (arith, a, struck-to, ap (λ d. m′ d j) (o .1), ap (m′ v) y)) (same-edge ends e y)
 
 -- v, informed and waiting for an answer on k with no Test of its own there, has its 2
-two-of : {p : Plan} {z n : ℕ} {s : State} (i : Inv p s) (h : Paid p z s n) {u v k : ℕ} → Ends p k v u → Inf s v → Waits s v k → sumL isT (s.ch v k) ≡ 0 → sumL isY (s.ch u k) ≡ 0 → 2 ≤ h.ts v
+two-of : {p : Network} {z n : ℕ} {s : State} (i : Inv p s) (h : Paid p z s n) {u v k : ℕ} → Ends p k v u → Inf s v → Waits s v k → sumL isT (s.ch v k) ≡ 0 → sumL isY (s.ch u k) ≡ 0 → 2 ≤ h.ts v
 two-of {z = z} {s = s} i h {u} {v} {k} e f w t y = by-eq (s.lev v) z
     (λ o. h.T .ts0 v (tb-inf i (h.H) v f) (sym (f .1) ∙ o))
     (λ o. omega (arith, h.L .ts3 k v u e w o))
 
-module _ {p : Plan} {z n : ℕ} {s : State} (i : Inv p s) (h : Paid p z s n) {u v k c : ℕ} {r : List Msg} (idle : Idle s) (ends : Ends p k u v) where
+module _ {p : Network} {z n : ℕ} {s : State} (i : Inv p s) (h : Paid p z s n) {u v k c : ℕ} {r : List Msg} (idle : Idle s) (ends : Ends p k u v) where
   pub paid-rejected : (q : s.ch u k ≡ reject ∷ r) (strike : Strike s v k c) → Paid p z (set-ot (marked (pop s u k r) v k c) (suc v)) n
   paid-rejected q strike =
       let said = J.said i idle ends q strike in

@@ -1,7 +1,7 @@
 -- A Connect is paid from rt, at waking and by procedure change-root; fragments that merge reach a level that none of their nodes has or is about to have.
 use Rattle.protocol.specs.Prelude.{ℕ, suc, _+_, _≤_, arith, _≡_, refl, sym, ap, subst, _∙_, _≢_, inl, inr, ⊎-elim, by-eq}
 use Rattle.protocol.specs.Prelude.{upd, upd-elim, upd-same, upd-other, upd2, upd2-elim, sum-upd, none, connect, initiate}
-use Rattle.protocol.specs.Prelude.{Plan, Ends, end-lt, flip, other-end, ends-two, edge-some, State}
+use Rattle.protocol.specs.Prelude.{Network, Ends, end-lt, flip, other-end, ends-two, edge-some, State}
 use Rattle.protocol.specs.Prelude.{top, top-none, In, all-in, at2, GL, DK, Inf, Inv}
 use Rattle.protocol.specs.Decisions.{HalfOk, RootOk}
 use Rattle.protocol_budget.specs.Paid.{Dues, Paid}
@@ -22,7 +22,7 @@ dues-drop {fr = fr} {dk = dk} {rt = rt} v d h = record {
     at w n = upd-other rt v 0 w n
 
 -- v sends Connect over k, which is not Rejected at v; no Initiate is on its way to v
-module _ {p : Plan} {z n : ℕ} {s : State} (i : Inv p s) (h : Paid p z s n) {v k y : ℕ} (l : ℕ) (ends : Ends p k v y) (one : 1 ≤ h.rt v) (here : h.tb v ≡ s.lev v)
+module _ {p : Network} {z n : ℕ} {s : State} (i : Inv p s) (h : Paid p z s n) {v k y : ℕ} (l : ℕ) (ends : Ends p k v y) (one : 1 ≤ h.rt v) (here : h.tb v ≡ s.lev v)
     (quiet : (a f x : ℕ) → ¬ In (initiate a f x) (s.ch y k)) (fair : s.mark v k ≢ 2) where
   a-connect : Neutral (connect l)
   a-connect = record { no-init = refl; no-test = refl; no-yes = refl }
@@ -66,7 +66,7 @@ module _ {p : Plan} {z n : ℕ} {s : State} (i : Inv p s) (h : Paid p z s n) {v 
       rejected w j o = upd2-elim (λ a. a ≡ 2) s.mark v k 1 w j (λ a b. absurd (fair (at2 s.mark a b ∙ o))) (λ d. o)
 
 -- two fragments of one level become one of the next
-module _ {p : Plan} {z n : ℕ} {s : State} (h : Paid p z s n) {v y : ℕ} (k : ℕ) (below : (w : ℕ) → h.tb w ≤ GL s w) (alike : GL s y ≡ GL s v) where
+module _ {p : Network} {z n : ℕ} {s : State} (h : Paid p z s n) {v y : ℕ} (k : ℕ) (below : (w : ℕ) → h.tb w ≤ GL s w) (alike : GL s y ≡ GL s v) where
   abbrev S′ : State
   S′ = merged s v y k
 
@@ -110,7 +110,7 @@ module _ {p : Plan} {z n : ℕ} {s : State} (h : Paid p z s n) {v y : ℕ} (k : 
 
 -- ---- waking
 
-module _ {p : Plan} {z n : ℕ} {s : State} (i : Inv p s) (h : Paid p z s n) {v k y : ℕ} (ends : Ends p k v y) (asleep : s.st v ≡ 0) where
+module _ {p : Network} {z n : ℕ} {s : State} (i : Inv p s) (h : Paid p z s n) {v k y : ℕ} (ends : Ends p k v y) (asleep : s.st v ≡ 0) where
   level : GL s v ≡ 0
   level = i.G6.g6 v asleep .g6g
 
@@ -138,7 +138,7 @@ module _ {p : Plan} {z n : ℕ} {s : State} (i : Inv p s) (h : Paid p z s n) {v 
 
 -- ---- procedure change-root, over a best edge that is no branch
 
-module _ {p : Plan} {z n : ℕ} {s : State} (i : Inv p s) (h : Paid p z s n) {v k y : ℕ} (oo : s.oo ≡ suc v) (ends : Ends p k v y) (best : s.be v ≡ k) (branch : s.mark v k ≢ 1) where
+module _ {p : Network} {z n : ℕ} {s : State} (i : Inv p s) (h : Paid p z s n) {v k y : ℕ} (oo : s.oo ≡ suc v) (ends : Ends p k v y) (best : s.be v ≡ k) (branch : s.mark v k ≢ 1) where
   rooting : RootOk p s.fr s.gl s.lev s.ib s.ub s.bw s.mark v
   rooting = i.D3.d3 v (i.D3.f5r v oo)
 

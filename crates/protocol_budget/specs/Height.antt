@@ -1,12 +1,12 @@
 -- The level that a node will have; channels after a message was taken or sent that is no Initiate.
 use Rattle.protocol.specs.Prelude.{ℕ, _≤_, _<_, arith, _≡_, refl, sym, ap, subst, _∙_, _⊎_, ⊎-elim, by-eq}
-use Rattle.protocol.specs.Prelude.{List, _∷_, upd, upd-elim, upd-same, upd-other, upd2, Msg, none, initiate, Plan, Ends, flip, State, isI, isT, isY, top, In, snoc}
+use Rattle.protocol.specs.Prelude.{List, _∷_, upd, upd-elim, upd-same, upd-other, upd2, Msg, none, initiate, Network, Ends, flip, State, isI, isT, isY, top, In, snoc}
 use Rattle.protocol.specs.Prelude.{top-none, top-in, top-max, pop-top, snoc-top, pop-sum, snoc-sum, GL, Inf, Inv, no-initiate}
 use Rattle.protocol_budget.specs.Paid.{Heights, Dues, Tries, Links, Paid, heights-same, links-same}
 
 -- ---- the same tables, in another state
 
-pub keep : {p : Plan} {z n : ℕ} {s : State} (h : Paid p z s n) (s′ : State) → Heights p s′.lev s′.ub s′.ch (h.tb) → Dues s′.lev s′.fr s′.gl s′.due s′.dk s′.dn s′.dep (h.tb) (h.rp) (h.rt)
+pub keep : {p : Network} {z n : ℕ} {s : State} (h : Paid p z s n) (s′ : State) → Heights p s′.lev s′.ub s′.ch (h.tb) → Dues s′.lev s′.fr s′.gl s′.due s′.dk s′.dn s′.dep (h.tb) (h.rp) (h.rt)
     → Tries z s′.lev s′.fr s′.gl s′.due (h.tb) (h.ts) s′.ot → Links p z s′.lev s′.te s′.mark s′.ch s′.ot (h.ts) (h.lk) → Paid p z s′ n
 keep h s′ a b c d = record { tb = h.tb; rp = h.rp; ts = h.ts; rt = h.rt; lk = h.lk; H = a; D = b; T = c; L = d; bal = h.bal }
 
@@ -18,24 +18,24 @@ pub record Neutral (m : Msg) : Type 0 where
   pub no-test : isT m ≡ 0
   pub no-yes : isY m ≡ 0
 
-pub heights-pop : {p : Plan} {lev ub tb : ℕ → ℕ} (ch : ℕ → ℕ → List Msg) (u k : ℕ) {m : Msg} {r : List Msg} → ch u k ≡ m ∷ r → isI m ≡ 0
+pub heights-pop : {p : Network} {lev ub tb : ℕ → ℕ} (ch : ℕ → ℕ → List Msg) (u k : ℕ) {m : Msg} {r : List Msg} → ch u k ≡ m ∷ r → isI m ≡ 0
     → Heights p lev ub ch tb → Heights p lev ub (upd2 ch u k r) tb
 heights-pop ch u k {m} {r} q z h = heights-same (upd2 ch u k r) (pop-top ch u k m z q) h
 
-pub heights-send : {p : Plan} {lev ub tb : ℕ → ℕ} (ch : ℕ → ℕ → List Msg) (v k : ℕ) (m : Msg) → isI m ≡ 0 → Heights p lev ub ch tb → Heights p lev ub (snoc ch v k m) tb
+pub heights-send : {p : Network} {lev ub tb : ℕ → ℕ} (ch : ℕ → ℕ → List Msg) (v k : ℕ) (m : Msg) → isI m ≡ 0 → Heights p lev ub ch tb → Heights p lev ub (snoc ch v k m) tb
 heights-send ch v k m z h = heights-same (snoc ch v k m) (snoc-top ch v k m z) h
 
-pub links-pop : {p : Plan} {z ot : ℕ} {lev te ts lk : ℕ → ℕ} {mark : ℕ → ℕ → ℕ} (ch : ℕ → ℕ → List Msg) (u k : ℕ) {m : Msg} {r : List Msg} → ch u k ≡ m ∷ r → Neutral m
+pub links-pop : {p : Network} {z ot : ℕ} {lev te ts lk : ℕ → ℕ} {mark : ℕ → ℕ → ℕ} (ch : ℕ → ℕ → List Msg) (u k : ℕ) {m : Msg} {r : List Msg} → ch u k ≡ m ∷ r → Neutral m
     → Links p z lev te mark ch ot ts lk → Links p z lev te mark (upd2 ch u k r) ot ts lk
 links-pop ch u k {r = r} q n l = links-same (upd2 ch u k r) (pop-sum ch u k q isT (n.no-test)) (pop-sum ch u k q isY (n.no-yes)) l
 
-pub links-send : {p : Plan} {z ot : ℕ} {lev te ts lk : ℕ → ℕ} {mark : ℕ → ℕ → ℕ} (ch : ℕ → ℕ → List Msg) (v k : ℕ) (m : Msg) → Neutral m
+pub links-send : {p : Network} {z ot : ℕ} {lev te ts lk : ℕ → ℕ} {mark : ℕ → ℕ → ℕ} (ch : ℕ → ℕ → List Msg) (v k : ℕ) (m : Msg) → Neutral m
     → Links p z lev te mark ch ot ts lk → Links p z lev te mark (snoc ch v k m) ot ts lk
 links-send ch v k m n l = links-same (snoc ch v k m) (snoc-sum ch v k m isT (n.no-test)) (snoc-sum ch v k m isY (n.no-yes)) l
 
 -- ---- the level that a node will have
 
-module _ {p : Plan} {s : State} (i : Inv p s) {tb : ℕ → ℕ} (h : Heights p s.lev s.ub s.ch tb) where
+module _ {p : Network} {s : State} (i : Inv p s) {tb : ℕ → ℕ} (h : Heights p s.lev s.ub s.ch tb) where
   -- with no Initiate on its way: the level that it has
   pub tb-none : (v : ℕ) → ((k u l f x : ℕ) → Ends p k u v → s.ub v ≡ k → ¬ In (initiate l f x) (s.ch u k)) → tb v ≡ s.lev v
   tb-none v n = by-eq (s.ub v) none (λ z. h.tb0 v z)

@@ -2,14 +2,14 @@
 -- A node that is about to reach a level brings 5: its Initiate, its Report, a Test with its Accept, and a Change-root or Connect.
 use Rattle.protocol.specs.Prelude.{ℕ, suc, _+_, _*_, _≤_, _<_, arith, _≡_, sym, ap, _∙_, _≢_, _⊎_}
 use Rattle.protocol.specs.Prelude.{List, [], _∷_, eqb, eqb-same, eqb-diff, bit, by-eq, sum, sumL, Msg, none, connect, initiate, test, accept, reject, report, change}
-use Rattle.protocol.specs.Prelude.{Plan, Ends, State, isT, isA, isY, top, Awaits}
+use Rattle.protocol.specs.Prelude.{Network, Ends, State, isT, isA, isY, top, Awaits}
 
 -- the Tests of level z from w over k
 abbrev pub LT : ℕ → (ℕ → ℕ) → (ℕ → ℕ → List Msg) → ℕ → ℕ → ℕ
 LT z lev ch w k = sumL isT (ch w k) * bit (eqb (lev w) z)
 
 -- tb: the level that a node has, or will have once it has served the Initiates on their way to it
-pub record Heights (p : Plan) (lev ub : ℕ → ℕ) (ch : ℕ → ℕ → List Msg) (tb : ℕ → ℕ) : Type 0 where
+pub record Heights (p : Network) (lev ub : ℕ → ℕ) (ch : ℕ → ℕ → List Msg) (tb : ℕ → ℕ) : Type 0 where
   pub tb0 : (v : ℕ) → ub v ≡ none → tb v ≡ lev v
   pub tb1 : (k u v : ℕ) → Ends p k u v → ub v ≡ k → tb v ≡ top (lev v) (ch u k)
 
@@ -30,7 +30,7 @@ pub record Tries (z : ℕ) (lev fr gl due tb ts : ℕ → ℕ) (ot : ℕ) : Type
   pub ts2 : (v : ℕ) → ot ≡ suc v → 2 ≤ ts v
 
 -- lk: for a Test and its Reject over an edge
-pub record Links (p : Plan) (z : ℕ) (lev te : ℕ → ℕ) (mark : ℕ → ℕ → ℕ) (ch : ℕ → ℕ → List Msg) (ot : ℕ) (ts lk : ℕ → ℕ) : Type 0 where
+pub record Links (p : Network) (z : ℕ) (lev te : ℕ → ℕ) (mark : ℕ → ℕ → ℕ) (ch : ℕ → ℕ → List Msg) (ot : ℕ) (ts lk : ℕ → ℕ) : Type 0 where
   -- a node that waits below the last level: its Test is paid, and one more for the Accept
   pub ts3 : (k v u : ℕ) → Ends p k v u → Awaits te ot v k → lev v ≢ z → 2 ≤ ts v + sumL isT (ch v k) + 2 * sumL isY (ch u k)
   -- an edge that may be rejected; a Test at the last level is paid by its edge
@@ -38,7 +38,7 @@ pub record Links (p : Plan) (z : ℕ) (lev te : ℕ → ℕ) (mark : ℕ → ℕ
   pub lk2 : (k x y : ℕ) → Ends p k x y → Awaits te ot x k → 1 ≤ sumL isT (ch x k) → 2 ≤ lk k + LT z lev ch x k + LT z lev ch y k
 
 -- n messages have been sent
-pub record Paid (p : Plan) (z : ℕ) (s : State) (n : ℕ) : Type 0 where
+pub record Paid (p : Network) (z : ℕ) (s : State) (n : ℕ) : Type 0 where
   pub tb : ℕ → ℕ
   pub rp : ℕ → ℕ
   pub ts : ℕ → ℕ
@@ -81,11 +81,11 @@ yes-le (change ∷ c) = omega (arith, yes-le c)
 
 -- ---- channels with the same Tests, Accepts and Initiates
 
-pub heights-same : {p : Plan} {lev ub tb : ℕ → ℕ} {ch : ℕ → ℕ → List Msg} (c′ : ℕ → ℕ → List Msg) → ((n w j : ℕ) → top n (c′ w j) ≡ top n (ch w j))
+pub heights-same : {p : Network} {lev ub tb : ℕ → ℕ} {ch : ℕ → ℕ → List Msg} (c′ : ℕ → ℕ → List Msg) → ((n w j : ℕ) → top n (c′ w j) ≡ top n (ch w j))
     → Heights p lev ub ch tb → Heights p lev ub c′ tb
 heights-same {lev} c′ same h = record { tb0 = h.tb0; tb1 = λ k u v e q. h.tb1 k u v e q ∙ sym (same (lev v) u k) }
 
-pub links-same : {p : Plan} {z ot : ℕ} {lev te ts lk : ℕ → ℕ} {mark : ℕ → ℕ → ℕ} {ch : ℕ → ℕ → List Msg} (c′ : ℕ → ℕ → List Msg)
+pub links-same : {p : Network} {z ot : ℕ} {lev te ts lk : ℕ → ℕ} {mark : ℕ → ℕ → ℕ} {ch : ℕ → ℕ → List Msg} (c′ : ℕ → ℕ → List Msg)
     → ((w j : ℕ) → sumL isT (c′ w j) ≡ sumL isT (ch w j)) → ((w j : ℕ) → sumL isY (c′ w j) ≡ sumL isY (ch w j))
     → Links p z lev te mark ch ot ts lk → Links p z lev te mark c′ ot ts lk
 links-same {z} {lev} {ch = ch} c′ t y l = record {

@@ -1,14 +1,14 @@
 -- An Initiate in answer to a Connect: its receiver u will have a higher level, which pays for the Initiate and for all that u may send at that level.
 use Rattle.protocol.specs.Prelude.{ℕ, _+_, _*_, _≤_, _<_, arith, _≡_, refl, sym, ap, subst, _∙_, _≢_, _⊎_, inl, inr, ⊎-elim, by-eq}
 use Rattle.protocol.specs.Prelude.{List, [], _∷_, _++_, sumL, upd, upd-elim, upd-same, upd-other, upd2, sum-upd, Msg, connect, initiate}
-use Rattle.protocol.specs.Prelude.{Plan, Ends, end-lt, flip, ends-same, other-end, edge-some, State}
+use Rattle.protocol.specs.Prelude.{Network, Ends, end-lt, flip, ends-same, other-end, edge-some, State}
 use Rattle.protocol.specs.Prelude.{isT, isY, top, top-app, pop-top, In, snoc, snoc-sum, snoc-else, snoc-elim, pop-head, pop-sum, at2, GL, GC, Jn, Inv}
 use Rattle.protocol_budget.specs.Paid.{Heights, Links, Paid, links-same}
 use Rattle.protocol_budget.specs.Height.{tb-none}
 use Rattle.protocol.specs.Prelude.{send, pop, in-sum, isC}
 
 -- what is known of the new tables
-pub record Raised (p : Plan) (z : ℕ) (s : State) (n u : ℕ) (tb : ℕ → ℕ) : Type 0 where
+pub record Raised (p : Network) (z : ℕ) (s : State) (n u : ℕ) (tb : ℕ → ℕ) : Type 0 where
   pub paid : Paid p z s n
   pub one-rp : 1 ≤ paid.rp u
   pub two-ts : 2 ≤ paid.ts u
@@ -16,7 +16,7 @@ pub record Raised (p : Plan) (z : ℕ) (s : State) (n u : ℕ) (tb : ℕ → ℕ
   pub else-tb : (w : ℕ) → u ≢ w → paid.tb w ≡ tb w
 
 -- Connect from u at v over k is answered by Initiate (b, f, x), which is above the level that u was to have
-module _ {p : Plan} {z n : ℕ} {s : State} (i : Inv p s) (h : Paid p z s n) {u v k l : ℕ} {r : List Msg} (b f x : ℕ) (ends : Ends p k u v) (q : s.ch u k ≡ connect l ∷ r)
+module _ {p : Network} {z n : ℕ} {s : State} (i : Inv p s) (h : Paid p z s n) {u v k l : ℕ} {r : List Msg} (b f x : ℕ) (ends : Ends p k u v) (q : s.ch u k ≡ connect l ∷ r)
     (inbound : s.ub u ≡ k) (above : h.tb u < b) where
   abbrev c₁ : ℕ → ℕ → List Msg
   c₁ = upd2 s.ch u k r
@@ -92,7 +92,7 @@ module _ {p : Plan} {z n : ℕ} {s : State} (i : Inv p s) (h : Paid p z s n) {u 
 
 -- ---- over the core
 
-module _ {p : Plan} {z n : ℕ} {s : State} (i : Inv p s) (h : Paid p z s n) {u v k l : ℕ} {r : List Msg} (ends : Ends p k u v) (q : s.ch u k ≡ connect l ∷ r) where
+module _ {p : Network} {z n : ℕ} {s : State} (i : Inv p s) (h : Paid p z s n) {u v k l : ℕ} {r : List Msg} (ends : Ends p k u v) (q : s.ch u k ≡ connect l ∷ r) where
   head : In (connect l) (s.ch u k)
   head = pop-head s.ch u k q
 

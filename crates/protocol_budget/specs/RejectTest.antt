@@ -1,7 +1,7 @@
 -- A rejected Test: the edge pays for Test and Reject, and the sender may test again.
 use Rattle.protocol.specs.Prelude.{ℕ, _+_, _*_, _≤_, arith, _≡_, refl, sym, ap, _∙_, _≢_, _⊎_, inl, inr, ⊎-elim, by-eq}
 use Rattle.protocol.specs.Prelude.{List, _∷_, sumL, upd, upd-elim, upd-other, upd2, sum-upd, Msg, test, reject}
-use Rattle.protocol.specs.Prelude.{Plan, Ends, end-lt, joins-lt, same-edge, State, Idle, Strike, send, pop, marked}
+use Rattle.protocol.specs.Prelude.{Network, Ends, end-lt, joins-lt, same-edge, State, Idle, Strike, send, pop, marked}
 use Rattle.protocol.specs.Prelude.{isT, isA, isY, In, pop-head, pop-sum, here-new, snoc, snoc-sum, Inf, Waits, Inv}
 use Rattle.protocol_budget.specs.Paid.{LT, Links, Paid, lt-last, lt-else, lt-none, lt-same, yes-le}
 use Rattle.protocol_budget.specs.Height.{heights-pop, heights-send, tb-inf}
@@ -10,7 +10,7 @@ use Rattle.protocol_search.specs.Own as O
 use Rattle.protocol_search.specs.Answer as W
 use Rattle.protocol_search.specs.Strike.{struck, up2, dn0, dn-other}
 
-module _ {p : Plan} {z n : ℕ} {s : State} (i : Inv p s) (h : Paid p z s n) {u v k l f c : ℕ} {r : List Msg} (idle : Idle s) (ends : Ends p k u v)
+module _ {p : Network} {z n : ℕ} {s : State} (i : Inv p s) (h : Paid p z s n) {u v k l f c : ℕ} {r : List Msg} (idle : Idle s) (ends : Ends p k u v)
     (awake : s.st v ≢ 0) (q : s.ch u k ≡ test l f ∷ r) (low : l ≤ s.lev v) (same : s.id v ≡ f) (other : s.te v ≢ k) (strike : Strike s v k c) where
   abbrev c₁ : ℕ → ℕ → List Msg
   c₁ = upd2 s.ch u k r

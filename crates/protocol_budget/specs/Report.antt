@@ -1,13 +1,13 @@
 -- A Report is paid from rp, a Change-root from rt.
 use Rattle.protocol.specs.Prelude.{ℕ, suc, _+_, _≤_, _<_, arith, _≡_, refl, sym, ap, subst, _∙_, _≢_, _⊎_, ⊎-elim, by-eq}
 use Rattle.protocol.specs.Prelude.{upd, upd-elim, upd-same, upd-other, sum-upd, none, report, change}
-use Rattle.protocol.specs.Prelude.{Plan, Ends, end-lt, State}
+use Rattle.protocol.specs.Prelude.{Network, Ends, end-lt, State}
 use Rattle.protocol.specs.Prelude.{snoc, top, top-none, GL, Inf, Inv}
 use Rattle.protocol_budget.specs.Paid.{Heights, Paid}
 use Rattle.protocol_budget.specs.Height.{heights-send, links-send, tb-inf}
 use Rattle.protocol.specs.Prelude.{set-ub, set-oo, send, decided, reported, no-initiate}
 
-module _ {p : Plan} {z n : ℕ} {s : State} (i : Inv p s) (h : Paid p z s n) where
+module _ {p : Network} {z n : ℕ} {s : State} (i : Inv p s) (h : Paid p z s n) where
   pub paid-report-now : {v k u : ℕ} → s.op ≡ suc v → Ends p k v u → Paid p z (reported s v k) (n + 1)
   paid-report-now {v} {k} {u} op ends =
       let f = i.F1.f1 v (i.F2.f5p v op) in

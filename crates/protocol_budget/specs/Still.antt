@@ -1,7 +1,7 @@
 -- Steps that send nothing and change no table of the budget.
 use Rattle.protocol.specs.Prelude.{ℕ, suc, _-_, _*_, eqb, bit, _≤_, _<_, arith, _≡_, refl, sym, ap, subst, _∙_, _≢_, _⊎_, inl, inr, ⊎-elim, by-eq}
 use Rattle.protocol.specs.Prelude.{List, _∷_, _++_, sumL, upd, upd2, Msg, none, accept, report, change}
-use Rattle.protocol.specs.Prelude.{Plan, Ends, key, flip, other-end, State, Idle, Blocked, Better, set-st, set-te, set-fc, set-halt, set-dk, set-owe, set-ot, set-op, bested, rooted, pop, woken, woken-same}
+use Rattle.protocol.specs.Prelude.{Network, Ends, key, flip, other-end, State, Idle, Blocked, Better, set-st, set-te, set-fc, set-halt, set-dk, set-owe, set-ot, set-op, bested, rooted, pop, woken, woken-same}
 use Rattle.protocol.specs.Prelude.{isT, isY, rot-top, pop-head, pop-sum, else-same, rot-sum, GL, DK, Inv}
 use Rattle.protocol_budget.specs.Paid.{Paid, heights-same, links-same}
 use Rattle.protocol_budget.specs.Height.{keep, Neutral, heights-pop, links-pop, dues-decide, dues-finish}
@@ -9,7 +9,7 @@ use Rattle.protocol_search.specs.Back.{not-initiate}
 use Rattle.protocol_search.specs.Accepted as A
 use Rattle.protocol_search.specs.TestNone as N
 
-module _ {p : Plan} {z n : ℕ} {s : State} (i : Inv p s) (h : Paid p z s n) where
+module _ {p : Network} {z n : ℕ} {s : State} (i : Inv p s) (h : Paid p z s n) where
   pub paid-report-later : Paid p z (set-op s 0) n
   paid-report-later = keep h (set-op s 0) (h.H) (h.D) (h.T) (h.L)
 

@@ -1,14 +1,14 @@
 -- An Initiate at v: each child that gets a copy will have a higher level, which pays for the copy and for all that the child may send at that level.
 use Rattle.protocol.specs.Prelude.{ℕ, _+_, _*_, eqb, bit, cond, Bool, true, false, _≤_, _<_, arith, _≡_, refl, sym, ap, subst, _∙_, _≢_, inl, inr, ⊎-elim, by-eq, bool-cases}
 use Rattle.protocol.specs.Prelude.{List, [], _∷_, _++_, sum, sum-le, sum-add, sumL, upd-same, upd-other, upd2, Msg, initiate}
-use Rattle.protocol.specs.Prelude.{Plan, Ends, end-lt, flip, ends-same, other-end, ends-two, ends-irr, edge-some, State, Idle, Mode, Place, pop, informed}
+use Rattle.protocol.specs.Prelude.{Network, Ends, end-lt, flip, ends-same, other-end, ends-two, ends-irr, edge-some, State, Idle, Mode, Place, pop, informed}
 use Rattle.protocol.specs.Prelude.{isT, isY, top, top-app, In, fan, fan-elim, fan-sum, fan-else, copy, copy-yes, pop-head, pop-sum, else-same, here-new, at2, no-tests, GL, DK, Waits, Inv, no-root, low-find, changing-of}
 use Rattle.protocol.specs.Traffic.{InitOk}
 use Rattle.protocol_budget.specs.Paid.{LT, Heights, Dues, Tries, Links, Paid, lt-none, lt-same}
 use Rattle.protocol_budget.specs.Height.{tb-le, tb-init}
 use Rattle.protocol_budget.specs.Pick.{sum-map, sum-times}
 
-module _ {p : Plan} {z n : ℕ} {s : State} (i : Inv p s) (h : Paid p z s n) {u v k l f x a b d e : ℕ} {r : List Msg} (idle : Idle s) (ends : Ends p k u v)
+module _ {p : Network} {z n : ℕ} {s : State} (i : Inv p s) (h : Paid p z s n) {u v k l f x a b d e : ℕ} {r : List Msg} (idle : Idle s) (ends : Ends p k u v)
     (q : s.ch u k ≡ initiate l f x ∷ r) (mode : Mode v x a b) (place : Place s u v k d e) where
   abbrev s₁ : State
   s₁ = pop s u k r

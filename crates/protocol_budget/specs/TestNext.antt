@@ -1,14 +1,14 @@
 -- Procedure test sends a Test: v pays, or at the last level the edge.
 use Rattle.protocol.specs.Prelude.{ℕ, suc, _+_, _-_, _≤_, arith, _≡_, refl, sym, ap, subst, _∙_, _≢_, _⊎_, inl, inr, ⊎-elim, by-eq}
 use Rattle.protocol.specs.Prelude.{List, sumL, upd, upd-same, upd-other, sum-upd, Msg, test}
-use Rattle.protocol.specs.Prelude.{Plan, Ends, end-lt, joins-lt, flip, other-end, same-edge, ends-irr, State, FirstBasic}
+use Rattle.protocol.specs.Prelude.{Network, Ends, end-lt, joins-lt, flip, other-end, same-edge, ends-irr, State, FirstBasic}
 use Rattle.protocol.specs.Prelude.{isT, isY, snoc, snoc-sum, snoc-here, snoc-else, GL, Inf, Waits, Inv}
 use Rattle.protocol_budget.specs.Paid.{LT, Paid, lt-last, lt-else, lt-none, lt-le, lt-same}
 use Rattle.protocol_budget.specs.Height.{heights-send}
 use Rattle.protocol.specs.Prelude.{set-te, set-ot, send}
 use Rattle.protocol_search.specs.TestNext as N
 
-module _ {p : Plan} {z n : ℕ} {s : State} (i : Inv p s) (h : Paid p z s n) {v k u : ℕ} (ot : s.ot ≡ suc v) (op : s.op ≡ 0) (oo : s.oo ≡ 0) (ends : Ends p k v u) (first : FirstBasic p s v k) where
+module _ {p : Network} {z n : ℕ} {s : State} (i : Inv p s) (h : Paid p z s n) {v k u : ℕ} (ot : s.ot ≡ suc v) (op : s.op ≡ 0) (oo : s.oo ≡ 0) (ends : Ends p k v u) (first : FirstBasic p s v k) where
   abbrev m : Msg
   m = test (s.lev v) (s.id v)
 

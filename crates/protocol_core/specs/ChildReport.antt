@@ -2,7 +2,7 @@
 use Rattle.protocol.specs.Prelude.{ℕ, suc, _-_, _≤_, arith, _≡_, refl, sym, ap, subst, _∙_, _≢_, _⊎_, inl, inr, ⊎-elim, by-eq}
 use Rattle.protocol.specs.Prelude.{List, _∷_, upd, upd-elim, upd-other, upd2, upd2-elim, sumL, sum, sum-row, row-else}
 use Rattle.protocol.specs.Prelude.{Msg, none, report}
-use Rattle.protocol.specs.Prelude.{Plan, Ends, key, rank, joins-lt, flip, ends-two, other-end}
+use Rattle.protocol.specs.Prelude.{Network, Ends, key, rank, joins-lt, flip, ends-two, other-end}
 use Rattle.protocol.specs.Prelude.{State, Idle, Better, pop, bested, set-ch, set-fc, set-owe, set-op}
 use Rattle.protocol.specs.Prelude.{isR, kinds, In, else-same, pop-in, in-pop, pop-le, pop-all}
 use Rattle.protocol.specs.Prelude.{GL, GC, Inf, Jn, Outst, Live, Covered, Child, Inv, no-root, reports-same, reports-best, take-alike, outst-ch, live-ch, last}
@@ -13,7 +13,7 @@ use Rattle.protocol.specs.Weigh.{Leaves}
 use Rattle.protocol_core.specs.Late.{Kept, late-report, kept}
 use Rattle.protocol_core.specs.Core as C
 
-module _ {p : Plan} {s : State} (i : Inv p s) {u v k w b e : ℕ} {r : List Msg} (idle : Idle s) (ends : Ends p k u v) (q : s.ch u k ≡ report w ∷ r)
+module _ {p : Network} {s : State} (i : Inv p s) {u v k w b e : ℕ} {r : List Msg} (idle : Idle s) (ends : Ends p k u v) (q : s.ch u k ≡ report w ∷ r)
     (away : s.ib v ≢ k) (better : Better p s v w k b e) where
   abbrev S′ : State
   S′ = set-op (set-owe (set-fc (bested (pop s u k r) v b e) (upd s.fc v (s.fc v - 1))) (upd2 s.owe v k 0)) (suc v)

@@ -2,11 +2,11 @@
 -- if v is not Find, the fragment is quiet, and only the best weights of the two ends still count.
 use Rattle.protocol.specs.Prelude.{ℕ, _≤_, _<_, arith, _≡_, refl, sym, ap, subst, _∙_, _≢_, _⊎_, inl, inr, ⊎-elim, by-eq}
 use Rattle.protocol.specs.Prelude.{List, _∷_, sumL, Msg, none, initiate, report}
-use Rattle.protocol.specs.Prelude.{Plan, Ends, key, rank, flip, same-edge, State, Idle, key-none, key-edge, rank-lt}
+use Rattle.protocol.specs.Prelude.{Network, Ends, key, rank, flip, same-edge, State, Idle, key-none, key-edge, rank-lt}
 use Rattle.protocol.specs.Prelude.{isCI, isR, kinds, In, in-sum, le-sum, joins-lt, Bef, bef-before, in-cons, heads, upd2, at2, here-new, pop-head, pop-in, none-in, no-calls, some-report, set-dk}
 use Rattle.protocol.specs.Prelude.{GL, GC, DK, Inf, Jn, Live, Child, CoreEnds, Spent, Inv, inf-found, te-find, up-other, no-find, no-due, rest-none, no-connect, no-initiate}
 
-module _ {p : Plan} {s : State} (i : Inv p s) {u v k w : ℕ} {r : List Msg} (ends : Ends p k u v) (q : s.ch u k ≡ report w ∷ r) where
+module _ {p : Network} {s : State} (i : Inv p s) {u v k w : ℕ} {r : List Msg} (ends : Ends p k u v) (q : s.ch u k ≡ report w ∷ r) where
   pub head : In (report w) (s.ch u k)
   head = pop-head s.ch u k q
 

@@ -1,7 +1,7 @@
 -- Report none from u at v over v's in-branch k, v not Find with best none: v halts, and the fragment is finished.
 use Rattle.protocol.specs.Prelude.{ℕ, _≤_, arith, _≡_, refl, sym, ap, subst, _∙_, _≢_, inl, inr, ⊎-elim, by-eq}
 use Rattle.protocol.specs.Prelude.{List, _∷_, upd, upd-elim, upd-same, upd-other, upd2, Msg, none, report}
-use Rattle.protocol.specs.Prelude.{Plan, Ends, key, flip, same-edge, ends-irr, State, Idle, pop, set-halt, set-dk}
+use Rattle.protocol.specs.Prelude.{Network, Ends, key, flip, same-edge, ends-irr, State, Idle, pop, set-halt, set-dk}
 use Rattle.protocol.specs.Prelude.{isR, In, else-same, pop-in, pop-bef, none-in, some-report}
 use Rattle.protocol.specs.Prelude.{GL, GC, DK, Inf, CoreEnds, Spent, Inv, joined-level, decided-find, decided-report, no-root}
 use Rattle.protocol_core.specs.Late.{late-report}
@@ -9,7 +9,7 @@ use Rattle.protocol_core.specs.Core as C
 use Rattle.protocol_core.specs.Rule.{Done, Ruling, inv-rule}
 
 -- the fragment of the core end v is finished, or about to be; u is the other end, c′ are the channels, S′ the state afterwards
-record Ending (p : Plan) (s : State) (u v k : ℕ) (c′ : ℕ → ℕ → List Msg) (S′ : State) : Type 0 where
+record Ending (p : Network) (s : State) (u v k : ℕ) (c′ : ℕ → ℕ → List Msg) (S′ : State) : Type 0 where
   core : GC s v ≡ k
   fresh : DK s v ≢ 3
   changing : DK s v ≢ 2
@@ -25,7 +25,7 @@ record Ending (p : Plan) (s : State) (u v k : ℕ) (c′ : ℕ → ℕ → List 
   -- every Report that is left is spent
   spent : (j a b n : ℕ) → Ends p j a b → s.fr a ≡ s.fr v → In (report n) (c′ a j) → Spent p S′ a b j n
 
-module _ {p : Plan} {s : State} (i : Inv p s) {u v k w : ℕ} {r : List Msg} (idle : Idle s) (ends : Ends p k u v) (q : s.ch u k ≡ report w ∷ r)
+module _ {p : Network} {s : State} (i : Inv p s) {u v k w : ℕ} {r : List Msg} (idle : Idle s) (ends : Ends p k u v) (q : s.ch u k ≡ report w ∷ r)
     (ib : s.ib v ≡ k) (found : s.st v ≢ 1) (wn : w ≡ none) (bn : s.bw v ≡ none) where
   abbrev S′ : State
   S′ = set-halt (set-dk (pop s u k r) (upd s.dk (s.fr v) 4)) (upd s.halt v 1)

@@ -1,14 +1,14 @@
 -- Report w from u at v over v's in-branch k, v not Find, w not later than v's best: nothing but the Report goes.
 use Rattle.protocol.specs.Prelude.{ℕ, _≤_, _<_, arith, _≡_, refl, sym, ap, subst, _∙_, _≢_, _⊎_, inl, inr, ⊎-elim, by-eq}
 use Rattle.protocol.specs.Prelude.{List, _∷_, upd2, sumL, Msg, none, report}
-use Rattle.protocol.specs.Prelude.{Plan, Ends, key, flip, ends-two, other-end, ends-irr, key-none, key-edge, rank-lt, rank-inj, State, Idle, pop}
+use Rattle.protocol.specs.Prelude.{Network, Ends, key, flip, ends-two, other-end, ends-irr, key-none, key-edge, rank-lt, rank-inj, State, Idle, pop}
 use Rattle.protocol.specs.Prelude.{isR, arg1, kinds, In, else-same, pop-in, in-pop, pop-le, pop-all}
 use Rattle.protocol.specs.Prelude.{GC, DK, Inf, Jn, Outst, Live, CoreEnds, Inv, inf-cases, joined-level, up-other, reports-same, take-alike, inv-passing, outst-ch, live-ch, last}
 use Rattle.protocol.specs.Traffic.{Tokens, Owing, Bests}
 use Rattle.protocol_core.specs.Late.{Kept, late-report, kept}
 use Rattle.protocol_core.specs.Core as C
 
-module _ {p : Plan} {s : State} (i : Inv p s) {u v k w : ℕ} {r : List Msg} (idle : Idle s) (ends : Ends p k u v) (q : s.ch u k ≡ report w ∷ r)
+module _ {p : Network} {s : State} (i : Inv p s) {u v k w : ℕ} {r : List Msg} (idle : Idle s) (ends : Ends p k u v) (q : s.ch u k ≡ report w ∷ r)
     (ib : s.ib v ≡ k) (found : s.st v ≢ 1) (le : key p w ≤ key p (s.bw v)) (some : (w ≢ none) ⊎ (s.bw v ≢ none)) where
   abbrev S′ : State
   S′ = pop s u k r

@@ -1,13 +1,13 @@
 -- A Report or a Change-root, the head of the channel from u over k, makes v execute procedure change-root.
 use Rattle.protocol.specs.Prelude.{ℕ, suc, arith, _≡_, refl, sym, ap, subst, _∙_, _≢_, inl, ⊎-elim, by-eq}
 use Rattle.protocol.specs.Prelude.{List, _∷_, upd, upd-same, upd-other, upd2, sumL, Msg, none, report, change}
-use Rattle.protocol.specs.Prelude.{Plan, Ends, key, flip, other-end, State, Idle, pop, rooted, isR, In, pop-in, pop-bef}
+use Rattle.protocol.specs.Prelude.{Network, Ends, key, flip, other-end, State, Idle, pop, rooted, isR, In, pop-in, pop-bef}
 use Rattle.protocol.specs.Prelude.{DK, Inf, Bounds, Rooting, Spent, Inv, no-root}
 use Rattle.protocol.specs.Decisions.{RootOk, Rootings}
 use Rattle.protocol_core.specs.Late.{Late}
 use Rattle.protocol_core.specs.Rule.{Ruling, inv-rule}
 
-pub record Ready (p : Plan) (s : State) (u v k : ℕ) (r : List Msg) : Type 0 where
+pub record Ready (p : Network) (s : State) (u v k : ℕ) (r : List Msg) : Type 0 where
   pub ends : Ends p k u v
   pub inside : s.fr u ≡ s.fr v
   -- v is informed, k is its in-branch and inbound for both ends
@@ -28,7 +28,7 @@ pub record Ready (p : Plan) (s : State) (u v k : ℕ) (r : List Msg) : Type 0 wh
   pub no-token : (j x y : ℕ) → Ends p j x y → s.fr x ≡ s.fr v → ¬ In change (upd2 s.ch u k r x j)
   pub spent : (j a b n : ℕ) → Ends p j a b → s.fr a ≡ s.fr v → In (report n) (upd2 s.ch u k r a j) → Spent p s a b j n
 
-module _ {p : Plan} {s : State} (i : Inv p s) {u v k : ℕ} {m : Msg} {r : List Msg} (idle : Idle s) (q : s.ch u k ≡ m ∷ r) (late : Late m) (h : Ready p s u v k r) where
+module _ {p : Network} {s : State} (i : Inv p s) {u v k : ℕ} {m : Msg} {r : List Msg} (idle : Idle s) (q : s.ch u k ≡ m ∷ r) (late : Late m) (h : Ready p s u v k r) where
   abbrev dk′ : ℕ → ℕ
   dk′ = upd s.dk (s.fr v) 1
 

@@ -2,7 +2,7 @@
 -- 1, v is to execute procedure change-root; 4, the fragment is finished. What differs between the two is in `Ruling`.
 use Rattle.protocol.specs.Prelude.{ℕ, _≤_, arith, _≡_, sym, ap, subst, _∙_, _≢_, _⊎_, inl, inr, ⊎-elim, by-eq}
 use Rattle.protocol.specs.Prelude.{List, _∷_, upd, upd-elim, upd-same, upd-other, upd2, sumL, Msg, none, connect, report, change}
-use Rattle.protocol.specs.Prelude.{Plan, Ends, flip, State, pop, set-ch, set-halt, set-dk, set-dn, set-oo}
+use Rattle.protocol.specs.Prelude.{Network, Ends, flip, State, pop, set-ch, set-halt, set-dk, set-dn, set-oo}
 use Rattle.protocol.specs.Prelude.{isR, All, Only, le-sum, joins-lt, In, else-same, pop-in, pop-le}
 use Rattle.protocol.specs.Prelude.{Decision, GL, GC, DK, Inf, Outst, Live, Root, Child, CoreEnds, Spent, Inv, fc-find, outst-ch, live-ch, last, reports-same, take-alike}
 use Rattle.protocol.specs.Fragments.{Ranges, Sleepers}
@@ -16,7 +16,7 @@ abbrev pub ruled : State → ℕ → ℕ → ℕ → List Msg → ℕ → (ℕ �
 ruled s u v k r d dn halt oo = set-oo (set-halt (set-dn (set-dk (pop s u k r) (upd s.dk (s.fr v) d)) dn) halt) oo
 
 -- v's fragment is finished; c′ are the channels
-pub record Done (p : Plan) (s : State) (v : ℕ) (halt : ℕ → ℕ) (c′ : ℕ → ℕ → List Msg) : Type 0 where
+pub record Done (p : Network) (s : State) (v : ℕ) (halt : ℕ → ℕ) (c′ : ℕ → ℕ → List Msg) : Type 0 where
   -- nothing is Basic in it, its core ends found nothing
   pub tight : (j x y : ℕ) → Ends p j x y → s.fr x ≡ s.fr v → s.mark x j ≢ 0
   pub nothing : (j x y : ℕ) → Ends p j x y → s.fr x ≡ s.fr v → GC s x ≡ j → Inf s x × (s.bw x ≡ none)
@@ -25,7 +25,7 @@ pub record Done (p : Plan) (s : State) (v : ℕ) (halt : ℕ → ℕ) (c′ : �
   pub halt-no : (j x y : ℕ) → Ends p j x y → s.fr x ≡ s.fr v → GC s x ≡ j → halt x ≢ 0 → ¬ In (report none) (c′ y j)
   pub halt-yes : (j x y : ℕ) → Ends p j x y → s.fr x ≡ s.fr v → GC s x ≡ j → halt x ≡ 0 → In (report none) (c′ y j)
 
-pub record Ruling (p : Plan) (s : State) (u v k : ℕ) (r : List Msg) (d : ℕ) (dn halt : ℕ → ℕ) (oo : ℕ) : Type 0 where
+pub record Ruling (p : Network) (s : State) (u v k : ℕ) (r : List Msg) (d : ℕ) (dn halt : ℕ → ℕ) (oo : ℕ) : Type 0 where
   pub inside : s.fr u ≡ s.fr v
   pub level : 1 ≤ GL s v
   pub fresh : DK s v ≢ 3
@@ -44,7 +44,7 @@ pub record Ruling (p : Plan) (s : State) (u v k : ℕ) (r : List Msg) (d : ℕ) 
   pub no-token : (j x y : ℕ) → Ends p j x y → s.fr x ≡ s.fr v → ¬ In change (upd2 s.ch u k r x j)
   pub spent : (j a b n : ℕ) → Ends p j a b → s.fr a ≡ s.fr v → In (report n) (upd2 s.ch u k r a j) → Spent p (ruled s u v k r d dn halt oo) a b j n
 
-module _ {p : Plan} {s : State} (i : Inv p s) {u v k d : ℕ} {m : Msg} {r : List Msg} {dn halt : ℕ → ℕ} {oo : ℕ} (q : s.ch u k ≡ m ∷ r) (late : Late m)
+module _ {p : Network} {s : State} (i : Inv p s) {u v k d : ℕ} {m : Msg} {r : List Msg} {dn halt : ℕ → ℕ} {oo : ℕ} (q : s.ch u k ≡ m ∷ r) (late : Late m)
     (h : Ruling p s u v k r d dn halt oo) where
   abbrev S′ : State
   S′ = ruled s u v k r d dn halt oo

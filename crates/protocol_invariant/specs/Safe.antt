@@ -1,13 +1,13 @@
 -- Why a field that was set up and then only stepped is never refused by 31 or 32: the values and messages that the invariant allows,
 -- and what holds where a response could be refused.
 use Rattle.protocol.specs.Prelude.{ℕ, suc, _+_, _≤_, _<_, arith, _≡_, ap, _≢_, by-eq, Bool, true, bit}
-use Rattle.protocol.specs.Prelude.{List, _∷_, sum, sum-le, Msg, connect, initiate, test, report, Plan, Ends, end-lt, flip, State}
+use Rattle.protocol.specs.Prelude.{List, _∷_, sum, sum-le, Msg, connect, initiate, test, report, Network, Ends, end-lt, flip, State}
 use Rattle.protocol.specs.Prelude.{Rouse, In, all-in, GL, Inv}
 use Rattle.base.specs.Log.{log2}
 use Rattle.protocol_budget.specs.Ceiling.{level}
 use Rattle.protocol_core.specs.Core.{count}
 
-module _ {p : Plan} {s : State} (i : Inv p s) where
+module _ {p : Network} {s : State} (i : Inv p s) where
   -- ---- 31: levels are at most ⌊log2 N⌋
 
   pub lev-le : (v : ℕ) → v < p.N → s.lev v ≤ log2 p.N

@@ -2,12 +2,12 @@
 use Rattle.protocol.specs.Prelude.{ℕ, suc, _≤_, arith, _≡_, refl, sym, ap, subst, _∙_, _≢_, inr, ⊎-elim, by-eq}
 use Rattle.protocol.specs.Prelude.{true, false, eqb, eqb-cases, eqb-same, eqb-diff, cut-rank}
 use Rattle.protocol.specs.Prelude.{Msg, connect, initiate, test, accept, reject, report, change}
-use Rattle.protocol.specs.Prelude.{Plan, Ends, Tree, key, rank, flip, ends-two, ends-irr, ends-key, State, First}
+use Rattle.protocol.specs.Prelude.{Network, Ends, Tree, key, rank, flip, ends-two, ends-irr, ends-key, State, First}
 use Rattle.protocol.specs.Prelude.{isCI, Only, fits-connect, In, Bounds, GL, Inv, no-waits}
 use Rattle.protocol_merge.specs.Turn.{Turn, root-ok}
 use Rattle.protocol_merge.specs.Move.{Move}
 
-pub record Leave (p : Plan) (s : State) (v k y : ℕ) : Type 0 where
+pub record Leave (p : Network) (s : State) (v k y : ℕ) : Type 0 where
   pub ends : Ends p k v y
   pub basic : s.mark v k ≡ 0
   -- it leaves the fragment, to a node of no lower level
@@ -15,7 +15,7 @@ pub record Leave (p : Plan) (s : State) (v k y : ℕ) : Type 0 where
   pub level : GL s v ≤ s.lev y
   pub bound : Bounds p s (rank p k) v
 
-module _ {p : Plan} {s : State} (i : Inv p s) {v k y : ℕ} where
+module _ {p : Network} {s : State} (i : Inv p s) {v k y : ℕ} where
   -- the earliest edge of a sleeper
   pub leave-sleeper : Ends p k v y → s.st v ≡ 0 → First p v k → Leave p s v k y
   leave-sleeper e z least =
@@ -45,7 +45,7 @@ module _ {p : Plan} {s : State} (i : Inv p s) {v k y : ℕ} where
         bound = λ u j c q f m. omega (arith, r.d3b u j c q f m, ap (key p) w, ends-key p e);
       }
 
-module _ {p : Plan} {s : State} (i : Inv p s) {v k y : ℕ} (t : Turn p s v) (h : Leave p s v k y) where
+module _ {p : Network} {s : State} (i : Inv p s) {v k y : ℕ} (t : Turn p s v) (h : Leave p s v k y) where
   -- an edge that leaves the fragment is Basic there, so not earlier
   earliest : (j a b : ℕ) → Ends p j a b → s.fr a ≡ s.fr v → s.fr b ≢ s.fr v → rank p k ≤ rank p j
   earliest j a b e q n = by-eq (s.mark a j) 0 (λ z. h.bound a j b q e z)

@@ -1,7 +1,7 @@
 -- Merge keeps the clauses that speak of tables.
 use Rattle.protocol.specs.Prelude.{ℕ, suc, _^_, _≤_, arith, _≡_, sym, ap, subst, _∙_, _≢_, inl, inr, ⊎-elim}
 use Rattle.protocol.specs.Prelude.{upd, upd-elim, upd2-elim, at2, relabel-cases}
-use Rattle.protocol.specs.Prelude.{Plan, Ends, Tree, key, rank, Way, go, join, both-joined, joins-lt, flip, same-edge, other-end, end-lt, State}
+use Rattle.protocol.specs.Prelude.{Network, Ends, Tree, key, rank, Way, go, join, both-joined, joins-lt, flip, same-edge, other-end, end-lt, State}
 use Rattle.protocol.specs.Prelude.{Both, Decision, GL, GC, DK, Half, waits-find}
 use Rattle.graph.specs.Size.{size, size-mono, level-merge}
 use Rattle.protocol.specs.Fragments.{Ranges, Levels, Sizes, Cores, Sleepers, Marks, Inbounds}
@@ -11,7 +11,7 @@ use Rattle.protocol_merge.specs.Move as M
 use Rattle.protocol_merge.specs.Unite as U
 use Rattle.protocol_merge.specs.Unite.{Ready}
 
-module _ {p : Plan} {s : State} {v k y l : ℕ} (r : Ready p s v k y l) where
+module _ {p : Network} {s : State} {v k y l : ℕ} (r : Ready p s v k y l) where
   abbrev S′ : State
   S′ = U.S′ r
 

@@ -2,7 +2,7 @@
 use Rattle.protocol.specs.Prelude.{ℕ, _+_, _≤_, arith, _≡_, refl, sym, ap, subst, _∙_, _≢_, inl, inr, ⊎-elim}
 use Rattle.protocol.specs.Prelude.{upd-other, All, sumL, at2}
 use Rattle.protocol.specs.Prelude.{Msg, connect, initiate, report}
-use Rattle.protocol.specs.Prelude.{Plan, Ends, rank, flip, State, isC, isI, isT, isA, isR, isK, arg1, Only}
+use Rattle.protocol.specs.Prelude.{Network, Ends, rank, flip, State, isC, isI, isT, isA, isR, isK, arg1, Only}
 use Rattle.protocol.specs.Prelude.{In, all-in, in-sum, snoc-in, snoc-all, snoc-here}
 use Rattle.protocol.specs.Prelude.{GL, GC, DK, Jn, Outst, Live, Covered, Child, CoreEnds, Spent}
 use Rattle.protocol.specs.Prelude.{joined-level, no-connect-decided, decided-initiate, decided-report, decided-test, waits-find, parent-find}
@@ -13,7 +13,7 @@ use Rattle.protocol_merge.specs.Unite as U
 use Rattle.protocol_merge.specs.Unite.{Ready}
 use Rattle.protocol_merge.specs.MergeTables.{old-decision, new-decision, no-root}
 
-module _ {p : Plan} {s : State} {v k y l : ℕ} (r : Ready p s v k y l) where
+module _ {p : Network} {s : State} {v k y l : ℕ} (r : Ready p s v k y l) where
   abbrev S′ : State
   S′ = U.S′ r
 

@@ -3,7 +3,7 @@
 use Rattle.protocol.specs.Prelude.{ℕ, suc, _+_, _≤_, _<_, arith, _≡_, refl, sym, ap, subst, _∙_, _≢_, _⊎_, inl, inr, ⊎-elim, by-eq}
 use Rattle.protocol.specs.Prelude.{List, [], _∷_, upd, upd-elim, upd-same, upd-other, upd2, upd2-elim, All, sumL, sumL-app, at2}
 use Rattle.protocol.specs.Prelude.{Msg, none, connect, test, report}
-use Rattle.protocol.specs.Prelude.{Plan, Ends, flip, other-end, ends-irr, edge-some, Way, wider, State}
+use Rattle.protocol.specs.Prelude.{Network, Ends, flip, other-end, ends-irr, edge-some, Way, wider, State}
 use Rattle.protocol.specs.Prelude.{isC, isI, isCI, isT, isA, isR, Rouse, Fits, top, snoc-top}
 use Rattle.protocol.specs.Prelude.{In, Bef, snoc, snoc-elim, snoc-in, snoc-old, in-snoc2, snoc-bef, snoc-sum, snoc-else, here-new, else-same, snoc-all}
 use Rattle.protocol.specs.Prelude.{Both, Joined, GL, Jn, Waits, Inv, no-waits}
@@ -11,7 +11,7 @@ use Rattle.protocol.specs.Fragments.{Inbounds}
 use Rattle.protocol.specs.Search.{Pending, Tests}
 use Rattle.protocol_merge.specs.Turn.{Turn}
 
-pub record Move (p : Plan) (s : State) (v y k : ℕ) (m : Msg) : Type 0 where
+pub record Move (p : Network) (s : State) (v y k : ℕ) (m : Msg) : Type 0 where
   pub ends : Ends p k v y
   -- m is a Connect or a Change-root
   pub not-i : isI m ≡ 0
@@ -27,7 +27,7 @@ pub record Move (p : Plan) (s : State) (v y k : ℕ) (m : Msg) : Type 0 where
   pub rouse : s.st y ≡ 0 → Rouse m
   pub fits : (n : Msg) → In n (s.ch v k) → Fits n m
 
-module _ {p : Plan} {s : State} (i : Inv p s) {v y k : ℕ} {m : Msg} (t : Turn p s v) (h : Move p s v y k m) where
+module _ {p : Network} {s : State} (i : Inv p s) {v y k : ℕ} {m : Msg} (t : Turn p s v) (h : Move p s v y k m) where
   -- the tables afterwards
   abbrev pub st′ : ℕ → ℕ
   st′ = upd s.st v 2

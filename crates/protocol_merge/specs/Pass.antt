@@ -3,7 +3,7 @@
 use Rattle.protocol.specs.Prelude.{ℕ, _≤_, arith, _≡_, refl, sym, ap, subst, _∙_, _≢_, _⊎_, inl, inr, ⊎-elim, by-eq, last, init-ok}
 use Rattle.protocol.specs.Prelude.{upd, upd-elim, upd-same, upd-other, upd2, upd2-elim, All, at2}
 use Rattle.protocol.specs.Prelude.{Msg, connect, report, change}
-use Rattle.protocol.specs.Prelude.{Plan, Ends, Tree, flip, State, set-st, set-oo, set-ub, send, marked, decided}
+use Rattle.protocol.specs.Prelude.{Network, Ends, Tree, flip, State, set-st, set-oo, set-ub, send, marked, decided}
 use Rattle.protocol.specs.Prelude.{isC, isI, isT, isA, isR, isK, Only, In, snoc, snoc-in, snoc-all}
 use Rattle.protocol.specs.Prelude.{Both, Decision, GL, DK, Inf, Jn, Outst, Live, CoreEnds, Spent, Inv, joined-level}
 use Rattle.protocol.specs.Fragments.{Ranges, Cores, Sleepers, Marks, Inbounds}
@@ -14,7 +14,7 @@ use Rattle.protocol_merge.specs.Turn.{Turn}
 use Rattle.protocol_merge.specs.Move as M
 use Rattle.protocol_merge.specs.Move.{Move}
 
-pub record Own (p : Plan) (s : State) (v y k d : ℕ) (m : Msg) : Type 0 where
+pub record Own (p : Network) (s : State) (v y k d : ℕ) (m : Msg) : Type 0 where
   pub low : 2 ≤ d
   pub high : d ≤ 3
   -- k is joined afterwards only if it was
@@ -29,7 +29,7 @@ pub record Own (p : Plan) (s : State) (v y k d : ℕ) (m : Msg) : Type 0 where
   pub changing-ok : d ≡ 2 → ChangingOk p s.fr s.gl s.gc s.lev s.ib (upd s.ub v k) s.bw (upd2 s.mark v k 1) k v y
   pub changing-in : d ≡ 2 → In change (snoc s.ch v k m v k)
 
-module _ {p : Plan} {s : State} (i : Inv p s) {v y k d : ℕ} {m : Msg} (t : Turn p s v) (h : Move p s v y k m) (o : Own p s v y k d m) where
+module _ {p : Network} {s : State} (i : Inv p s) {v y k d : ℕ} {m : Msg} (t : Turn p s v) (h : Move p s v y k m) (o : Own p s v y k d m) where
   abbrev pub S′ : State
   S′ = set-oo (set-st (decided (set-ub (marked (send s v k m) v k 1) (upd s.ub v k)) v d v k) (upd s.st v 2)) 0
 

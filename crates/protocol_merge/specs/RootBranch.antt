@@ -1,6 +1,6 @@
 -- Procedure change-root with best edge k a branch of v: v sends Change-root over k, to its child c.
 use Rattle.protocol.specs.Prelude.{ℕ, suc, arith, _≡_, refl, sym, ap, subst, _∙_, fun-ext, _≢_, inl, ⊎-elim, by-eq}
-use Rattle.protocol.specs.Prelude.{upd, upd-id, upd2, upd2-elim, at2, Msg, change, Plan, Ends, key, ends-two, ends-same, ends-irr, State}
+use Rattle.protocol.specs.Prelude.{upd, upd-id, upd2, upd2-elim, at2, Msg, change, Network, Ends, key, ends-two, ends-same, ends-irr, State}
 use Rattle.protocol.specs.Prelude.{set-st, set-mark, set-ub, set-oo, send, marked, decided, isK, fits-change, In, in-new, in-sum, some-change}
 use Rattle.protocol.specs.Prelude.{Jn, Inf, Inv, inf-found, inf-awake}
 use Rattle.protocol_merge.specs.Turn.{Turn, root, root-ok, turn-root}
@@ -12,7 +12,7 @@ use Rattle.protocol_merge.specs.Pass.{Own, inv-pass}
 upd2-id : (f : ℕ → ℕ → ℕ) (v k a : ℕ) → f v k ≡ a → upd2 f v k a ≡ f
 upd2-id f v k a e = fun-ext (λ w. fun-ext (λ j. upd2-elim (λ x. x ≡ f w j) f v k a w j (λ q r. sym e ∙ at2 f q r) (λ n. refl)))
 
-module _ {p : Plan} {s : State} (i : Inv p s) {v k c : ℕ} (ot : s.ot ≡ 0) (op : s.op ≡ 0) (oo : s.oo ≡ suc v)
+module _ {p : Network} {s : State} (i : Inv p s) {v k c : ℕ} (ot : s.ot ≡ 0) (op : s.op ≡ 0) (oo : s.oo ≡ suc v)
     (ends : Ends p k v c) (best : s.be v ≡ k) (branch : s.mark v k ≡ 1) where
   turn : Turn p s v
   turn = turn-root i oo

@@ -1,10 +1,10 @@
 -- The node v that is about to turn its inbound edge: a sleeper that wakes, or the node that executes procedure change-root.
 use Rattle.protocol.specs.Prelude.{ℕ, suc, _≤_, arith, _≡_, sym, ap, _∙_, _≢_, by-eq}
-use Rattle.protocol.specs.Prelude.{report, Plan, Ends, flip, edge-some, State, isR, top, top-none, In, none-in}
+use Rattle.protocol.specs.Prelude.{report, Network, Ends, flip, edge-some, State, isR, top, top-none, In, none-in}
 use Rattle.protocol.specs.Prelude.{GL, GC, DK, Inf, Jn, Root, Inv, sleep-lev, sleep-ib, decided-find, core-informed, no-initiate, no-root}
 use Rattle.protocol.specs.Decisions.{RootOk}
 
-pub record Turn (p : Plan) (s : State) (v : ℕ) : Type 0 where
+pub record Turn (p : Network) (s : State) (v : ℕ) : Type 0 where
   -- v has its fragment's level
   pub even : s.lev v ≡ GL s v
   -- the fragment is undecided and of level 0, or at its root; no other one is at its root
@@ -20,7 +20,7 @@ pub record Turn (p : Plan) (s : State) (v : ℕ) : Type 0 where
   -- no Report is on its way to v by its in-branch
   pub no-report : (j c n : ℕ) → Ends p j c v → s.ib v ≡ j → ¬ In (report n) (s.ch c j)
 
-module _ {p : Plan} {s : State} (i : Inv p s) {v : ℕ} where
+module _ {p : Network} {s : State} (i : Inv p s) {v : ℕ} where
   pub turn-sleeper : s.oo ≡ 0 → s.st v ≡ 0 → Turn p s v
   turn-sleeper idle z =
       let a = i.G6.g6 v z in

@@ -2,7 +2,7 @@
 -- Here: what the tables say of a node inside the new fragment, and of one outside it.
 use Rattle.protocol.specs.Prelude.{ℕ, suc, _≤_, _<_, arith, _≡_, refl, sym, ap, _∙_, _≢_, _⊎_, inl, inr, ⊎-elim, by-eq}
 use Rattle.protocol.specs.Prelude.{upd, upd-same, upd-other, bulk, bulk-elim, bulk-in, bulk-out, relabel-keep, at2, connect}
-use Rattle.protocol.specs.Prelude.{Plan, Ends, flip, same-edge, State, halved, merged, set-st, set-oo}
+use Rattle.protocol.specs.Prelude.{Network, Ends, flip, same-edge, State, halved, merged, set-st, set-oo}
 use Rattle.protocol.specs.Prelude.{Both, Bounds, GL, GC, DK, Inf, Jn, Half, Inv, decided-find, half-at}
 use Rattle.protocol.specs.Decisions.{HalfOk}
 use Rattle.protocol_merge.specs.Turn.{Turn}
@@ -10,14 +10,14 @@ use Rattle.protocol_merge.specs.Move as M
 use Rattle.protocol_merge.specs.Move.{Move}
 use Rattle.protocol_merge.specs.Leave.{Leave, leave-move}
 
-pub record Ready (p : Plan) (s : State) (v k y l : ℕ) : Type 0 where
+pub record Ready (p : Network) (s : State) (v k y l : ℕ) : Type 0 where
   pub inv : Inv p s
   pub turn : Turn p s v
   pub leave : Leave p s v k y
   pub level : l ≡ GL s v
   pub branch : s.mark y k ≡ 1
 
-module _ {p : Plan} {s : State} {v k y l : ℕ} (r : Ready p s v k y l) where
+module _ {p : Network} {s : State} {v k y l : ℕ} (r : Ready p s v k y l) where
   abbrev pub S′ : State
   S′ = set-oo (set-st (merged (halved s v k l) v y k) (upd s.st v 2)) 0
 

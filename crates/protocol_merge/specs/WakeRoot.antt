@@ -1,6 +1,6 @@
 -- Waking and procedure change-root, where v sends Connect over k to y: the uses of half and merge.
 use Rattle.protocol.specs.Prelude.{ℕ, suc, _≡_, refl, sym, subst, _≢_, upd, upd-id}
-use Rattle.protocol.specs.Prelude.{Plan, Ends, State, Idle, First, set-st, set-oo, woken, halved, merged, woken-same, GL, Inv, inf-found}
+use Rattle.protocol.specs.Prelude.{Network, Ends, State, Idle, First, set-st, set-oo, woken, halved, merged, woken-same, GL, Inv, inf-found}
 use Rattle.protocol_merge.specs.Turn.{Turn, root-ok, turn-sleeper, turn-root}
 use Rattle.protocol_merge.specs.Leave.{Leave, leave-sleeper, leave-root}
 use Rattle.protocol_merge.specs.Half.{inv-half}
@@ -8,7 +8,7 @@ use Rattle.protocol_merge.specs.Unite.{Ready}
 use Rattle.protocol_merge.specs.Merge.{inv-merge}
 
 -- waking v is Found and nothing was open, so these are the states of the lemmas
-module _ {p : Plan} {s : State} (i : Inv p s) {v k y : ℕ} (idle : Idle s) (ends : Ends p k v y) (asleep : s.st v ≡ 0) (least : First p v k) where
+module _ {p : Network} {s : State} (i : Inv p s) {v k y : ℕ} (idle : Idle s) (ends : Ends p k v y) (asleep : s.st v ≡ 0) (least : First p v k) where
   pub wake-turn : Turn p s v
   wake-turn = turn-sleeper i (idle .2) asleep
 
@@ -30,7 +30,7 @@ module _ {p : Plan} {s : State} (i : Inv p s) {v k y : ℕ} (idle : Idle s) (end
       (subst (λ o. Inv p (set-oo (set-st (merged (halved s v k 0) v y k) (upd s.st v 2)) o)) (sym (idle .2)) (inv-merge (wake-ready m)))
 
 -- executing change-root v is Found already
-module _ {p : Plan} {s : State} (i : Inv p s) {v k y : ℕ} (ot : s.ot ≡ 0) (op : s.op ≡ 0) (oo : s.oo ≡ suc v)
+module _ {p : Network} {s : State} (i : Inv p s) {v k y : ℕ} (ot : s.ot ≡ 0) (op : s.op ≡ 0) (oo : s.oo ≡ suc v)
     (ends : Ends p k v y) (best : s.be v ≡ k) (no-branch : s.mark v k ≢ 1) where
   pub root-found : s.st v ≡ 2
   root-found = inf-found i v (root-ok i oo .d3i) (turn-root i oo .no-find v refl)

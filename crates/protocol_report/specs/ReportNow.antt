@@ -2,7 +2,7 @@
 use Rattle.protocol.specs.Prelude.{ℕ, suc, _≤_, _<_, arith, _≡_, refl, sym, ap, subst, _∙_, _≢_, _⊎_, inl, inr, ⊎-elim}
 use Rattle.protocol.specs.Prelude.{List, upd, upd-elim, upd-same, upd-other, by-eq, sumL, le-sum}
 use Rattle.protocol.specs.Prelude.{Msg, none, connect, initiate, report}
-use Rattle.protocol.specs.Prelude.{Plan, Ends, joins-lt, flip, other-end, ends-irr, State, set-ch, reported}
+use Rattle.protocol.specs.Prelude.{Network, Ends, joins-lt, flip, other-end, ends-irr, State, set-ch, reported}
 use Rattle.protocol.specs.Prelude.{isC, isI, isCI, isT, isA, isR, isK, arg1, fits-report, Fits, In, Bef, bef-before, in-sum}
 use Rattle.protocol.specs.Prelude.{snoc, snoc-elim, snoc-in, snoc-old, in-snoc2, snoc-bef, snoc-sum, snoc-here, snoc-else, snoc-all}
 use Rattle.protocol.specs.Prelude.{some-connect, no-reports, no-calls, none-in, answers-same, connects-same, testing-same, init-ok, around-same, core-same, post-telling}
@@ -13,7 +13,7 @@ use Rattle.protocol.specs.Decisions.{Finishes}
 use Rattle.protocol.specs.Search.{Kids, Finds, Pending}
 use Rattle.protocol.specs.Traffic.{Hush, Tokens, Connects, Initiates, Telling, Testing, Answers, Reports, Owing, Bests, Ordered}
 
-module _ {p : Plan} {s : State} (i : Inv p s) {v k u : ℕ} (ot : s.ot ≡ 0) (op : s.op ≡ suc v) (oo : s.oo ≡ 0) (ends : Ends p k v u)
+module _ {p : Network} {s : State} (i : Inv p s) {v k u : ℕ} (ot : s.ot ≡ 0) (op : s.op ≡ suc v) (oo : s.oo ≡ 0) (ends : Ends p k v u)
     (ib : s.ib v ≡ k) (fc : s.fc v ≡ 0) (te : s.te v ≡ none) where
   abbrev m : Msg
   m = report (s.bw v)

@@ -2,14 +2,14 @@
 use Rattle.protocol.specs.Prelude.{ℕ, _+_, _≤_, arith, _≡_, refl, sym, ap, subst, _∙_, _≢_, inl, ⊎-elim}
 use Rattle.protocol.specs.Prelude.{List, _∷_, upd2, by-eq, sumL}
 use Rattle.protocol.specs.Prelude.{Msg, test, accept}
-use Rattle.protocol.specs.Prelude.{Plan, Ends, flip, ends-same, other-end, State, Idle, set-ch, send, pop}
+use Rattle.protocol.specs.Prelude.{Network, Ends, flip, ends-same, other-end, State, Idle, set-ch, send, pop}
 use Rattle.protocol.specs.Prelude.{isT, isA, isR, fits-accept, In, in-sum, pop-head, pop-in, pop-sum, pop-le, none-in}
 use Rattle.protocol.specs.Prelude.{snoc, snoc-in, snoc-old, kinds, snoc-sum, Inf, Waits, Inv, inf-awake}
 use Rattle.protocol.specs.Prelude.{plain-test, plain-accept, before, bests-same, flow, inv-passing, flow-take, flow-post}
 use Rattle.protocol.specs.Traffic.{AcceptOk, Testing, Answers}
 use Rattle.protocol_search.specs.Answer.{even, crossed}
 
-module _ {p : Plan} {s : State} (i : Inv p s) {u v k l f : ℕ} {r : List Msg} (idle : Idle s) (ends : Ends p k u v) (awake : s.st v ≢ 0) (q : s.ch u k ≡ test l f ∷ r)
+module _ {p : Network} {s : State} (i : Inv p s) {u v k l f : ℕ} {r : List Msg} (idle : Idle s) (ends : Ends p k u v) (awake : s.st v ≢ 0) (q : s.ch u k ≡ test l f ∷ r)
     (low : l ≤ s.lev v) (differ : s.id v ≢ f) where
   abbrev c₁ : ℕ → ℕ → List Msg
   c₁ = upd2 s.ch u k r

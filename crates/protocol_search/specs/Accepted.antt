@@ -2,7 +2,7 @@
 use Rattle.protocol.specs.Prelude.{ℕ, suc, _+_, _≤_, arith, _≡_, refl, sym, ap, subst, _∙_, _≢_, _⊎_, inl, inr, ⊎-elim}
 use Rattle.protocol.specs.Prelude.{List, _∷_, upd, upd-elim, upd-other, upd2, by-eq, sumL}
 use Rattle.protocol.specs.Prelude.{Msg, none, test, accept}
-use Rattle.protocol.specs.Prelude.{Plan, Ends, key, rank, key-none, ends-rank, flip, ends-same, other-end, ends-key, edge-some, State, Idle, Better, set-te, set-op, set-ch, bested, pop}
+use Rattle.protocol.specs.Prelude.{Network, Ends, key, rank, key-none, ends-rank, flip, ends-same, other-end, ends-key, edge-some, State, Idle, Better, set-te, set-op, set-ch, bested, pop}
 use Rattle.protocol.specs.Prelude.{isT, isA, isR, In, in-sum, pop-head, pop-in, pop-sum, else-same, none-in, here-new, rest-none}
 use Rattle.protocol.specs.Prelude.{Inf, Waits, Covered, Inv, waits-find}
 use Rattle.protocol.specs.Prelude.{plain-accept, live-to, flow, flow-open, flow-take, rated, flow-best}
@@ -11,7 +11,7 @@ use Rattle.protocol.specs.Traffic.{AcceptOk, Testing, Answers, Bests}
 use Rattle.protocol.specs.Weigh as W
 use Rattle.protocol.specs.Weigh.{Leaves}
 
-module _ {p : Plan} {s : State} (i : Inv p s) {u v k b e : ℕ} {r : List Msg} (idle : Idle s) (ends : Ends p k u v) (q : s.ch u k ≡ accept ∷ r) (better : Better p s v k k b e) where
+module _ {p : Network} {s : State} (i : Inv p s) {u v k b e : ℕ} {r : List Msg} (idle : Idle s) (ends : Ends p k u v) (q : s.ch u k ≡ accept ∷ r) (better : Better p s v k k b e) where
   abbrev c′ : ℕ → ℕ → List Msg
   c′ = upd2 s.ch u k r
 

@@ -2,14 +2,14 @@
 use Rattle.protocol.specs.Prelude.{ℕ, suc, _+_, _≤_, arith, _≡_, sym, ap, subst, _∙_, _≢_, _⊎_, inl, inr, ⊎-elim}
 use Rattle.protocol.specs.Prelude.{List, _∷_, upd2, by-eq, sumL}
 use Rattle.protocol.specs.Prelude.{Msg, test}
-use Rattle.protocol.specs.Prelude.{Plan, Ends, flip, other-end, ends-irr, State, Idle, Strike, set-ch, set-mark, set-ot, marked, pop}
+use Rattle.protocol.specs.Prelude.{Network, Ends, flip, other-end, ends-irr, State, Idle, Strike, set-ch, set-mark, set-ot, marked, pop}
 use Rattle.protocol.specs.Prelude.{isT, isA, isR, In, pop-in, pop-sum, pop-le, else-same, here-new, at2, none-in, Waits, Inv, waits-find}
 use Rattle.protocol.specs.Prelude.{Plain, bests-same, flow, flow-open, flow-take}
 use Rattle.protocol.specs.Search.{Pending, Tests}
 use Rattle.protocol.specs.Traffic.{Testing, Answers, Bests}
 use Rattle.protocol_search.specs.Strike.{struck, up1, up2, up0, dn0, dn1, dn2, dn-other, up-both, dn-both, flow-strike, inv-strike}
 
-pub record Repeat (p : Plan) (s : State) (u v k c : ℕ) (m : Msg) (r : List Msg) : Type 0 where
+pub record Repeat (p : Network) (s : State) (u v k c : ℕ) (m : Msg) (r : List Msg) : Type 0 where
   pub idle : Idle s
   pub ends : Ends p k u v
   pub took : s.ch u k ≡ m ∷ r
@@ -27,7 +27,7 @@ pub record Repeat (p : Plan) (s : State) (u v k c : ℕ) (m : Msg) (r : List Msg
   pub own : (sumL isT (s.ch v k) ≡ 0) ⊎ (Waits s u k × (c ≡ 2))
   pub crosses : Waits s u k → sumL isA (s.ch v k) + sumL isT (s.ch v k) ≡ 1
 
-module _ {p : Plan} {s : State} (i : Inv p s) {u v k c : ℕ} {m : Msg} {r : List Msg} (h : Repeat p s u v k c m r) where
+module _ {p : Network} {s : State} (i : Inv p s) {u v k c : ℕ} {m : Msg} {r : List Msg} (h : Repeat p s u v k c m r) where
   abbrev c′ : ℕ → ℕ → List Msg
   c′ = upd2 s.ch u k r
 

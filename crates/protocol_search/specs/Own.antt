@@ -1,8 +1,8 @@
 -- A Test that carries v's own identity, of a level not above v's: its sender u is of v's fragment, and v is informed.
 use Rattle.protocol.specs.Prelude.{ℕ, _≤_, arith, _≡_, refl, sym, ap, subst, _∙_}
-use Rattle.protocol.specs.Prelude.{by-eq, test, Plan, Ends, up, flip, State, In, GC, Inf, Inv}
+use Rattle.protocol.specs.Prelude.{by-eq, test, Network, Ends, up, flip, State, In, GC, Inf, Inv}
 
-module _ {p : Plan} {s : State} (i : Inv p s) {u v k l f : ℕ} (ends : Ends p k u v) (head : In (test l f) (s.ch u k)) (low : l ≤ s.lev v) (same : s.id v ≡ f) where
+module _ {p : Network} {s : State} (i : Inv p s) {u v k l f : ℕ} (ends : Ends p k u v) (head : In (test l f) (s.ch u k)) (low : l ≤ s.lev v) (same : s.id v ≡ f) where
   pub inf-u : Inf s u
   inf-u = i.E1.e1 k u v l f ends head .2
 

@@ -2,7 +2,7 @@
 use Rattle.protocol.specs.Prelude.{ℕ, _+_, _≤_, arith, _≡_, refl, sym, ap, subst, _∙_, _≢_, _⊎_, inl, inr, ⊎-elim}
 use Rattle.protocol.specs.Prelude.{List, _∷_, upd2, upd2-elim, by-eq, sumL}
 use Rattle.protocol.specs.Prelude.{Msg, test, reject}
-use Rattle.protocol.specs.Prelude.{Plan, Ends, flip, ends-same, other-end, State, Idle, Strike, set-ch, send, pop, marked}
+use Rattle.protocol.specs.Prelude.{Network, Ends, flip, ends-same, other-end, State, Idle, Strike, set-ch, send, pop, marked}
 use Rattle.protocol.specs.Prelude.{isT, isA, isR, fits-reject, kinds, In, in-sum, pop-head, pop-in, pop-sum, pop-le, none-in, no-tests}
 use Rattle.protocol.specs.Prelude.{snoc, snoc-in, snoc-old, snoc-sum, Waits, Inv, inf-awake}
 use Rattle.protocol.specs.Prelude.{plain-test, plain-reject, before, bests-same, flow, flow-take, flow-post}
@@ -12,7 +12,7 @@ use Rattle.protocol_search.specs.Own.{inf-u, inside, branch-v, branch-u}
 use Rattle.protocol_search.specs.Answer.{tests-here, even, crossed}
 use Rattle.protocol_search.specs.Strike.{struck, up1, up2, up0, dn0, dn1, dn2, up-both, dn-both, flow-strike, inv-strike}
 
-module _ {p : Plan} {s : State} (i : Inv p s) {u v k l f c : ℕ} {r : List Msg} (idle : Idle s) (ends : Ends p k u v) (awake : s.st v ≢ 0) (q : s.ch u k ≡ test l f ∷ r)
+module _ {p : Network} {s : State} (i : Inv p s) {u v k l f c : ℕ} {r : List Msg} (idle : Idle s) (ends : Ends p k u v) (awake : s.st v ≢ 0) (q : s.ch u k ≡ test l f ∷ r)
     (low : l ≤ s.lev v) (same : s.id v ≡ f) (other : s.te v ≢ k) (strike : Strike s v k c) where
   abbrev c₁ : ℕ → ℕ → List Msg
   c₁ = upd2 s.ch u k r

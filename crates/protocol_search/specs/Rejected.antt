@@ -1,11 +1,11 @@
 -- Reject from u at v over k: the mark is struck, procedure test comes next.
 use Rattle.protocol.specs.Prelude.{ℕ, suc, _+_, _≤_, arith, _≡_, sym, ap, _≢_, inl}
-use Rattle.protocol.specs.Prelude.{List, _∷_, by-eq, sumL, Msg, reject, Plan, Ends, flip, State, Idle, Strike, set-ot, marked, pop}
+use Rattle.protocol.specs.Prelude.{List, _∷_, by-eq, sumL, Msg, reject, Network, Ends, flip, State, Idle, Strike, set-ot, marked, pop}
 use Rattle.protocol.specs.Prelude.{isT, isA, in-sum, pop-head, Inv, rest-none, plain-reject}
 use Rattle.protocol.specs.Traffic.{RejectOk}
 use Rattle.protocol_search.specs.Again.{inv-again}
 
-module _ {p : Plan} {s : State} (i : Inv p s) {u v k c : ℕ} {r : List Msg} (idle : Idle s) (ends : Ends p k u v) (q : s.ch u k ≡ reject ∷ r) (strike : Strike s v k c) where
+module _ {p : Network} {s : State} (i : Inv p s) {u v k c : ℕ} {r : List Msg} (idle : Idle s) (ends : Ends p k u v) (q : s.ch u k ≡ reject ∷ r) (strike : Strike s v k c) where
   pub said : RejectOk s.te s.fr s.mark s.ot k u v
   said = i.A1.j1 k u v ends (pop-head s.ch u k q)
 

@@ -1,13 +1,13 @@
 -- A mark of v for k that is Basic becomes Rejected: what stays of the clauses that read marks.
 use Rattle.protocol.specs.Prelude.{ℕ, _≤_, arith, _≡_, refl, sym, ap, subst, _∙_, _≢_, _⊎_, inl, inr, ⊎-elim}
-use Rattle.protocol.specs.Prelude.{upd2, upd2-elim, by-eq, Plan, Ends, key, rank, flip, other-end, wider, State, Strike, set-mark, set-ch, set-ot, List, Msg}
+use Rattle.protocol.specs.Prelude.{upd2, upd2-elim, by-eq, Network, Ends, key, rank, flip, other-end, wider, State, Strike, set-mark, set-ch, set-ot, List, Msg}
 use Rattle.protocol.specs.Prelude.{Both, Bounding, Inv, Flow, init-ok, at2}
 use Rattle.protocol.specs.Fragments.{Ranges, Cores, Sleepers, Marks, Inbounds}
 use Rattle.protocol.specs.Decisions.{Halves, ChangeRoots, Rootings, Finishes}
 use Rattle.protocol.specs.Search.{Kids, Pending, Tests}
 use Rattle.protocol.specs.Traffic.{Connects, Initiates, Telling, Testing, Answers, Reports, Owing, Bests}
 
-module _ (p : Plan) (s : State) (v k c : ℕ) (strike : Strike s v k c) where
+module _ (p : Network) (s : State) (v k c : ℕ) (strike : Strike s v k c) where
   abbrev pub struck : ℕ → ℕ → ℕ
   struck = upd2 s.mark v k c
 
@@ -89,7 +89,7 @@ module _ (p : Plan) (s : State) (v k c : ℕ) (strike : Strike s v k c) where
 
 -- ---- clauses on tables: v is awake, k lies inside the fragment and is not Branch at its other end where it is Basic at v
 
-module _ {p : Plan} {s : State} (i : Inv p s) {u v k c : ℕ} (ends : Ends p k v u) (strike : Strike s v k c) (awake : s.st v ≢ 0) (inside : s.fr v ≡ s.fr u)
+module _ {p : Network} {s : State} (i : Inv p s) {u v k c : ℕ} (ends : Ends p k v u) (strike : Strike s v k c) (awake : s.st v ≢ 0) (inside : s.fr v ≡ s.fr u)
     (free : s.mark v k ≡ 0 → s.mark u k ≢ 1) where
   abbrev m′ : ℕ → ℕ → ℕ
   m′ = struck p s v k c strike

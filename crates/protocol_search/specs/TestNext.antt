@@ -2,14 +2,14 @@
 use Rattle.protocol.specs.Prelude.{ℕ, suc, _+_, _≤_, arith, _≡_, refl, sym, ap, subst, _∙_, _≢_, _⊎_, inl, inr, ⊎-elim}
 use Rattle.protocol.specs.Prelude.{List, upd, upd-elim, upd-same, upd-other, by-eq, sumL}
 use Rattle.protocol.specs.Prelude.{Msg, none, test}
-use Rattle.protocol.specs.Prelude.{Plan, Ends, key, rank, flip, ends-same, ends-irr, ends-key, edge-some, State, FirstBasic, set-te, set-ot, set-ch, send}
+use Rattle.protocol.specs.Prelude.{Network, Ends, key, rank, flip, ends-same, ends-irr, ends-key, edge-some, State, FirstBasic, set-te, set-ot, set-ch, send}
 use Rattle.protocol.specs.Prelude.{isT, isA, isR, arg1, arg2, fits-test, snoc, snoc-in, snoc-sum, snoc-here, snoc-else, no-tests, none-in}
 use Rattle.protocol.specs.Prelude.{Inf, Waits, Inv, no-answer}
 use Rattle.protocol.specs.Prelude.{Plain, plain-test, before, bests-same, covered-to, flow, inv-asking, flow-open, flow-post}
 use Rattle.protocol.specs.Search.{Pending, Tests}
 use Rattle.protocol.specs.Traffic.{Testing, Answers, Bests}
 
-module _ {p : Plan} {s : State} (i : Inv p s) {v k u : ℕ} (ot : s.ot ≡ suc v) (op : s.op ≡ 0) (oo : s.oo ≡ 0) (ends : Ends p k v u) (least : FirstBasic p s v k) where
+module _ {p : Network} {s : State} (i : Inv p s) {v k u : ℕ} (ot : s.ot ≡ suc v) (op : s.op ≡ 0) (oo : s.oo ≡ 0) (ends : Ends p k v u) (least : FirstBasic p s v k) where
   abbrev m : Msg
   m = test (s.lev v) (s.id v)
 

@@ -2,12 +2,12 @@
 use Rattle.protocol.specs.Prelude.{ℕ, suc, _≤_, arith, _≡_, refl, sym, ap, subst, _∙_, _≢_, _⊎_, inl, inr, ⊎-elim}
 use Rattle.protocol.specs.Prelude.{upd, upd-elim, upd-other, by-eq}
 use Rattle.protocol.specs.Prelude.{none}
-use Rattle.protocol.specs.Prelude.{Plan, Ends, key, rank, flip, edge-some, State, set-te, set-ot, set-op}
+use Rattle.protocol.specs.Prelude.{Network, Ends, key, rank, flip, edge-some, State, set-te, set-ot, set-op}
 use Rattle.protocol.specs.Prelude.{Waits, Inv, flow, inv-asking, flow-open}
 use Rattle.protocol.specs.Search.{Pending, Tests}
 use Rattle.protocol.specs.Traffic.{Testing, Answers, Bests}
 
-module _ {p : Plan} {s : State} (i : Inv p s) {v : ℕ} (ot : s.ot ≡ suc v) (op : s.op ≡ 0) (oo : s.oo ≡ 0)
+module _ {p : Network} {s : State} (i : Inv p s) {v : ℕ} (ot : s.ot ≡ suc v) (op : s.op ≡ 0) (oo : s.oo ≡ 0)
     (none-basic : (k u : ℕ) → Ends p k v u → s.mark v k ≢ 0) where
   abbrev S′ : State
   S′ = set-op (set-ot (set-te s (upd s.te v none)) 0) (suc v)

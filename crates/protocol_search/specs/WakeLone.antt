@@ -1,14 +1,14 @@
 -- A node without edges wakes: Found and halted, and its fragment is finished.
 use Rattle.protocol.specs.Prelude.{ℕ, _≤_, _<_, arith, _≡_, sym, ap, subst, _∙_, _≢_, inl, inr, ⊎-elim}
 use Rattle.protocol.specs.Prelude.{upd, upd-elim, upd-same, upd-other, by-eq}
-use Rattle.protocol.specs.Prelude.{Plan, Ends, flip, State, Idle, set-st, set-dk, set-halt, woken, woken-same}
+use Rattle.protocol.specs.Prelude.{Network, Ends, flip, State, Idle, set-st, set-dk, set-halt, woken, woken-same}
 use Rattle.protocol.specs.Prelude.{GL, DK, Inf, CoreEnds, Inv, sleep-te, sleep-fc, last}
 use Rattle.protocol.specs.Fragments.{Ranges, Sleepers}
 use Rattle.protocol.specs.Decisions.{Halves, ChangeRoots, Rootings, Finishes}
 use Rattle.protocol.specs.Search.{Finds, Pending}
 use Rattle.protocol.specs.Traffic.{Tokens, Reports, Owing, Bests}
 
-module _ {p : Plan} {s : State} (i : Inv p s) {v : ℕ} (idle : Idle s) (below : v < p.N) (asleep : s.st v ≡ 0) (lone : (k u : ℕ) → Ends p k v u → ⊥) where
+module _ {p : Network} {s : State} (i : Inv p s) {v : ℕ} (idle : Idle s) (below : v < p.N) (asleep : s.st v ≡ 0) (lone : (k u : ℕ) → Ends p k v u → ⊥) where
   -- by `woken-same` waking changes the status alone
   abbrev S″ : State
   S″ = set-halt (set-dk (set-st s (upd s.st v 2)) (upd s.dk (s.fr v) 4)) (upd s.halt v 1)

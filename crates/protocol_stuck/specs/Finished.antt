@@ -1,6 +1,6 @@
 -- THE STUCK LEMMA: in a stuck state the fragment of every awake node is finished, is its whole part of the graph, and no message waits.
 use Rattle.protocol.specs.Prelude.{ℕ, _≤_, _<_, arith, _≡_, refl, sym, ap, _∙_, _≢_, _⊎_, inl, inr, ⊎-elim, by-eq, strong}
-use Rattle.protocol.specs.Prelude.{Msg, connect, initiate, test, accept, reject, report, change, Plan, Ends, rank, Way, stop, go, up, down, flip, join, hop, wider, State}
+use Rattle.protocol.specs.Prelude.{Msg, connect, initiate, test, accept, reject, report, change, Network, Ends, rank, Way, stop, go, up, down, flip, join, hop, wider, State}
 use Rattle.protocol.specs.Prelude.{In, Blocked, GL, DK, Inv, waits-find}
 use native.Mathlib.Decide.{ℕ-discrete}
 use Rattle.base.specs.Search.{least, Least}
@@ -9,7 +9,7 @@ use Rattle.protocol_stuck.specs.Informed.{Stuck, no-changing, no-rooting
 use Rattle.protocol_stuck.specs.Waiting.{lower, meets, earlier}
 
 -- a node has an edge, or none
-pub edge? : (p : Plan) (v : ℕ) → ((k : ℕ) × (u : ℕ) × Ends p k v u) ⊎ ((k u : ℕ) → ¬ Ends p k v u)
+pub edge? : (p : Network) (v : ℕ) → ((k : ℕ) × (u : ℕ) × Ends p k v u) ⊎ ((k u : ℕ) → ¬ Ends p k v u)
 edge? p v = low (least (λ k. p.g.lo k ≡ v) (λ k. ℕ-discrete (p.g.lo k) v) p.g.L)
   where
     high : ((k : ℕ) → k < p.g.L → ¬ (p.g.lo k ≡ v)) → ((k : ℕ) → k < p.g.L → ¬ (p.g.hi k ≡ v)) ⊎ Least (λ k. p.g.hi k ≡ v) p.g.L → ((k : ℕ) × (u : ℕ) × Ends p k v u) ⊎ ((k u : ℕ) → ¬ Ends p k v u)
@@ -24,7 +24,7 @@ edge? p v = low (least (λ k. p.g.lo k ≡ v) (λ k. ℕ-discrete (p.g.lo k) v) 
     low (inl f) = high f (least (λ k. p.g.hi k ≡ v) (λ k. ℕ-discrete (p.g.hi k) v) p.g.L)
     low (inr m) = inl (m.at, p.g.hi (m.at), up (m.below) (m.holds) refl)
 
-module _ {p : Plan} {s : State} (i : Inv p s) (t : Stuck p s) where
+module _ {p : Network} {s : State} (i : Inv p s) (t : Stuck p s) where
   -- an awake node of a finished fragment, joined to v by edges
   abbrev Goal : ℕ → Type 0
   Goal v = (w : ℕ) × Way p.g Any v w × (s.st w ≢ 0) × (DK s w ≡ 4)

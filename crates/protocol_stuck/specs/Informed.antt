@@ -1,14 +1,14 @@
 -- A stuck state: no response is under way, and every message would be put back by an awake receiver. Then every node has its fragment's level.
 use Rattle.protocol.specs.Prelude.{ℕ, _≤_, _<_, arith, _≡_, refl, sym, ap, _∙_, _≢_, ⊎-elim, by-eq, sumL}
-use Rattle.protocol.specs.Prelude.{Msg, connect, initiate, accept, reject, change, Plan, Ends, Way, stop, go, up, flip, State, Idle, Blocked}
+use Rattle.protocol.specs.Prelude.{Msg, connect, initiate, accept, reject, change, Network, Ends, Way, stop, go, up, flip, State, Idle, Blocked}
 use Rattle.protocol.specs.Prelude.{In, some-connect, isA, no-answers, joined-both, GL, GC, DK, Inf, Jn, Joined, Inv, inf-cases, changing-of, no-root}
 
 -- every message has an awake receiver that would put it back
-pub record Stuck (p : Plan) (s : State) : Type 0 where
+pub record Stuck (p : Network) (s : State) : Type 0 where
   pub idle : Idle s
   pub back : (k u v : ℕ) (m : Msg) → Ends p k u v → In m (s.ch u k) → (s.st v ≢ 0) × Blocked s v k m
 
-module _ {p : Plan} {s : State} (i : Inv p s) (t : Stuck p s) where
+module _ {p : Network} {s : State} (i : Inv p s) (t : Stuck p s) where
   pub no-initiate : (k u v l f x : ℕ) → Ends p k u v → ¬ In (initiate l f x) (s.ch u k)
   no-initiate k u v l f x e n = t.back k u v (initiate l f x) e n .1
 

@@ -1,6 +1,6 @@
 -- STUCK MEANS FINISHED, and so does rest: what such a state says of each part of the graph. The theorems are at the end.
 use Rattle.protocol.specs.Prelude.{ℕ, _≤_, _<_, arith, _≡_, refl, sym, ap, subst, _≢_, _⊎_, inl, inr, ⊎-elim, by-eq, List, [], _∷_}
-use Rattle.protocol.specs.Prelude.{Plan, Ends, Tree, up, down, flip, wider, Way, State, setup, Idle, GL, GC, In, first, in-nil, Inv}
+use Rattle.protocol.specs.Prelude.{Network, Ends, Tree, up, down, flip, wider, Way, State, setup, Idle, GL, GC, In, first, in-nil, Inv}
 use Rattle.protocol.specs.Prelude.{sleep-lev, sleep-id, sleep-te, sleep-fc, sleep-halt, sleep-ib}
 use mathlib.Core.Logic.{_↔_}
 use Rattle.graph.specs.Ways.{Any, back}
@@ -11,11 +11,11 @@ use Rattle.protocol_stuck.specs.Rest.{leaves, tree-branch, other-rejecte
 -- ---- what is said of a part
 
 -- the part of v: the nodes that a way over the plan's edges joins to v
-abbrev pub SamePart : Plan → ℕ → ℕ → Type 0
+abbrev pub SamePart : Network → ℕ → ℕ → Type 0
 SamePart p v u = Way p.g Any v u
 
 -- exactly two of v's part have halted, the ends of one of its tree edges
-pub record PartCore (p : Plan) (s : State) (v : ℕ) : Type 0 where
+pub record PartCore (p : Network) (s : State) (v : ℕ) : Type 0 where
   pub edge : ℕ
   pub within : edge < p.g.L
   pub tree : Tree p edge
@@ -24,13 +24,13 @@ pub record PartCore (p : Plan) (s : State) (v : ℕ) : Type 0 where
   pub halted : (u : ℕ) → SamePart p v u → (s.halt u ≡ 1) ↔ ((u ≡ p.g.lo edge) ⊎ (u ≡ p.g.hi edge))
 
 -- v is a part by itself, has no edge, and has halted
-pub record PartOfOne (p : Plan) (s : State) (v : ℕ) : Type 0 where
+pub record PartOfOne (p : Network) (s : State) (v : ℕ) : Type 0 where
   pub only : (u : ℕ) → SamePart p v u → u ≡ v
   pub edgeless : (k u : ℕ) → ¬ Ends p k v u
   pub halted : s.halt v ≡ 1
 
 -- v's part is finished: both ends of each of its tree edges Branch, of its other edges Rejected, and who has halted
-pub record PartFinished (p : Plan) (s : State) (v : ℕ) : Type 0 where
+pub record PartFinished (p : Network) (s : State) (v : ℕ) : Type 0 where
   pub tree : (k a b : ℕ) → Ends p k a b → SamePart p v a → Tree p k → (s.mark a k ≡ 1) × (s.mark b k ≡ 1)
   pub others : (k a b : ℕ) → Ends p k a b → SamePart p v a → ¬ Tree p k → (s.mark a k ≡ 2) × (s.mark b k ≡ 2)
   pub halted : PartCore p s v ⊎ PartOfOne p s v
@@ -49,19 +49,19 @@ pub record AsAtSetup (s : State) (v : ℕ) : Type 0 where
   pub marks : (k : ℕ) → s.mark v k ≡ setup.mark v k
 
 -- v's part is as at setup, its channels with it
-pub record PartAsleep (p : Plan) (s : State) (v : ℕ) : Type 0 where
+pub record PartAsleep (p : Network) (s : State) (v : ℕ) : Type 0 where
   pub nodes : (u : ℕ) → SamePart p v u → AsAtSetup s u
   pub channels : (k a b : ℕ) → Ends p k a b → SamePart p v a → s.ch a k ≡ setup.ch a k
 
 -- no message is on any channel; each part with an awake node, u, is finished; each part with none is asleep
-pub record AllFinished (p : Plan) (s : State) : Type 0 where
+pub record AllFinished (p : Network) (s : State) : Type 0 where
   pub silent : (k a b : ℕ) → Ends p k a b → s.ch a k ≡ []
   pub awake : (v u : ℕ) → SamePart p v u → s.st u ≢ 0 → PartFinished p s v
   pub asleep : (v : ℕ) → ((u : ℕ) → SamePart p v u → s.st u ≡ 0) → PartAsleep p s v
 
 -- ---- a part in which nobody is awake, in any state with the invariant
 
-part-asleep : {p : Plan} {s : State} → Inv p s → (v : ℕ) → ((u : ℕ) → SamePart p v u → s.st u ≡ 0) → PartAsleep p s v
+part-asleep : {p : Network} {s : State} → Inv p s → (v : ℕ) → ((u : ℕ) → SamePart p v u → s.st u ≡ 0) → PartAsleep p s v
 part-asleep {p} {s} i v z = record { nodes = λ u w. node u (z u w); channels = λ k a b e w. i.G6c.g6o k a b e (z a w) }
   where
     node : (u : ℕ) → s.st u ≡ 0 → AsAtSetup s u
@@ -80,7 +80,7 @@ part-asleep {p} {s} i v z = record { nodes = λ u w. node u (z u w); channels = 
 
 -- ---- a part with an awake node, in a stuck state
 
-module _ {p : Plan} {s : State} (i : Inv p s) (t : Stuck p s) (w : ℕ) (a : s.st w ≢ 0) where
+module _ {p : Network} {s : State} (i : Inv p s) (t : Stuck p s) (w : ℕ) (a : s.st w ≢ 0) where
   -- w has an edge: the two that have halted are the ends of the fragment's core
   module _ (j x : ℕ) (f : Ends p j w x) where
     abbrev core : ℕ
@@ -143,7 +143,7 @@ empty [] n = refl
 empty (x ∷ l) n = absurd (n x first)
 
 -- STUCK MEANS FINISHED. (Nobody need be awake: then all parts are asleep.)
-pub stuck-finished : {p : Plan} {s : State} → Inv p s → Stuck p s → AllFinished p s
+pub stuck-finished : {p : Network} {s : State} → Inv p s → Stuck p s → AllFinished p s
 stuck-finished {p} {s} i t = record {
   silent = λ k a b e. empty (s.ch a k) (λ m. nothing i t k a b m e);
   awake = λ v u y a. part-finished i t v (part-awake i t u v a (back y));
@@ -151,5 +151,5 @@ stuck-finished {p} {s} i t = record {
 }
 
 -- REST: no response is under way and no message on any channel
-pub rest-finished : {p : Plan} {s : State} → Inv p s → Idle s → ((k a b : ℕ) → Ends p k a b → s.ch a k ≡ []) → AllFinished p s
+pub rest-finished : {p : Network} {s : State} → Inv p s → Idle s → ((k a b : ℕ) → Ends p k a b → s.ch a k ≡ []) → AllFinished p s
 rest-finished {p} {s} i d z = stuck-finished i (record { idle = d; back = λ k u v m e n. absurd (in-nil (subst (λ l. In m l) (z k u v e) n)) })

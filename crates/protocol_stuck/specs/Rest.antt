@@ -1,6 +1,6 @@
 -- At rest: the branches are the tree, the other edges are Rejected at both ends, and just the core ends have halted. For each part with an awake node.
 use Rattle.protocol.specs.Prelude.{ℕ, _≤_, arith, _≡_, refl, sym, ap, subst, _∙_, _≢_, _⊎_, inl, inr, ⊎-elim, by-eq}
-use Rattle.protocol.specs.Prelude.{none, report, Plan, Ends, Tree, Graph, Joins, joins-lt, up, flip, hop, Way, stop, go, State, GL, GC, Jn, Joined, Inv, joined-both}
+use Rattle.protocol.specs.Prelude.{none, report, Network, Ends, Tree, Graph, Joins, joins-lt, up, flip, hop, Way, stop, go, State, GL, GC, Jn, Joined, Inv, joined-both}
 use Rattle.graph.specs.Cycle.{needed}
 use Rattle.graph.specs.Ways.{against}
 use Rattle.protocol_stuck.specs.Informed.{Stuck}
@@ -11,7 +11,7 @@ pub leaves : {g : Graph} {S : ℕ → Type 0} {v w : ℕ} → Way g S v w → v 
 leaves stop d = absurd (d refl)
 leaves (go {v = u} k j h w) d = (k, u, j)
 
-module _ {p : Plan} {s : State} (i : Inv p s) (t : Stuck p s) where
+module _ {p : Network} {s : State} (i : Inv p s) (t : Stuck p s) where
   -- MARKS: Branch at both ends, or Rejected at both
   pub marks : (k v u : ℕ) → Ends p k v u → s.st v ≢ 0 → Jn s k v u ⊎ ((s.mark v k ≡ 2) × (s.mark u k ≡ 2))
   marks k v u e a =

@@ -1,6 +1,6 @@
 -- In a stuck state an undecided fragment waits for one of a lower level, and one that is half for one that is half on an earlier edge.
 use Rattle.protocol.specs.Prelude.{ℕ, zero, suc, _-_, _≤_, _<_, arith, _≡_, refl, sym, ap, _∙_, _≢_, _⊎_, inl, inr, ⊎-elim, by-eq, sum, sumL, le-sum}
-use Rattle.protocol.specs.Prelude.{none, connect, test, report, Plan, Ends, end-lt, up, joins-lt, flip, same-edge, State}
+use Rattle.protocol.specs.Prelude.{none, connect, test, report, Network, Ends, end-lt, up, joins-lt, flip, same-edge, State}
 use Rattle.protocol.specs.Prelude.{rank, rank-inj, isT, isR, In, some-test, some-report, GL, GC, DK, Inf, Jn, Half, Waits, Inv, down-core, half-of}
 use mathlib.Core.Logic.{Dec·and}
 use native.Mathlib.Decide.{ℕ-discrete}
@@ -14,7 +14,7 @@ some-term (suc n) f h = by-eq (f n) 0
     (λ z. let t = some-term n f (λ e. h (omega arith)) in (t .0, omega (arith, t .1), t .2))
     (λ z. (n, omega arith, z))
 
-module _ {p : Plan} {s : State} (i : Inv p s) (t : Stuck p s) where
+module _ {p : Network} {s : State} (i : Inv p s) (t : Stuck p s) where
   -- a Report is waited for by a Find node, over its in-branch
   report-find : (k u v : ℕ) → Ends p k u v → 1 ≤ sumL isR (s.ch u k) → (s.ib v ≡ k) × (s.st v ≡ 1)
   report-find k u v e h = let n = some-report (s.ch u k) h in t.back k u v (report (n .0)) e (n .1) .1

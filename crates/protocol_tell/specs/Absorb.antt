@@ -2,7 +2,7 @@
 use Rattle.protocol.specs.Prelude.{ℕ, _≤_, _<_, arith, _≡_, refl, sym, ap, subst, _∙_, _≢_, _⊎_, inl, inr, ⊎-elim}
 use Rattle.protocol.specs.Prelude.{List, _∷_, upd2-elim, by-eq, le-sum, All, sumL}
 use Rattle.protocol.specs.Prelude.{Msg, connect, initiate, report}
-use Rattle.protocol.specs.Prelude.{Plan, Ends, rank, joins-lt, flip, other-end, State, Idle, Flag, absorbed, pop}
+use Rattle.protocol.specs.Prelude.{Network, Ends, rank, joins-lt, flip, other-end, State, Idle, Flag, absorbed, pop}
 use Rattle.protocol.specs.Prelude.{isC, isI, isCI, isT, isA, isR, isK, Only, top, In, Bef, at2, in-sum}
 use Rattle.protocol.specs.Prelude.{GL, GC, DK, Inf, Jn, Outst, Live, Covered, CoreEnds, Spent, Inv}
 use Rattle.protocol.specs.Prelude.{mark-awake, te-find, fc-find, waits-find, decided-initiate, decided-report, decided-test}
@@ -13,7 +13,7 @@ use Rattle.protocol_tell.specs.Sunk.{Absorbs}
 use Rattle.protocol_tell.specs.Sunk as F
 use Rattle.protocol_tell.specs.AbsorbTables as T
 
-module _ {p : Plan} {s : State} (i : Inv p s) {u v k l x : ℕ} {r : List Msg} (act : Absorbs p s u v k l x r) where
+module _ {p : Network} {s : State} (i : Inv p s) {u v k l x : ℕ} {r : List Msg} (act : Absorbs p s u v k l x r) where
   abbrev S′ : State
   S′ = absorbed (pop s u k r) u v k x
 
@@ -361,6 +361,6 @@ module _ {p : Plan} {s : State} (i : Inv p s) {u v k l x : ℕ} {r : List Msg} (
     Q1 = Q1′;
   }
 
-pub inv-absorb : {p : Plan} {s : State} → Inv p s → {u v k l x : ℕ} {r : List Msg} → Idle s → Ends p k u v → s.st v ≢ 0 → s.ch u k ≡ connect l ∷ r → l < s.lev v → Flag s v x
+pub inv-absorb : {p : Network} {s : State} → Inv p s → {u v k l x : ℕ} {r : List Msg} → Idle s → Ends p k u v → s.st v ≢ 0 → s.ch u k ≡ connect l ∷ r → l < s.lev v → Flag s v x
     → Inv p (absorbed (pop s u k r) u v k x)
 inv-absorb i a b c d e f = inv i (record { idle = a; ends = b; awake = c; q = d; lower = e; flag = f })

@@ -2,7 +2,7 @@
 use Rattle.protocol.specs.Prelude.{ℕ, _+_, _^_, _≤_, _<_, arith, _≡_, refl, sym, ap, subst, _∙_, _≢_, inl, inr, ⊎-elim}
 use Rattle.protocol.specs.Prelude.{List, upd-elim, upd2-elim, by-eq, sum, size-mono}
 use Rattle.protocol.specs.Prelude.{Msg, none}
-use Rattle.protocol.specs.Prelude.{Plan, Ends, Tree, key, rank, joins-lt, flip, other-end, end-lt, same-edge, Way, join, hop, wider, State, absorbed, pop}
+use Rattle.protocol.specs.Prelude.{Network, Ends, Tree, key, rank, joins-lt, flip, other-end, end-lt, same-edge, Way, join, hop, wider, State, absorbed, pop}
 use Rattle.protocol.specs.Prelude.{bulk-elim, sum-row, row-else, both-joined}
 use Rattle.protocol.specs.Prelude.{at2}
 use Rattle.protocol.specs.Prelude.{Both, Joined, members, GL, Inv}
@@ -13,7 +13,7 @@ use Rattle.protocol.specs.Search.{Parents, Kids, Finds, Pending, Counts, Tests,
 use Rattle.protocol_tell.specs.Sunk.{Absorbs}
 use Rattle.protocol_tell.specs.Sunk as F
 
-module _ {p : Plan} {s : State} (i : Inv p s) {u v k l x : ℕ} {r : List Msg} (act : Absorbs p s u v k l x r) where
+module _ {p : Network} {s : State} (i : Inv p s) {u v k l x : ℕ} {r : List Msg} (act : Absorbs p s u v k l x r) where
   abbrev S′ : State
   S′ = absorbed (pop s u k r) u v k x
 

@@ -2,7 +2,7 @@
 use Rattle.protocol.specs.Prelude.{ℕ, _+_, _≤_, _<_, arith, _≡_, refl, sym, ap, subst, _∙_, _≢_, _⊎_, inl, inr, ⊎-elim}
 use Rattle.protocol.specs.Prelude.{List, _∷_, by-eq, sumL}
 use Rattle.protocol.specs.Prelude.{Msg, connect, initiate, report}
-use Rattle.protocol.specs.Prelude.{Plan, Ends, joins-lt, flip, other-end, ends-two, State, Idle, send, pop}
+use Rattle.protocol.specs.Prelude.{Network, Ends, joins-lt, flip, other-end, ends-two, State, Idle, send, pop}
 use Rattle.protocol.specs.Prelude.{isC, isI, isT, isA, isR, isK, In}
 use Rattle.protocol.specs.Prelude.{GL, GC, Inf, Jn, Half, Inv, mark-awake, in-sum}
 use Rattle.protocol.specs.Prelude.{connects-same, answers-same, testing-same, around-same, reports-same, owing-same, bests-same, inv-passing}
@@ -12,7 +12,7 @@ use Rattle.protocol.specs.Traffic.{InitOk, Tokens, Initiates, Telling, Reports}
 use Rattle.protocol_tell.specs.Laws.{six, init-eq}
 use Rattle.protocol_tell.specs.Reply as Y
 
-module _ {p : Plan} {s : State} (i : Inv p s) {u v k l : ℕ} {r : List Msg} (idle : Idle s) (ends : Ends p k u v) (awake : s.st v ≢ 0) (q : s.ch u k ≡ connect l ∷ r)
+module _ {p : Network} {s : State} (i : Inv p s) {u v k l : ℕ} {r : List Msg} (idle : Idle s) (ends : Ends p k u v) (awake : s.st v ≢ 0) (q : s.ch u k ≡ connect l ∷ r)
     (low : s.lev v ≤ l) (taken : s.mark v k ≢ 0) where
   abbrev S′ : State
   S′ = send (pop s u k r) v k (initiate (s.lev v + 1) k 1)

@@ -1,6 +1,6 @@
 -- v serves Initiate (l, f, x) from u over k, takes its values and sends the copies: what holds before and after.
 use Rattle.protocol.specs.Prelude.{ℕ, suc, _≤_, _<_, arith, _≡_, refl, sym, ap, subst, _∙_, _≢_, _⊎_, inl, inr, ⊎-elim, List, _∷_, Bool, true, upd2, upd-same}
-use Rattle.protocol.specs.Prelude.{upd-other, upd-elim, by-eq, sumL, Msg, none, initiate, report, Plan, Ends, flip, other-end, ends-irr, edge-some, State, Idle, Mode}
+use Rattle.protocol.specs.Prelude.{upd-other, upd-elim, by-eq, sumL, Msg, none, initiate, report, Network, Ends, flip, other-end, ends-irr, edge-some, State, Idle, Mode}
 use Rattle.protocol.specs.Prelude.{Place, informed, pop, copy, top, top-in, top-max, kinds, Fits, In, Bef, heads, in-cons, else-same, here-new, head-at}
 use Rattle.protocol.specs.Prelude.{pop-head, pop-in, in-pop, pop-sum, copy-yes, copy-on, fan-in, in-fan, fan-sum, fan-else, GL, GC, DK, Inf, Jn, Waits}
 use Rattle.protocol.specs.Prelude.{CoreEnds, Spent, Inv, inf-cases, low-find, mark-awake}
@@ -8,14 +8,14 @@ use Rattle.protocol.specs.Search.{LowOk}
 use Rattle.protocol.specs.Traffic.{InitOk}
 
 -- the guards of the step
-pub record Tells (p : Plan) (s : State) (u v k l f x a b d e : ℕ) (r : List Msg) : Type 0 where
+pub record Tells (p : Network) (s : State) (u v k l f x a b d e : ℕ) (r : List Msg) : Type 0 where
   pub idle : Idle s
   pub ends : Ends p k u v
   pub q : s.ch u k ≡ initiate l f x ∷ r
   pub mode : Mode v x a b
   pub place : Place s u v k d e
 
-module _ {p : Plan} {s : State} (i : Inv p s) {u v k l f x a b d e : ℕ} {r : List Msg} (act : Tells p s u v k l f x a b d e r) where
+module _ {p : Network} {s : State} (i : Inv p s) {u v k l f x a b d e : ℕ} {r : List Msg} (act : Tells p s u v k l f x a b d e r) where
   abbrev S′ : State
   S′ = informed p (pop s u k r) v k l f x a d e b
 

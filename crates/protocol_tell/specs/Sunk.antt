@@ -2,7 +2,7 @@
 use Rattle.protocol.specs.Prelude.{ℕ, _≤_, _<_, arith, _≡_, refl, sym, ap, subst, _∙_, _≢_, _⊎_, inl, inr, ⊎-elim}
 use Rattle.protocol.specs.Prelude.{List, _∷_, upd2-elim, by-eq}
 use Rattle.protocol.specs.Prelude.{Msg, connect, initiate}
-use Rattle.protocol.specs.Prelude.{Plan, Ends, flip, same-edge, ends-irr, State, Idle, Flag, absorbed, pop}
+use Rattle.protocol.specs.Prelude.{Network, Ends, flip, same-edge, ends-irr, State, Idle, Flag, absorbed, pop}
 use Rattle.protocol.specs.Prelude.{bulk-elim, bulk-in, bulk-out, relabel-keep, relabel-cases}
 use Rattle.protocol.specs.Prelude.{In, at2, here-new, else-same, all-in, pop-head}
 use Rattle.protocol.specs.Prelude.{Bounding, Decision, GL, GC, DK, Inf, Jn, Half, Changing, Inv}
@@ -10,7 +10,7 @@ use Rattle.protocol.specs.Prelude.{half-at, no-root, no-connect-decided}
 use Rattle.protocol.specs.Decisions.{HalfOk}
 
 -- the guards of the step
-pub record Absorbs (p : Plan) (s : State) (u v k l x : ℕ) (r : List Msg) : Type 0 where
+pub record Absorbs (p : Network) (s : State) (u v k l x : ℕ) (r : List Msg) : Type 0 where
   pub idle : Idle s
   pub ends : Ends p k u v
   pub awake : s.st v ≢ 0
@@ -18,7 +18,7 @@ pub record Absorbs (p : Plan) (s : State) (u v k l x : ℕ) (r : List Msg) : Typ
   pub lower : l < s.lev v
   pub flag : Flag s v x
 
-module _ {p : Plan} {s : State} (i : Inv p s) {u v k l x : ℕ} {r : List Msg} (act : Absorbs p s u v k l x r) where
+module _ {p : Network} {s : State} (i : Inv p s) {u v k l x : ℕ} {r : List Msg} (act : Absorbs p s u v k l x r) where
   abbrev S′ : State
   S′ = absorbed (pop s u k r) u v k x
 

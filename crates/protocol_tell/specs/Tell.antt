@@ -1,6 +1,6 @@
 -- Initiate (l, f, x) from u at v over k: v takes level, identity and status from it, and sends copies over its other branches.
 use Rattle.protocol.specs.Prelude.{ℕ, suc, _≤_, _<_, arith, _≡_, refl, sym, ap, subst, _∙_, _≢_, _⊎_, inl, inr, ⊎-elim, List, [], _∷_, Bool, true, upd2}
-use Rattle.protocol.specs.Prelude.{upd-other, by-eq, sumL, All, All-app, con, nil, Msg, connect, initiate, Plan, Ends, key, flip, other-end, ends-irr, State, Idle, Mode}
+use Rattle.protocol.specs.Prelude.{upd-other, by-eq, sumL, All, All-app, con, nil, Msg, connect, initiate, Network, Ends, key, flip, other-end, ends-irr, State, Idle, Mode}
 use Rattle.protocol.specs.Prelude.{Place, informed, pop, copy, isC, isT, isA, isR, isK, arg1, top, top-app, Fits, fits-initiate, In, in-nil, at2, else-same}
 use Rattle.protocol.specs.Prelude.{pop-in, in-pop, pop-bef, pop-all, fan-elim, in-fan, fan-new, fan-bef, fan-else, GL, GC, Inf, Jn, Inv, mark-awake, no-root}
 use Rattle.protocol.specs.Traffic.{Hush, Tokens, Connects, InitOk, Initiates, Telling, Testing, Answers, Ordered}
@@ -10,7 +10,7 @@ use Rattle.protocol_tell.specs.Heard as F
 use Rattle.protocol_tell.specs.TellTables as T
 use Rattle.protocol_tell.specs.TellReports as R
 
-module _ {p : Plan} {s : State} (i : Inv p s) {u v k l f x a b d e : ℕ} {r : List Msg} (act : Tells p s u v k l f x a b d e r) where
+module _ {p : Network} {s : State} (i : Inv p s) {u v k l f x a b d e : ℕ} {r : List Msg} (act : Tells p s u v k l f x a b d e r) where
   abbrev S′ : State
   S′ = informed p (pop s u k r) v k l f x a d e b
 
@@ -270,6 +270,6 @@ module _ {p : Plan} {s : State} (i : Inv p s) {u v k l f x a b d e : ℕ} {r : L
     Q1 = Q1′;
   }
 
-pub inv-tell : {p : Plan} {s : State} → Inv p s → {u v k l f x a b d e : ℕ} {r : List Msg} → Idle s → Ends p k u v → s.ch u k ≡ initiate l f x ∷ r → Mode v x a b → Place s u v k d e
+pub inv-tell : {p : Network} {s : State} → Inv p s → {u v k l f x a b d e : ℕ} {r : List Msg} → Idle s → Ends p k u v → s.ch u k ≡ initiate l f x ∷ r → Mode v x a b → Place s u v k d e
     → Inv p (informed p (pop s u k r) v k l f x a d e b)
 inv-tell i h g q m n = inv i (record { idle = h; ends = g; q = q; mode = m; place = n })

@@ -1,6 +1,6 @@
 -- v serves Initiate (l, f, x) from u over k: the clauses on Reports, on what is owed, and on best weights.
 use Rattle.protocol.specs.Prelude.{ℕ, suc, _≤_, _<_, arith, _≡_, refl, sym, ap, subst, _∙_, _≢_, _⊎_, inl, inr, ⊎-elim, List, Bool, upd2, upd-other, by-eq}
-use Rattle.protocol.specs.Prelude.{sumL, Msg, connect, initiate, report, Plan, Ends, key, rank, flip, ends-irr, State, informed, pop, copy, fill-elim}
+use Rattle.protocol.specs.Prelude.{sumL, Msg, connect, initiate, report, Network, Ends, key, rank, flip, ends-irr, State, informed, pop, copy, fill-elim}
 use Rattle.protocol.specs.Prelude.{fill-else, isCI, isR, kinds, no-calls, some-report, In, next, Bef, tails, pop-bef, fan-bef, GL, GC, Inf, Jn, Outst, Covered}
 use Rattle.protocol.specs.Prelude.{CoreEnds, Spent, Inv}
 use Rattle.protocol.specs.Traffic.{InitOk, Reports, Owing, Bests}
@@ -8,7 +8,7 @@ use Rattle.protocol_tell.specs.Laws.{ends-at, three, fill-here}
 use Rattle.protocol_tell.specs.Heard.{Tells}
 use Rattle.protocol_tell.specs.Heard as F
 
-module _ {p : Plan} {s : State} (i : Inv p s) {u v k l f x a b d e : ℕ} {r : List Msg} (act : Tells p s u v k l f x a b d e r) where
+module _ {p : Network} {s : State} (i : Inv p s) {u v k l f x a b d e : ℕ} {r : List Msg} (act : Tells p s u v k l f x a b d e r) where
   abbrev S′ : State
   S′ = informed p (pop s u k r) v k l f x a d e b
 

@@ -1,6 +1,6 @@
 -- v serves Initiate (l, f, x) from u over k: the clauses on tables.
 use Rattle.protocol.specs.Prelude.{ℕ, suc, _+_, _*_, _≤_, _<_, arith, _≡_, refl, sym, ap, subst, _∙_, _≢_, _⊎_, inl, inr, ⊎-elim, List, Bool, upd-same}
-use Rattle.protocol.specs.Prelude.{upd-other, upd-elim, by-eq, bit, sum, sum-eq, Msg, none, Plan, Ends, key, flip, other-end, ends-irr, edge-some, State, informed, pop}
+use Rattle.protocol.specs.Prelude.{upd-other, upd-elim, by-eq, bit, sum, sum-eq, Msg, none, Network, Ends, key, flip, other-end, ends-irr, edge-some, State, informed, pop}
 use Rattle.protocol.specs.Prelude.{copy, fill-elim, fill-else, sum-fill, Bounding, GL, GC, Inf, Jn, Inv, no-root}
 use Rattle.protocol.specs.Fragments.{Ranges, Values, Levels, Sleepers, Inbounds}
 use Rattle.protocol.specs.Decisions.{Halves, ChangeRoots, Rootings, Finishes}
@@ -10,7 +10,7 @@ use Rattle.protocol_tell.specs.Laws.{three}
 use Rattle.protocol_tell.specs.Heard.{Tells}
 use Rattle.protocol_tell.specs.Heard as F
 
-module _ {p : Plan} {s : State} (i : Inv p s) {u v k l f x a b d e : ℕ} {r : List Msg} (act : Tells p s u v k l f x a b d e r) where
+module _ {p : Network} {s : State} (i : Inv p s) {u v k l f x a b d e : ℕ} {r : List Msg} (act : Tells p s u v k l f x a b d e r) where
   abbrev S′ : State
   S′ = informed p (pop s u k r) v k l f x a d e b
 

@@ -61,7 +61,7 @@ pair status m sent words =
     record {
       field =
           record {
-            plan = record { modules = 2; links = 1; lower = 0 ∷ []; higher = 1 ∷ []; near = 3 ∷ []; far = 4 ∷ [] };
+            plan = 2 ∷ 1 ∷ 0 ∷ 1 ∷ 3 ∷ 4 ∷ [];
             cells =
                 1 ∷ 1 ∷ 0 ∷ none ∷ none ∷ 0 ∷ none ∷ 0 ∷ 0
                 ∷ status ∷ 0 ∷ none ∷ none ∷ none ∷ none ∷ none ∷ 0 ∷ 0 ∷ [];

@@ -2,7 +2,7 @@ use native.Mathlib.Omega.{arith}
 use mathlib.Core.List.{_++_}
 use lib.ListN.{length-append}
 use borrow.Author.Needs.{needs}
-use Rattle.node_response.specs.Act.{sent, copiesOf}
+use Rattle.node_response.specs.Response.{packetSends, copiesOf}
 use Rattle.field_place.specs.Posted.{copiesTo}
 use Rattle.field_place.proofs.many.Statement.{statement}
 use Rattle.field_place.proofs.many.Tie as tie
@@ -21,7 +21,7 @@ returns c =
     let x = s .a in (
       λ near far msg.
           let cs = copiesOf (x .copies) (copiesTo (s .links) (s .lower .now) (s .higher .now) (s .marks .now) (s .v) (s .j) (s .links) near far msg) in
-          omega (arith, t .told .ensures .0 near far msg, o .one .ensures .0, c .one2 .ensures .0, length-append cs (sent (x .first) ++ sent (x .second)), length-append (sent (x .first)) (sent (x .second))),
+          omega (arith, t .told .ensures .0 near far msg, o .one .ensures .0, c .one2 .ensures .0, length-append cs (packetSends (x .first) ++ packetSends (x .second)), length-append (packetSends (x .first)) (packetSends (x .second))),
       omega (arith, t .told .ensures .1, o .one .ensures .1, c .one2 .ensures .1),
     )
 

@@ -6,24 +6,24 @@ use mathlib.Core.List.{[], _∷_, _++_}
 use mathlib.Core.Logic.{⊎-elim}
 use lib.ListN.{length, take}
 use borrow.Author.Needs.{needs}
-use Rattle.node_response.specs.Act.{msgIn}
+use Rattle.node_response.specs.Response.{packetMsg}
 use Rattle.field.specs.Held.{layout}
 use Rattle.format_word.specs.Word.{packed}
 use Rattle.format_message.specs.Listed.{Listed}
-use Rattle.node_response.specs.Laws.{sent-none}
+use Rattle.node_response.specs.Laws.{packet-none}
 use Rattle.field_place.specs.Posted.{wordIn}
 use Rattle.field_place.proofs.Parts.{out-header, out-word, sent-some}
 use Rattle.field_place.proofs.Words.{posted-none, posted-one}
 use Rattle.field_place.proofs.post.Statement.{statement}
 use Rattle.field_place.proofs.post.Tie as tie
 
-some : (c : tie.Else1) → (c .before .before .before .args .x .to < 600) × Listed (msgIn (c .before .before .before .args .x))
+some : (c : tie.Else1) → (c .before .before .before .args .x .edge < 600) × Listed (packetMsg (c .before .before .before .args .x))
 some c = ⊎-elim (λ e. absurd (c .if1 .left e)) (λ h. h) (c .before .before .before .pre .1 .sends)
 
 returns : tie.Need-returns
 returns c =
     let s = c .before .before .before in
-    rw (sent-none (s .args .x) (c .if1 .taken)) (posted-none (s .args .lent .now) (s .args .n) (s .pre .0))
+    rw (packet-none (s .args .x) (c .if1 .taken)) (posted-none (s .args .lent .now) (s .args .n) (s .pre .0))
 
 end-at-requires : tie.Need-end-at-requires
 end-at-requires c κs = some (c .before) .0
@@ -46,7 +46,7 @@ returns-2 c =
     let x = a .x in
     let word = k .pack .ensures ∙ ap₂ (λ (b d : ℕ). packed b (x .carried) d 0) (h .header .ensures ∙ out-header x (s .pre .1 .formed) (some o .1)) (e .end-at .ensures) ∙ out-word x (s .pre .1 .formed) (a .lower .now) (a .v) in
     rw (sent-some x (o .if1 .left))
-    (posted-one (a .lent .now) (a .n) (s .pre .0) (p .put .last .0) (wordIn (a .lower .now) (a .v) (record { edge = x .to; msg = msgIn x }))
+    (posted-one (a .lent .now) (a .n) (s .pre .0) (p .put .last .0) (wordIn (a .lower .now) (a .v) (record { edge = x .edge; msg = packetMsg x }))
     (p .put .ensures ∙ ap (λ (w : ℕ). layout (length (a .lent .now)) (take (a .n) (a .lent .now) ++ (w ∷ []))) word))
 
 pub post-spec : {M : Type 1} → statement M

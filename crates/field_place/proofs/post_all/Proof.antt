@@ -3,7 +3,7 @@ use mathlib.Core.List.{List}
 use borrow.Author.Needs.{needs}
 use Rattle.node.specs.Work.{Send}
 use Rattle.format_message.specs.Msg.{Msg}
-use Rattle.node_response.specs.Act.{sent, copiesOf}
+use Rattle.node_response.specs.Response.{packetSends, copiesOf}
 use Rattle.field_place.proofs.Puts.{lots-first, lots-second, lots-laid, lots-third, lots}
 use Rattle.field_place.specs.Posted.{copiesTo}
 use Rattle.field_place.proofs.post_all.Statement.{statement}
@@ -16,7 +16,7 @@ post-told-requires c κs =
       s .pre .0,
       s .pre .1,
       lots-first (a .lower .now) (a .v) (a .header) (a .carried)
-          (λ (near far : List ℕ) (msg : Msg). copiesOf (a .a .copies) (copiesTo (a .links) (a .lower .now) (a .higher .now) (a .marks .now) (a .v) (a .j) (a .links) near far msg)) (sent (a .a .first)) (sent (a .a .second)) (a .lent .now) (a .n) (s .pre .0) (s .pre .4),
+          (λ (near far : List ℕ) (msg : Msg). copiesOf (a .a .copies) (copiesTo (a .links) (a .lower .now) (a .higher .now) (a .marks .now) (a .v) (a .j) (a .links) near far msg)) (packetSends (a .a .first)) (packetSends (a .a .second)) (a .lent .now) (a .n) (s .pre .0) (s .pre .4),
     )
 
 post-requires : tie.Need-post-requires
@@ -27,7 +27,7 @@ post-requires c κs =
       t .post-told .ensures .laid,
       s .pre .2,
       lots-second (a .lower .now) (a .v) (a .header) (a .carried)
-          (λ (near far : List ℕ) (msg : Msg). copiesOf (a .a .copies) (copiesTo (a .links) (a .lower .now) (a .higher .now) (a .marks .now) (a .v) (a .j) (a .links) near far msg)) (sent (a .a .first)) (sent (a .a .second)) (a .lent .now) (a .n) (s .pre .0) (s .pre .4) _ _ (t .post-told .ensures),
+          (λ (near far : List ℕ) (msg : Msg). copiesOf (a .a .copies) (copiesTo (a .links) (a .lower .now) (a .higher .now) (a .marks .now) (a .v) (a .j) (a .links) near far msg)) (packetSends (a .a .first)) (packetSends (a .a .second)) (a .lent .now) (a .n) (s .pre .0) (s .pre .4) _ _ (t .post-told .ensures),
     )
 
 post-requires-2 : tie.Need-post-requires-2
@@ -37,9 +37,9 @@ post-requires-2 c κs =
     let s = t .before .before .before in
     let a = s .args in
     let cs : List ℕ → List ℕ → Msg → List Send = λ near far msg. copiesOf (a .a .copies) (copiesTo (a .links) (a .lower .now) (a .higher .now) (a .marks .now) (a .v) (a .j) (a .links) near far msg) in (
-      lots-laid (a .lower .now) (a .v) (a .header) (a .carried) cs (sent (a .a .first)) (sent (a .a .second)) (a .lent .now) (a .n) (s .pre .0) (s .pre .4) _ _ (t .post-told .ensures) _ _ (f .post .ensures),
+      lots-laid (a .lower .now) (a .v) (a .header) (a .carried) cs (packetSends (a .a .first)) (packetSends (a .a .second)) (a .lent .now) (a .n) (s .pre .0) (s .pre .4) _ _ (t .post-told .ensures) _ _ (f .post .ensures),
       s .pre .3,
-      lots-third (a .lower .now) (a .v) (a .header) (a .carried) cs (sent (a .a .first)) (sent (a .a .second)) (a .lent .now) (a .n) (s .pre .0) (s .pre .4) _ _ (t .post-told .ensures) _ _ (f .post .ensures),
+      lots-third (a .lower .now) (a .v) (a .header) (a .carried) cs (packetSends (a .a .first)) (packetSends (a .a .second)) (a .lent .now) (a .n) (s .pre .0) (s .pre .4) _ _ (t .post-told .ensures) _ _ (f .post .ensures),
     )
 
 returns : tie.Need-returns
@@ -50,7 +50,7 @@ returns c =
     let s = t .before .before .before in
     let a = s .args in
     lots (a .lower .now) (a .v) (a .header) (a .carried)
-    (λ (near far : List ℕ) (msg : Msg). copiesOf (a .a .copies) (copiesTo (a .links) (a .lower .now) (a .higher .now) (a .marks .now) (a .v) (a .j) (a .links) near far msg)) (sent (a .a .first)) (sent (a .a .second)) (a .lent .now) (a .n) (s .pre .0) (s .pre .4)
+    (λ (near far : List ℕ) (msg : Msg). copiesOf (a .a .copies) (copiesTo (a .links) (a .lower .now) (a .higher .now) (a .marks .now) (a .v) (a .j) (a .links) near far msg)) (packetSends (a .a .first)) (packetSends (a .a .second)) (a .lent .now) (a .n) (s .pre .0) (s .pre .4)
     _ _ (t .post-told .ensures) _ _ (f .post .ensures) _ _ (g .post2 .ensures)
 
 pub post-all-spec : {M : Type 1} → statement M

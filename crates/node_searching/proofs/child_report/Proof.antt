@@ -1,7 +1,7 @@
 -- `answer::child_report` meets its contract.
 use borrow.Author.Needs.{needs}
 use mathlib.Core.Path.{sym, _∙_}
-use Rattle.node_response.specs.Act.{workOf}
+use Rattle.node_response.specs.Response.{workOf}
 use Rattle.node_response.specs.Laws.{told-as, then, sets-node}
 use Rattle.node_searching.specs.Laws.{report-with, better-in}
 use Rattle.node.specs.Laws.{child-refused, child-reports}

@@ -1,7 +1,7 @@
 -- `answer::on_accept` meets its contract.
 use borrow.Author.Needs.{needs}
 use mathlib.Core.Logic.{inl}
-use Rattle.node_response.specs.Act.{workOf}
+use Rattle.node_response.specs.Response.{workOf}
 use Rattle.node_response.specs.Laws.{told-as, then, sets-node}
 use Rattle.node_searching.specs.Laws.{report-with, better-in}
 use Rattle.node_searching.proofs.on_accept.Statement.{statement}

@@ -1,7 +1,7 @@
 -- `answer::on_reject` meets its contract.
 use mathlib.Core.Path.{ap, _∙_}
 use Rattle.node_response.specs.Laws.{then}
-use Rattle.node_response.specs.declared.Out.{Out}
+use Rattle.node_response.specs.declared.Packet.{Packet}
 use Rattle.node_searching.proofs.on_reject.Statement.{statement}
 use Rattle.node_searching.proofs.on_reject.Tie as tie
 
@@ -9,7 +9,7 @@ strike-requires : tie.Need-strike-requires
 strike-requires c κs = (c .pre .0, c .pre .1, c .pre .3)
 
 do-test-requires : tie.Need-do-test-requires
-do-test-requires c κs = (c .before .pre .0, ap (λ (x : Out). x .to) (c .strike .ensures .1) ∙ c .before .pre .2)
+do-test-requires c κs = (c .before .pre .0, ap (λ (x : Packet). x .edge) (c .strike .ensures .1) ∙ c .before .pre .2)
 
 returns : tie.Need-returns
 returns c = λ cs. then (c .do-test .ensures cs) (c .before .strike .ensures .0 cs)

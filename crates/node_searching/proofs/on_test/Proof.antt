@@ -4,7 +4,7 @@ use mathlib.Core.Logic.{⊎-elim}
 use mathlib.Core.Path.{sym, ap, _∙_}
 use native.Mathlib.Omega.{arith}
 use Rattle.node_response.specs.Laws.{told-as, then}
-use Rattle.node_response.specs.declared.Out.{Out}
+use Rattle.node_response.specs.declared.Packet.{Packet}
 use Rattle.node.specs.Laws.{test-waits, test-accepted, test-crossed, test-rejected}
 use Rattle.node_edges.specs.Laws.{own-below}
 use Rattle.node_searching.proofs.on_test.Statement.{statement}
@@ -22,13 +22,13 @@ strike-requires c κs =
     (p .0, p .1, ⊎-elim (λ h. h) (λ h. omega (arith, c .before .before .if1 .left, p .4)) (p .3))
 
 do-test-requires : tie.Need-do-test-requires
-do-test-requires c κs = (c .before .before .before .before .before .before .before .pre .0, ap (λ (x : Out). x .to) (c .before .before .strike .ensures .1) ∙ c .before .before .before .before .before .before .before .pre .2)
+do-test-requires c κs = (c .before .before .before .before .before .before .before .pre .0, ap (λ (x : Packet). x .edge) (c .before .before .strike .ensures .1) ∙ c .before .before .before .before .before .before .before .pre .2)
 
 returns-3 : tie.Need-returns-3
 returns-3 c = λ cs. told-as (then (c .do-test .ensures cs) (c .before .before .before .strike .ensures .0 cs)) (sym (test-crossed _ _ _ _ _ (c .before .before .before .before .before .before .if1 .left) (c .before .before .before .before .if2 .left) (c .before .if3 .taken)))
 
 say-requires-2 : tie.Need-say-requires-2
-say-requires-2 c κs = ap (λ (x : Out). x .to) (c .before .before .before .strike .ensures .1) ∙ c .before .before .before .before .before .before .before .before .pre .2
+say-requires-2 c κs = ap (λ (x : Packet). x .edge) (c .before .before .before .strike .ensures .1) ∙ c .before .before .before .before .before .before .before .before .pre .2
 
 returns-4 : tie.Need-returns-4
 returns-4 c =

@@ -1,30 +1,13 @@
-use Rattle.plan.specs.Weights.{costIn}
 use Rattle.plan.proofs.Order.{same-cost, other-cost}
 use borrow.Author.Needs.{needs}
 use Rattle.plan.proofs.earlier.Statement.{statement}
 use Rattle.plan.proofs.earlier.Tie as tie
 
 returns : tie.Need-returns
-unfolding costIn
-returns c = let e = c .before in same-cost _ _ _ _ _ _ (e .before .before .before .cost .ensures) (e .cost2 .ensures) (c .if1 .taken)
+returns c = let e = c .before in same-cost _ _ _ _ _ (e .before .cost .ensures) (e .cost2 .ensures) (c .if1 .taken)
 
 returns-2 : tie.Need-returns-2
-unfolding costIn
-returns-2 c = let e = c .before in other-cost _ _ _ _ _ _ (e .before .before .before .cost .ensures) (e .cost2 .ensures) (c .if1 .left)
+returns-2 c = let e = c .before in other-cost _ _ _ _ _ (e .before .cost .ensures) (e .cost2 .ensures) (c .if1 .left)
 
 pub earlier-spec : {M : Type 1} → statement M
-earlier-spec =
-    tie.close
-    (tie.spec
-    (λ c. search needs)
-    (λ c. search needs)
-    (λ c. search needs)
-    (λ c. search needs)
-    (λ c κs. search needs)
-    (λ c. search needs)
-    (λ c. search needs)
-    (λ c. search needs)
-    (λ c. search needs)
-    (λ c κs. search needs)
-    returns
-    returns-2)
+earlier-spec = tie.close (tie.spec (λ c κs. search needs) (λ c κs. search needs) returns returns-2)

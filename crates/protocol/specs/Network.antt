@@ -12,7 +12,7 @@ use Rattle.graph.specs.Ways.{joins-lt, ends-diff}
 use Rattle.graph.specs.Rank as R
 use Rattle.format_message.specs.Msg.{none}
 
-pub record Plan : Type 0 where
+pub record Network : Type 0 where
   pub g : Graph
   -- number of nodes
   pub N : ℕ
@@ -24,22 +24,22 @@ pub record Plan : Type 0 where
   pub small : g.L ≤ 65535
 
 -- edge k joins u and v
-abbrev pub Ends : Plan → ℕ → ℕ → ℕ → Type 0
+abbrev pub Ends : Network → ℕ → ℕ → ℕ → Type 0
 Ends p k u v = Joins p.g k u v
 
 -- edge k is in the tree
-abbrev pub Tree : Plan → ℕ → Type 0
+abbrev pub Tree : Network → ℕ → Type 0
 Tree p k = InTree p.g (p.order.earlier) k
 
 -- place of an edge in the order: smaller is earlier
-abbrev pub rank : Plan → ℕ → ℕ
+abbrev pub rank : Network → ℕ → ℕ
 rank p k = R.rank p.order k
 
 -- the same for an edge or none: none is later than all
-unfoldable pub key : Plan → ℕ → ℕ
+unfoldable pub key : Network → ℕ → ℕ
 key p k = cond (eqb k none) p.g.L (rank p k)
 
-module _ (p : Plan) where
+module _ (p : Network) where
   pub key-none : key p none ≡ p.g.L
   unfolding key
   key-none = refl
