@@ -7,8 +7,7 @@ use mathlib.Core.Bool.{Bool, true, false, cond, _&&_}
 use lib.Dec.{eqb}
 use borrow.Author.Tests.{eq-eqb, ne-eqb}
 use Rattle.base.specs.Cond.{bit, upd, upd-same, upd-other}
-use Rattle.format_message.specs.Msg.{none}
-use Rattle.base.specs.None.{beforeBy}
+use Rattle.base.specs.None.{none, beforeBy}
 use Rattle.plan.specs.Links.{Plan}
 use Rattle.plan.specs.Weights.{earlier}
 use Rattle.field.specs.Edges.{isOwn, ownOf}

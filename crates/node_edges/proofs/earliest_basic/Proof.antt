@@ -1,4 +1,3 @@
--- `search::earliest_basic` meets its contract.
 use borrow.Author.Needs.{needs}
 use Rattle.node_edges.specs.Own.{looked}
 use Rattle.node_edges.proofs.earliest_basic.Statement.{statement}

@@ -1,4 +1,3 @@
--- `search::earliest_own` meets its contract.
 use borrow.Author.Needs.{needs}
 use Rattle.node_edges.specs.Own.{looked}
 use Rattle.node_edges.proofs.earliest_own.Statement.{statement}

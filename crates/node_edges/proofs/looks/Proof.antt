@@ -1,4 +1,3 @@
--- `search::looks` meets its contract.
 use Prim.Native.Nat.{ℕ}
 use borrow.Author.Needs.{needs}
 use borrow.Author.Tests.{not-true, not-false}
@@ -17,7 +16,7 @@ returns-2 c = sym (looks-all _ _ _ _ (sym (c .before .before .owns .ensures) ∙
 returns-3 : tie.Need-returns-3
 returns-3 c =
     let own = sym (c .before .before .before .owns .ensures) ∙ not-false _ (c .before .before .if1 .left) in
-    ap (λ (x : ℕ). eqb x 0) (c .mark-of .ensures _ _ own) ∙ sym (looks-basic _ _ _ _ own (c .before .if2 .left))
+    ap (λ (x : ℕ). eqb x 0) (c .mark-of .ensures own) ∙ sym (looks-basic _ _ _ _ own (c .before .if2 .left))
 
 pub looks-spec : {M : Type 1} → statement M
 looks-spec = tie.close (tie.spec (λ c κs. search needs) returns returns-2 (λ c κs. search needs) returns-3)
