@@ -11,23 +11,20 @@ use lib.Dec.{eqb}
 use borrow.Author.Tests.{ne-eqb}
 use Rattle.base.specs.Cond.{bool-cases, upd, upd-same, upd-other, by-eq, ltb-cases, eqb-cases}
 use Rattle.base.specs.None.{none}
-use Rattle.plan.specs.declared.Plan.{Plan}
-use Rattle.node_edges.specs.Own.{marksIn, marked}
-use Rattle.node_edges.specs.Laws.{mark-own, marked-other}
-use Rattle.field.specs.Edges.{isOwn, over, from, linkOf}
+use Rattle.node_edges.specs.Own.{marked}
+use Rattle.node_edges.specs.Laws.{marked-other}
+use Rattle.field.specs.Edges.{isOwn, from, linkOf, endOf, marksIn}
 use Rattle.field.specs.State.{newMark, putMarks}
 use Rattle.plan.specs.Accepted.{Accepted}
+use Rattle.plan.specs.Links.{Plan, linksOf}
+use Rattle.field.specs.laws.Edges.{mark-own}
 use Rattle.field_laws.specs.Places.{mark-at, length-new, over-from, from-own, link-over, over-below, from-over, own-below}
 use Rattle.field_cells.specs.Marks.{markPut}
 
--- module v's marks as they stand
-abbrev pub marksOf : Plan → List ℕ → ℕ → ℕ → ℕ
-marksOf p marks v = marksIn (p .links) (p .lower) (p .higher) marks v
-
 -- the mark of directed end d, in both cases
 new-cases : (p : Plan) (v : ℕ) (m : ℕ → ℕ) (d x r : ℕ)
-    → (d < 2 * p .links → from p d ≡ v → r ≡ m (linkOf d)) → ((d < 2 * p .links → from p d ≡ v → ⊥) → r ≡ x) → r ≡ newMark p v m d x
-new-cases p v m d x r y n = ltb-cases d (2 * p .links) (λ b. r ≡ cond (b && eqb (from p d) v) (m (linkOf d)) x)
+    → (d < 2 * linksOf p → from p d ≡ v → r ≡ m (linkOf d)) → ((d < 2 * linksOf p → from p d ≡ v → ⊥) → r ≡ x) → r ≡ newMark p v m d x
+new-cases p v m d x r y n = ltb-cases d (2 * linksOf p) (λ b. r ≡ cond (b && eqb (from p d) v) (m (linkOf d)) x)
     (λ l. eqb-cases (from p d) v (λ b. r ≡ cond b (m (linkOf d)) x) (λ e. y l e) (λ f. n (λ k e. f e)))
     (λ g. n (λ l e. omega arith))
 
@@ -36,11 +33,11 @@ unfolding marked
 marked-at m k c n = rw (ne-eqb k none n)
 
 module _ (p : Plan) (marks : List ℕ) (v k c : ℕ) where
-  put-own : isOwn p v k ≡ true → markPut (p .links) (p .lower) (p .higher) marks v k c ≡ set marks (over p v k) c
+  put-own : isOwn p v k ≡ true → markPut p marks v k c ≡ set marks (endOf p v k) c
   unfolding markPut
   put-own o = rw o
 
-  put-other : isOwn p v k ≡ false → markPut (p .links) (p .lower) (p .higher) marks v k c ≡ marks
+  put-other : isOwn p v k ≡ false → markPut p marks v k c ≡ marks
   unfolding markPut
   put-other o = rw o
 
@@ -49,34 +46,34 @@ module _ (p : Plan) (a : Accepted p) (marks : List ℕ) (v : ℕ) where
   agree : (m : ℕ → ℕ) (l : List ℕ) → length l ≡ length marks → ((d : ℕ) → d < length marks → getD l d 0 ≡ newMark p v m d (getD marks d 0)) → l ≡ putMarks p marks v m
   agree m l e h = ext-getD 0 l (putMarks p marks v m) (e ∙ sym (length-new p v m 0 marks)) (λ d b. h d (omega arith) ∙ sym (mark-at p v m marks d (omega arith)))
 
-  own-is : (d : ℕ) → d < 2 * p .links → from p d ≡ v → getD marks d 0 ≡ marksOf p marks v (linkOf d)
+  own-is : (d : ℕ) → d < 2 * linksOf p → from p d ≡ v → getD marks d 0 ≡ marksIn p marks v (linkOf d)
   own-is d l e =
-      sym (mark-own (p .links) (p .lower) (p .higher) v (linkOf d) marks (subst (λ u. isOwn p u (linkOf d) ≡ true) e (from-own p a d l))
-      ∙ ap (λ i. getD marks i 0) (subst (λ u. over p u (linkOf d) ≡ d) e (over-from p a d l)))
+      sym (mark-own p v (linkOf d) marks (subst (λ u. isOwn p u (linkOf d) ≡ true) e (from-own p a d l))
+      ∙ ap (λ i. getD marks i 0) (subst (λ u. endOf p u (linkOf d) ≡ d) e (over-from p a d l)))
 
-  pub kept : marks ≡ putMarks p marks v (marksOf p marks v)
-  kept = agree (marksOf p marks v) marks refl (λ d b. new-cases p v (marksOf p marks v) d (getD marks d 0) (getD marks d 0) (own-is d) (λ f. refl))
+  pub kept : marks ≡ putMarks p marks v (marksIn p marks v)
+  kept = agree (marksIn p marks v) marks refl (λ d b. new-cases p v (marksIn p marks v) d (getD marks d 0) (getD marks d 0) (own-is d) (λ f. refl))
 
-  module _ (sized : 2 * p .links ≤ length marks) (k : ℕ) (o : isOwn p v k ≡ true) (c : ℕ) where
-    here : (d : ℕ) → d ≡ over p v k → getD (set marks (over p v k) c) d 0 ≡ newMark p v (upd (marksOf p marks v) k c) d (getD marks d 0)
-    here d e = new-cases p v (upd (marksOf p marks v) k c) d (getD marks d 0) (getD (set marks (over p v k) c) d 0)
-        (λ l f. rw (e, link-over p v k) (getD-set-same marks (over p v k) c 0 (omega (arith, over-below p v k o)) ∙ sym (upd-same (marksOf p marks v) k c)))
+  module _ (sized : 2 * linksOf p ≤ length marks) (k : ℕ) (o : isOwn p v k ≡ true) (c : ℕ) where
+    here : (d : ℕ) → d ≡ endOf p v k → getD (set marks (endOf p v k) c) d 0 ≡ newMark p v (upd (marksIn p marks v) k c) d (getD marks d 0)
+    here d e = new-cases p v (upd (marksIn p marks v) k c) d (getD marks d 0) (getD (set marks (endOf p v k) c) d 0)
+        (λ l f. rw (e, link-over p v k) (getD-set-same marks (endOf p v k) c 0 (omega (arith, over-below p v k o)) ∙ sym (upd-same (marksIn p marks v) k c)))
         (λ n. absurd (n (rw e (over-below p v k o)) (rw e (from-over p v k o))))
 
-    there : (d : ℕ) → d ≢ over p v k → getD (set marks (over p v k) c) d 0 ≡ newMark p v (upd (marksOf p marks v) k c) d (getD marks d 0)
-    there d n = getD-set-other marks (over p v k) d c 0 n ∙ new-cases p v (upd (marksOf p marks v) k c) d (getD marks d 0) (getD marks d 0)
-        (λ l f. own-is d l f ∙ sym (upd-other (marksOf p marks v) k c (linkOf d)
-        (λ q. n (sym (subst (λ u. over p u (linkOf d) ≡ d) f (over-from p a d l)) ∙ ap (over p v) (sym q)))))
+    there : (d : ℕ) → d ≢ endOf p v k → getD (set marks (endOf p v k) c) d 0 ≡ newMark p v (upd (marksIn p marks v) k c) d (getD marks d 0)
+    there d n = getD-set-other marks (endOf p v k) d c 0 n ∙ new-cases p v (upd (marksIn p marks v) k c) d (getD marks d 0) (getD marks d 0)
+        (λ l f. own-is d l f ∙ sym (upd-other (marksIn p marks v) k c (linkOf d)
+        (λ q. n (sym (subst (λ u. endOf p u (linkOf d) ≡ d) f (over-from p a d l)) ∙ ap (endOf p v) (sym q)))))
         (λ f. refl)
 
-    pub one-mark : set marks (over p v k) c ≡ putMarks p marks v (upd (marksOf p marks v) k c)
-    one-mark = agree (upd (marksOf p marks v) k c) (set marks (over p v k) c) (length-set marks (over p v k) c) (λ d b. by-eq d (over p v k) (here d) (there d))
+    pub one-mark : set marks (endOf p v k) c ≡ putMarks p marks v (upd (marksIn p marks v) k c)
+    one-mark = agree (upd (marksIn p marks v) k c) (set marks (endOf p v k) c) (length-set marks (endOf p v k) c) (λ d b. by-eq d (endOf p v k) (here d) (there d))
 
   -- what the code writes
-  pub mark-put : 2 * p .links ≤ length marks → (k c : ℕ) → markPut (p .links) (p .lower) (p .higher) marks v k c ≡ putMarks p marks v (marked (marksOf p marks v) k c)
+  pub mark-put : 2 * linksOf p ≤ length marks → (k c : ℕ) → markPut p marks v k c ≡ putMarks p marks v (marked (marksIn p marks v) k c)
   mark-put sized k c = bool-cases (isOwn p v k)
-      (λ o. put-own p marks v k c o ∙ one-mark sized k o c ∙ ap (putMarks p marks v) (sym (marked-at (marksOf p marks v) k c (λ e. omega (arith, own-below p v k o, a .linksOk)))))
-      (λ o. put-other p marks v k c o ∙ agree (marked (marksOf p marks v) k c) marks refl (λ d b. new-cases p v (marked (marksOf p marks v) k c) d (getD marks d 0) (getD marks d 0)
-      (λ l f. own-is d l f ∙ sym (marked-other (marksOf p marks v) k c (linkOf d)
+      (λ o. put-own p marks v k c o ∙ one-mark sized k o c ∙ ap (putMarks p marks v) (sym (marked-at (marksIn p marks v) k c (λ e. omega (arith, own-below p v k o, a .linksOk)))))
+      (λ o. put-other p marks v k c o ∙ agree (marked (marksIn p marks v) k c) marks refl (λ d b. new-cases p v (marked (marksIn p marks v) k c) d (getD marks d 0) (getD marks d 0)
+      (λ l f. own-is d l f ∙ sym (marked-other (marksIn p marks v) k c (linkOf d)
       (λ q. true≢false (sym (subst (λ u. isOwn p u (linkOf d) ≡ true) f (from-own p a d l)) ∙ ap (isOwn p v) (sym q) ∙ o))))
       (λ f. refl)))

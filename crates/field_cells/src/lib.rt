@@ -1,16 +1,19 @@
 // The cells and marks of a field: one module's values read and written, one mark written.
-use field::CELLS;
+use field::Cells;
+use field::Marks;
 use node::Node;
 use node::WIDTH;
-use node_edges;
-ghost use Prim.Native.Nat.{_*_, _<_, _≤_};
+use plan::Plan;
+ghost use Prim.Native.Nat.{_<_, _≤_};
 ghost use mathlib.Core.Path.{_≡_};
 ghost use Rattle.field.specs.State.{nodeIn, putNode};
 ghost use Rattle.field_cells.specs.Marks.{markPut};
+ghost use Rattle.base.specs.Limits.{maxModules, maxLinks};
+ghost use Rattle.plan.specs.Links.{linksOf};
 
 // Module v's values.
-pub fn load(cells: &[u16; CELLS], v: u16) -> Node
-    requires { ⌜ v < 192 ⌝ }
+pub fn load(cells: &Cells, v: u16) -> Node
+    requires { ⌜ v < maxModules ⌝ }
     ensures { λ r. ⌜ r ≡ nodeIn (now (cells .entry)) v ⌝ }
 {
     let c = (v as usize) * WIDTH;
@@ -28,8 +31,8 @@ pub fn load(cells: &[u16; CELLS], v: u16) -> Node
 }
 
 // Module v's values become n's.
-pub fn put_node(cells: &mut [u16; CELLS], v: u16, n: Node)
-    requires { ⌜ v < 192 ⌝ }
+pub fn put_node(cells: &mut Cells, v: u16, n: Node)
+    requires { ⌜ v < maxModules ⌝ }
     ensures { λ _. ⌜ now (cells .exit) ≡ putNode (now (cells .entry)) v n ⌝ }
 {
     let c = (v as usize) * WIDTH;
@@ -53,23 +56,21 @@ pub fn put_node(cells: &mut [u16; CELLS], v: u16, n: Node)
 
 // Module v's mark for its link k becomes c, if k is a link of v.
 pub fn put_mark<'a>(
-    links: u16,
-    lower: &'a [u16; 600],
-    higher: &'a [u16; 600],
-    marks: &mut [u8; 1200],
+    plan: &'a Plan,
+    marks: &mut Marks,
     v: u16,
     k: u16,
     c: u8,
 )
-    requires { ⌜ links ≤ 600 ⌝ }
-    ensures { λ _. ⌜ now (marks .exit) ≡ markPut links (now (lower .entry)) (now (higher .entry)) (now (marks .entry)) v k c ⌝ }
+    requires { ⌜ linksOf (now plan) ≤ maxLinks ⌝ }
+    ensures { λ _. ⌜ now (marks .exit) ≡ markPut (now (plan .entry)) (now (marks .entry)) v k c ⌝ }
 {
-    if links <= k {
+    if plan::links(plan) <= k {
         return;
     }
-    if !node_edges::owns(links, lower, higher, v, k) {
+    if !node_edges::owns(plan, v, k) {
         return;
     }
-    let i = node_edges::end_at(lower, v, k) as usize;
+    let i = node_edges::end_at(plan, v, k) as usize;
     marks[i] = c;
 }

@@ -1,14 +1,17 @@
 // The waiting words of a field: where the first of a directed link or a queue stands, how one leaves and how one goes to the end.
-use format_word;
+use base::MAX_LINKS;
+use plan::Plan;
 ghost use Prim.Native.Nat.{_<_, _≤_};
 ghost use mathlib.Core.Path.{_≡_};
 ghost use mathlib.Core.List.{[], _∷_, _++_};
 ghost use lib.ListN.{length, take, drop};
-ghost use Rattle.field.specs.Step.{inAir, place, without, hand};
+ghost use Rattle.base.specs.Limits.{maxLinks};
+ghost use Rattle.plan.specs.Links.{linksOf, planSize};
+ghost use Rattle.field.specs.Edges.{dest};
+ghost use Rattle.field.specs.Step.{inAir, inQueue, place, without, hand};
 ghost use Rattle.field.specs.Held.{layout};
 ghost use Rattle.base.specs.Keep.{many};
 ghost use Rattle.field_words.specs.Laid.{Laid};
-ghost use Rattle.field_words.specs.Queue.{Columns, destIn, inQueueIn};
 ghost use Rattle.field_words.specs.Hands.{Hands};
 
 // Whether a word is in the air of directed link d: bit 40 is clear.
@@ -22,27 +25,27 @@ fn in_air(d: u16, w: u64) -> bool
 }
 
 // The module that directed link d leads to.
-pub fn leads_to<'a>(lower: &'a [u16; 600], higher: &'a [u16; 600], d: u16) -> u16
-    requires { ⌜ Columns (now lower) (now higher) ⌝ }
-    ensures { λ r. ⌜ r ≡ destIn (now (lower .entry)) (now (higher .entry)) d ⌝ }
+pub fn leads_to<'a>(plan: &'a Plan, d: u16) -> u16
+    requires { ⌜ length (now plan) ≡ planSize ⌝ }
+    ensures { λ r. ⌜ r ≡ dest (now (plan .entry)) d ⌝ }
 {
-    let k = (d / 2) as usize;
-    if 600 <= k {
+    let k = d / 2;
+    if MAX_LINKS <= k {
         return 0;
     }
     if d % 2 == 0 {
-        return higher[k];
+        return plan::higher(plan, k as usize);
     }
-    lower[k]
+    plan::lower(plan, k as usize)
 }
 
 // Whether a word is in module v's queue: bit 40 is set, and its directed link leads to v.
-fn in_queue<'a>(lower: &'a [u16; 600], higher: &'a [u16; 600], v: u16, w: u64) -> bool
-    requires { ⌜ Columns (now lower) (now higher) ⌝ }
-    ensures { λ r. ⌜ r ≡ inQueueIn (now (lower .entry)) (now (higher .entry)) v w ⌝ }
+fn in_queue<'a>(plan: &'a Plan, v: u16, w: u64) -> bool
+    requires { ⌜ length (now plan) ≡ planSize ⌝ }
+    ensures { λ r. ⌜ r ≡ inQueue (now (plan .entry)) v w ⌝ }
 {
     if format_word::handed(w) {
-        return leads_to(lower, higher, format_word::link(w)) == v;
+        return leads_to(plan, format_word::link(w)) == v;
     }
     false
 }
@@ -63,17 +66,16 @@ pub fn first_in_air(words: &[u64], d: u16) -> usize
 
 // The place of the first word in module v's queue, or the number of words.
 pub fn first_in_queue<'a>(
-    lower: &'a [u16; 600],
-    higher: &'a [u16; 600],
+    plan: &'a Plan,
     words: &[u64],
     v: u16,
 ) -> usize
-    requires { ⌜ Columns (now lower) (now higher) ⌝ }
-    ensures { λ r. ⌜ r ≡ place (inQueueIn (now (lower .entry)) (now (higher .entry)) v) (now (words .entry)) ⌝ }
+    requires { ⌜ length (now plan) ≡ planSize ⌝ }
+    ensures { λ r. ⌜ r ≡ place (inQueue (now (plan .entry)) v) (now (words .entry)) ⌝ }
 {
     let mut i: usize = 0;
     while i < words.len() {
-        if in_queue(lower, higher, v, words[i]) {
+        if in_queue(plan, v, words[i]) {
             return i;
         }
         i += 1;
@@ -98,18 +100,17 @@ pub fn many_in_air(words: &[u64], d: u16) -> usize
 
 // How many words module v's queue holds.
 pub fn many_in_queue<'a>(
-    lower: &'a [u16; 600],
-    higher: &'a [u16; 600],
+    plan: &'a Plan,
     words: &[u64],
     v: u16,
 ) -> usize
-    requires { ⌜ Columns (now lower) (now higher) ⌝ }
-    ensures { λ r. ⌜ r ≡ many (inQueueIn (now (lower .entry)) (now (higher .entry)) v) (now (words .entry)) ⌝ }
+    requires { ⌜ length (now plan) ≡ planSize ⌝ }
+    ensures { λ r. ⌜ r ≡ many (inQueue (now (plan .entry)) v) (now (words .entry)) ⌝ }
 {
     let mut m: usize = 0;
     let mut i: usize = 0;
     while i < words.len() {
-        if in_queue(lower, higher, v, words[i]) {
+        if in_queue(plan, v, words[i]) {
             m += 1;
         }
         i += 1;
@@ -157,11 +158,11 @@ pub fn to_end(lent: &mut [u64], n: usize, a: usize, w: u64)
 }
 
 // A hand-over on directed link d, where n words wait: 0, or refused by 42 or 44.
-pub fn hand(lent: &mut [u64], n: usize, links: u16, d: u16) -> u32
-    requires { ⌜ Laid (now lent) n × (links ≤ 600) ⌝ }
-    ensures { λ r. ⌜ Hands (λ p. hand p d) links n (now (lent .entry)) r (now (lent .exit)) ⌝ }
+pub fn hand(plan: &Plan, lent: &mut [u64], n: usize, d: u16) -> u32
+    requires { ⌜ Laid (now lent) n × (linksOf (now plan) ≤ maxLinks) ⌝ }
+    ensures { λ r. ⌜ Hands (hand (now (plan .entry)) d) n (now (lent .entry)) r (now (lent .exit)) ⌝ }
 {
-    if 2 * links <= d {
+    if 2 * plan::links(plan) <= d {
         return 42;
     }
     let a = first_in_air(&lent[..n], d);

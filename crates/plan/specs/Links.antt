@@ -2,11 +2,16 @@
 use Prim.Native.Nat.{ℕ, _+_, _*_}
 use mathlib.Core.List.{List}
 use lib.ListN.{getD}
+use Rattle.base.specs.Limits.{maxLinks}
 use Rattle.graph.specs.Graph.{Graph}
 
 -- The numbers of a plan in file order: "N; L; for each link lower module, higher module, reading at the lower, reading at the higher"
 abbrev pub Plan : Type 0
 Plan = List ℕ
+
+-- how many numbers an array for any plan has
+abbrev pub planSize : ℕ
+planSize = 2 + 4 * maxLinks
 
 abbrev pub modulesOf : Plan → ℕ
 modulesOf p = getD p 0 0

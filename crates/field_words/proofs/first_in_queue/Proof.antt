@@ -1,16 +1,16 @@
 use Prim.Native.Nat.{_-_}
 use lib.ListN.{length}
 use borrow.Author.Needs.{needs}
-use Rattle.field_words.specs.Queue.{inQueueIn}
+use Rattle.field.specs.Step.{inQueue}
 use Rattle.field_words.proofs.Search.{Sought, sought, found, sought-on, found-none}
 use Rattle.field_words.proofs.first_in_queue.Statement.{statement}
 use Rattle.field_words.proofs.first_in_queue.Tie as tie
 
 abbrev Inv-loop : tie.InvT-loop
-Inv-loop lower higher words v i₀ i = Sought (inQueueIn lower higher v) words i
+Inv-loop plan words v i₀ i = Sought (inQueue plan v) words i
 
 abbrev μ-loop : tie.MeasureT-loop
-μ-loop lower higher words v i₀ i = length words - i
+μ-loop plan words v i₀ i = length words - i
 
 loop-holds : tie.Need-loop-holds Inv-loop μ-loop
 loop-holds c = sought _ _

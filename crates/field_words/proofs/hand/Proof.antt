@@ -12,17 +12,17 @@ use Rattle.field_words.proofs.hand.Statement.{statement}
 use Rattle.field_words.proofs.hand.Tie as tie
 
 returns : tie.Need-returns
-returns c = record { is = λ p cells marks sent q. sym (hand-42 p _ _ (omega arith)); laid = c .before .before .pre .0 }
+returns c = record { is = λ cells marks sent. sym (hand-42 _ _ _ (omega (arith, c .before .links .ensures))); laid = c .before .before .before .pre .0 }
 
 slice-aggregate-first-in-air : tie.Need-slice-aggregate-first-in-air
-slice-aggregate-first-in-air c = let s = c .before .before .before in sym (length-take-le (s .args .n) (s .args .lent .now) (s .pre .0 .within))
+slice-aggregate-first-in-air c = let s = c .before .before .before .before in sym (length-take-le (s .args .n) (s .args .lent .now) (s .pre .0 .within))
 
 returns-2 : tie.Need-returns-2
 returns-2 c =
     let f = c .before in
     let o = f .before .before in
-    let s = o .before .before in
-    none-in-air (s .args .lent .now) (s .args .n) (s .args .d) (f .first-in-air .result) (s .pre .0) (f .first-in-air .ensures) _ (o .if1 .left) (c .if2 .taken)
+    let s = o .before .before .before in
+    none-in-air _ (s .args .lent .now) (s .args .n) (s .args .d) (f .first-in-air .result) (s .pre .0) (f .first-in-air .ensures) (omega (arith, o .if1 .left, o .before .links .ensures)) (c .if2 .taken)
 
 returns-3 : tie.Need-returns-3
 returns-3 c =
@@ -31,17 +31,18 @@ returns-3 c =
     let k = h .before .before in
     let f = k .before in
     let o = f .before .before in
-    let s = o .before .before in
+    let s = o .before .before .before in
     let lent = s .args .lent .now in
     let n = s .args .n in
     let a = f .first-in-air .result in
-    handed lent n (s .args .d) a (s .pre .0) (f .first-in-air .ensures) _ (o .if1 .left) (k .if2 .left) (t .to-end .last .0)
+    handed _ lent n (s .args .d) a (s .pre .0) (f .first-in-air .ensures) (omega (arith, o .if1 .left, o .before .links .ensures)) (k .if2 .left) (t .to-end .last .0)
     (t .to-end .ensures ∙ ap (λ (x : ℕ). layout (length lent) (without a (take n lent) ++ (x ∷ []))) (h .hand-over .ensures))
 
 pub hand-spec : {M : Type 1} → statement M
 hand-spec =
     tie.close
     (tie.spec
+    (λ c κs. search needs)
     (λ c. search needs)
     returns
     (λ c. search needs)

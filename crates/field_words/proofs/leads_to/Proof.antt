@@ -1,5 +1,5 @@
 use native.Mathlib.Omega.{arith}
-use mathlib.Core.Path.{sym}
+use mathlib.Core.Path.{sym, _∙_}
 use borrow.Author.Tests.{eq-eqb, ne-eqb}
 use borrow.Author.Needs.{needs}
 use Rattle.field_words.proofs.Queue.{dest-past}
@@ -7,23 +7,22 @@ use Rattle.field_words.proofs.leads_to.Statement.{statement}
 use Rattle.field_words.proofs.leads_to.Tie as tie
 
 returns : tie.Need-returns
-returns c = let l = c .before .pre in sym (dest-past (c .before .args .lower .now) (c .before .args .higher .now) (c .before .args .d) (omega arith) (omega arith))
+returns c = sym (dest-past (c .before .args .plan .now) (c .before .args .d) (c .before .pre) (omega arith))
 
 returns-2 : tie.Need-returns-2
-returns-2 c = simp (eq-eqb _ _ (c .before .if2 .taken))
+returns-2 c = c .higher .ensures ∙ simp (eq-eqb _ _ (c .before .if2 .taken))
 
 returns-3 : tie.Need-returns-3
-returns-3 c = simp (ne-eqb _ _ (c .before .if2 .left))
+returns-3 c = c .lower .ensures ∙ simp (ne-eqb _ _ (c .before .if2 .left))
 
 pub leads-to-spec : {M : Type 1} → statement M
 leads-to-spec =
     tie.close
     (tie.spec
-    (λ c. search needs)
     returns
     (λ c. search needs)
-    (λ c. search needs)
+    (λ c κs. search needs)
     returns-2
     (λ c. search needs)
-    (λ c. search needs)
+    (λ c κs. search needs)
     returns-3)

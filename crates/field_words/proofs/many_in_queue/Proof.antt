@@ -2,16 +2,16 @@ use Prim.Native.Nat.{_-_}
 use mathlib.Core.Logic.{⊎-elim}
 use lib.ListN.{length}
 use borrow.Author.Needs.{needs}
-use Rattle.field_words.specs.Queue.{inQueueIn}
+use Rattle.field.specs.Step.{inQueue}
 use Rattle.field_words.proofs.Search.{Counted, counted, counted-one, counted-on, counted-all}
 use Rattle.field_words.proofs.many_in_queue.Statement.{statement}
 use Rattle.field_words.proofs.many_in_queue.Tie as tie
 
 abbrev Inv-loop : tie.InvT-loop
-Inv-loop lower higher words v m₀ i₀ m i = Counted (inQueueIn lower higher v) words m i
+Inv-loop plan words v m₀ i₀ m i = Counted (inQueue plan v) words m i
 
 abbrev μ-loop : tie.MeasureT-loop
-μ-loop lower higher words v m₀ i₀ m i = length words - i
+μ-loop plan words v m₀ i₀ m i = length words - i
 
 loop-holds : tie.Need-loop-holds Inv-loop μ-loop
 loop-holds c = counted _ _
