@@ -5,16 +5,14 @@ use native.Mathlib.Numerals.{add-one}
 use mathlib.Core.Path.{_≡_, refl, sym, ap, _∙_}
 use mathlib.Core.Logic.{_≢_}
 use mathlib.Core.Bool.{Bool, true, false}
-use mathlib.Core.List.{List}
 use lib.Dec.{ltb}
-use lib.ListN.{getD}
 use borrow.Author.Tests.{lt-ltb, le-ltb, le-leb, lt-leb, eq-eqb, ne-eqb}
 use Rattle.base.specs.Cond.{bool-cases}
-use Rattle.plan.specs.declared.Plan.{Plan}
 use Rattle.graph.specs.Decide.{connected}
-use Rattle.plan.specs.Links.{low, high, graphOf}
+use Rattle.base.specs.Limits.{maxModules, maxLinks, maxReading}
+use Rattle.plan.specs.Links.{Plan, modulesOf, linksOf, lowerOf, higherOf, nearOf, farOf, graphOf}
 use Rattle.plan.specs.Accepted.{Counts, counted, link-accepted, links-accepted}
 use Rattle.plan.specs.Refusal.{countsRefusal, ascends, inOrder, linkVerdict, linkRefusal, linksRefusal, planRefusal}
 
 -- THE ORDER OF TWO LINKS
 
@@ -27,10 +25,19 @@ module _ (lo hi lo′ hi′ : ℕ) where
   unfolding ascends
   other-lower d = rw (ne-eqb lo lo′ d) (bool-cases (ltb lo lo′) (λ e. rw e) (λ e. rw e))
 
-pub in-order-from : (lower higher : List ℕ) (k : ℕ) → k ≢ 0 → ascends (getD lower (k - 1) 0) (getD higher (k - 1) 0) (getD lower k 0) (getD higher k 0) ≡ inOrder lower higher k
-unfolding inOrder
-in-order-from lower higher zero d = absurd (d refl)
-in-order-from lower higher (suc k) d = rw (let e : suc k - 1 ≡ k = omega arith in e)
+-- the code's numbers, in a plan
+module _ (p : Plan) (k lo hi : ℕ) (e : lo ≡ lowerOf p k) (f : hi ≡ higherOf p k) where
+  pub in-order-from : (lo′ hi′ : ℕ) → k ≢ 0 → lo′ ≡ lowerOf p (k - 1) → hi′ ≡ higherOf p (k - 1) → ascends lo′ hi′ lo hi ≡ inOrder p k
+  unfolding inOrder
+  in-order-from lo′ hi′ d g h = rw (e, f, g, h) (after k d)
+    where
+      after : (k : ℕ) → k ≢ 0 → ascends (lowerOf p (k - 1)) (higherOf p (k - 1)) (lowerOf p k) (higherOf p k) ≡ inOrder p k
+      after zero d = absurd (d refl)
+      after (suc k) d = rw (let e : suc k - 1 ≡ k = omega arith in e, inOrder)
+
+  pub link-from : (n near far r : ℕ) (u : Bool) → n ≡ modulesOf p → u ≡ inOrder p k → near ≡ nearOf p k → far ≡ farOf p k
+      → r ≡ linkVerdict n lo hi u near far → r ≡ linkRefusal p k
+  link-from n near far r u g h i j q = rw (e, f, g, h, i, j) at q
 
 -- ONE LINK
 
@@ -50,18 +57,18 @@ module _ (n lo hi : ℕ) (u : Bool) (a b : ℕ) where
       v-after h = rw (lt-leb hi lo p, lt-leb n hi q, h)
 
       module _ (r : u ≡ true) where
-        pub v-near : 2000 < a → 18 ≡ linkVerdict n lo hi u a b
+        pub v-near : maxReading < a → 18 ≡ linkVerdict n lo hi u a b
         unfolding linkVerdict
-        v-near h = rw (lt-leb hi lo p, lt-leb n hi q, r, lt-ltb 2000 a h)
+        v-near h = rw (lt-leb hi lo p, lt-leb n hi q, r, lt-ltb maxReading a h)
 
-        module _ (s : a ≤ 2000) where
-          pub v-far : 2000 < b → 18 ≡ linkVerdict n lo hi u a b
+        module _ (s : a ≤ maxReading) where
+          pub v-far : maxReading < b → 18 ≡ linkVerdict n lo hi u a b
           unfolding linkVerdict
-          v-far h = rw (lt-leb hi lo p, lt-leb n hi q, r, le-ltb 2000 a s, lt-ltb 2000 b h)
+          v-far h = rw (lt-leb hi lo p, lt-leb n hi q, r, le-ltb maxReading a s, lt-ltb maxReading b h)
 
-          pub v-fine : b ≤ 2000 → 0 ≡ linkVerdict n lo hi u a b
+          pub v-fine : b ≤ maxReading → 0 ≡ linkVerdict n lo hi u a b
           unfolding linkVerdict
-          v-fine h = rw (lt-leb hi lo p, lt-leb n hi q, r, le-ltb 2000 a s, le-ltb 2000 b h)
+          v-fine h = rw (lt-leb hi lo p, lt-leb n hi q, r, le-ltb maxReading a s, le-ltb maxReading b h)
 
 -- ALL LINKS, n of them still to do, from link k on
 
@@ -78,9 +85,9 @@ pub links-over : (p : Plan) (l k : ℕ) → l ≤ k → linksRefusal p (l - k) k
 unfolding linksRefusal
 links-over p l k m = (let e : l - k ≡ 0 = omega arith in ap (λ n. linksRefusal p n k) e)
 
--- links that pass end at modules below 192
-pub ends-inside : (p : Plan) → p .modules ≤ 192 → linksRefusal p (p .links) 0 ≡ 0 → (k : ℕ) → k < p .links → (low p k < 192) × (high p k < 192)
-ends-inside p n z k l = let o = link-accepted p k (links-accepted p (p .links) 0 z k (omega arith) (omega arith)) in (omega (arith, o .ordered, o .inside), omega (arith, o .inside))
+-- links that pass end at modules below maxModules
+pub ends-inside : (p : Plan) → modulesOf p ≤ maxModules → linksRefusal p (linksOf p) 0 ≡ 0 → (k : ℕ) → k < linksOf p → (lowerOf p k < maxModules) × (higherOf p k < maxModules)
+ends-inside p n z k l = let o = link-accepted p k (links-accepted p (linksOf p) 0 z k (omega arith) (omega arith)) in (omega (arith, o .ordered, o .inside), omega (arith, o .inside))
 
 -- N AND L
 
@@ -89,41 +96,41 @@ module _ (n l : ℕ) (fits : Bool) where
   c-nobody e = rw (eq-eqb n 0 e)
 
   module _ (a : n ≢ 0) where
-    pub c-modules : 192 < n → 14 ≡ countsRefusal n l fits
-    c-modules h = rw (ne-eqb n 0 a, lt-ltb 192 n h)
+    pub c-modules : maxModules < n → 14 ≡ countsRefusal n l fits
+    c-modules h = rw (ne-eqb n 0 a, lt-ltb maxModules n h)
 
-    module _ (b : n ≤ 192) where
-      pub c-links : 600 < l → 15 ≡ countsRefusal n l fits
-      c-links h = rw (ne-eqb n 0 a, le-ltb 192 n b, lt-ltb 600 l h)
+    module _ (b : n ≤ maxModules) where
+      pub c-links : maxLinks < l → 15 ≡ countsRefusal n l fits
+      c-links h = rw (ne-eqb n 0 a, le-ltb maxModules n b, lt-ltb maxLinks l h)
 
-      module _ (d : l ≤ 600) where
+      module _ (d : l ≤ maxLinks) where
         pub c-length : fits ≡ false → 15 ≡ countsRefusal n l fits
-        c-length h = rw (ne-eqb n 0 a, le-ltb 192 n b, le-ltb 600 l d, h)
+        c-length h = rw (ne-eqb n 0 a, le-ltb maxModules n b, le-ltb maxLinks l d, h)
 
         pub c-fine : fits ≡ true → 0 ≡ countsRefusal n l fits
-        c-fine h = rw (ne-eqb n 0 a, le-ltb 192 n b, le-ltb 600 l d, h)
+        c-fine h = rw (ne-eqb n 0 a, le-ltb maxModules n b, le-ltb maxLinks l d, h)
 
 pub c-limits : (n l : ℕ) {r : ℕ} → r ≡ countsRefusal n l true → r ≡ 0 → Counts n l
 c-limits n l e z = counted n l true (sym e ∙ z) .0
 
 -- THE PLAN
 
-module _ (p : Plan) (n : ℕ) (a : n ≡ countsRefusal (p .modules) (p .links) true) where
+module _ (p : Plan) (n : ℕ) (a : n ≡ countsRefusal (modulesOf p) (linksOf p) true) where
   pub p-counts : n ≢ 0 → n ≡ planRefusal p
   unfolding planRefusal
   p-counts d = rw (← a, ne-eqb n 0 d)
 
   module _ (b : n ≡ 0) where
-    module _ (r : ℕ) (e : r ≡ linksRefusal p (p .links) 0) where
+    module _ (r : ℕ) (e : r ≡ linksRefusal p (linksOf p) 0) where
       pub p-link : r ≢ 0 → r ≡ planRefusal p
       unfolding planRefusal
       p-link h = rw (← a, eq-eqb n 0 b, ← e, ne-eqb r 0 h)
 
       module _ (z : r ≡ 0) where
-        pub p-fine : connected (graphOf p) (p .modules) ≡ true → 0 ≡ planRefusal p
+        pub p-fine : connected (graphOf p) (modulesOf p) ≡ true → 0 ≡ planRefusal p
         unfolding planRefusal
         p-fine h = rw (← a, eq-eqb n 0 b, ← e, eq-eqb r 0 z, h)
 
-        pub p-apart : connected (graphOf p) (p .modules) ≡ false → 19 ≡ planRefusal p
+        pub p-apart : connected (graphOf p) (modulesOf p) ≡ false → 19 ≡ planRefusal p
         unfolding planRefusal
         p-apart h = rw (← a, eq-eqb n 0 b, ← e, eq-eqb r 0 z, h)

@@ -17,12 +17,12 @@ rename-same a b n s e q = tabulated n (λ v. rename a b (getD s v 0)) s e (λ k 
 abbrev pub all : ℕ → Bool
 all k = true
 
--- edge k is added to the labels
-pub merge-turn : (g : Graph) (k n : ℕ) (s : List ℕ) → s ≡ tabulate n (label g all k) → g.lo k < n → g.hi k < n
-    → tabulate n (λ v. rename (getD s (g.lo k) 0) (getD s (g.hi k) 0) (getD s v 0)) ≡ tabulate n (label g all (suc k))
+-- edge k, of ends u and v, is added to the labels
+pub merge-turn : (g : Graph) (k n u v : ℕ) (s : List ℕ) → s ≡ tabulate n (label g all k) → u ≡ g.lo k → v ≡ g.hi k → u < n → v < n
+    → tabulate n (λ w. rename (getD s u 0) (getD s v 0) (getD s w 0)) ≡ tabulate n (label g all (suc k))
 unfolding label
-merge-turn g k n s e lo hi = tabulate-ext n (λ v. rename (getD s (g.lo k) 0) (getD s (g.hi k) 0) (getD s v 0)) (label g all (suc k))
-    (λ v l. rw (at (g.lo k) lo, at (g.hi k) hi, at v l))
+merge-turn g k n u v s e p q lo hi = tabulate-ext n (λ w. rename (getD s u 0) (getD s v 0) (getD s w 0)) (label g all (suc k))
+    (λ w l. rw (at u lo, at v hi, at w l, p, q))
   where
-    at : (v : ℕ) → v < n → getD s v 0 ≡ label g all k v
-    at v l = rw e (getD-tabulate n (label g all k) v l)
+    at : (w : ℕ) → w < n → getD s w 0 ≡ label g all k w
+    at w l = rw e (getD-tabulate n (label g all k) w l)

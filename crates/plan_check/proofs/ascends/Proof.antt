@@ -1,6 +1,6 @@
-use Rattle.plan.proofs.Verdict.{same-lower, other-lower}
-use Rattle.plan.proofs.ascends.Statement.{statement}
-use Rattle.plan.proofs.ascends.Tie as tie
+use Rattle.plan_check.proofs.Verdict.{same-lower, other-lower}
+use Rattle.plan_check.proofs.ascends.Statement.{statement}
+use Rattle.plan_check.proofs.ascends.Tie as tie
 
 returns : tie.Need-returns
 returns c = same-lower _ _ _ _ (c .if1 .taken)

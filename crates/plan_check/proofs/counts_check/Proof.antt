@@ -1,7 +1,7 @@
 use borrow.Author.Tests.{not-true, not-false}
-use Rattle.plan.proofs.Verdict.{c-nobody, c-modules, c-links, c-length, c-fine}
-use Rattle.plan.proofs.counts_check.Statement.{statement}
-use Rattle.plan.proofs.counts_check.Tie as tie
+use Rattle.plan_check.proofs.Verdict.{c-nobody, c-modules, c-links, c-length, c-fine}
+use Rattle.plan_check.proofs.counts_check.Statement.{statement}
+use Rattle.plan_check.proofs.counts_check.Tie as tie
 
 returns : tie.Need-returns
 returns c = let a = c .before .args in c-nobody (a .n) (a .l) (a .fits) (c .if1 .taken)

@@ -1,7 +1,7 @@
 use borrow.Author.Tests.{not-true, not-false}
-use Rattle.plan.proofs.Verdict.{v-order, v-range, v-after, v-near, v-far, v-fine}
-use Rattle.plan.proofs.link_verdict.Statement.{statement}
-use Rattle.plan.proofs.link_verdict.Tie as tie
+use Rattle.plan_check.proofs.Verdict.{v-order, v-range, v-after, v-near, v-far, v-fine}
+use Rattle.plan_check.proofs.link_verdict.Statement.{statement}
+use Rattle.plan_check.proofs.link_verdict.Tie as tie
 
 returns : tie.Need-returns
 returns c = v-order _ _ _ _ _ _ (c .if1 .taken)

@@ -2,35 +2,33 @@
 use Prim.Native.Nat.{_≤_, _-_}
 use native.Mathlib.Omega.{arith}
 use mathlib.Core.Path.{_≡_, refl, sym, _∙_}
-use Rattle.plan.specs.Links.{planOf}
+use Rattle.plan.specs.Links.{linksOf}
 use Rattle.plan.specs.Refusal.{linksRefusal}
-use Rattle.plan.proofs.Verdict.{links-stop, links-go, links-over}
+use Rattle.plan_check.proofs.Verdict.{links-stop, links-go, links-over}
 use borrow.Author.Needs.{needs}
-use Rattle.plan.proofs.links_check.Statement.{statement}
-use Rattle.plan.proofs.links_check.Tie as tie
+use Rattle.plan_check.proofs.links_check.Statement.{statement}
+use Rattle.plan_check.proofs.links_check.Tie as tie
 
 abbrev Inv-loop : tie.InvT-loop
-Inv-loop n l lower higher near far end k₀ k = (k ≤ l) × (end ≡ l) × (linksRefusal (planOf n l lower higher near far) l 0 ≡ linksRefusal (planOf n l lower higher near far) (l - k) k)
+Inv-loop p end k₀ k = (k ≤ linksOf p) × (end ≡ linksOf p) × (linksRefusal p (linksOf p) 0 ≡ linksRefusal p (linksOf p - k) k)
 
 abbrev μ-loop : tie.MeasureT-loop
-μ-loop n l lower higher near far end k₀ k = end - k
+μ-loop p end k₀ k = end - k
 
 loop-holds : tie.Need-loop-holds Inv-loop μ-loop
-loop-holds c = (omega arith, refl, rw (let e : c .args .l - 0 ≡ c .args .l = omega arith in e))
+loop-holds c = let l = linksOf (c .before .args .p .now) in (omega arith, c .links .ensures, rw (let e : l - 0 ≡ l = omega arith in e))
 
 returns : tie.Need-returns Inv-loop μ-loop
-returns c = let v = c .before in
-    let o = v .before .before .before .before .before in
-    let turn = o .before in
-    let e = rw (o .in-order .ensures) at (v .link-verdict .ensures) in
-    e ∙ sym (turn .before .loop .inv .2 ∙ links-stop _ _ _ (omega arith) (λ z. c .if1 .taken (e ∙ z)))
+returns c =
+    let v = c .before in
+    let e = v .link-check .ensures in
+    e ∙ sym (v .before .before .loop .inv .2 ∙ links-stop _ _ _ (omega arith) (λ z. c .if1 .taken (e ∙ z)))
 
 loop-again : tie.Need-loop-again Inv-loop μ-loop
-loop-again c = let v = c .before in
-    let o = v .before .before .before .before .before in
-    let turn = o .before in
-    let e = rw (o .in-order .ensures) at (v .link-verdict .ensures) in
-    (omega arith, omega arith, turn .before .loop .inv .2 ∙ links-go _ _ _ (omega arith) (sym e ∙ c .if1 .left))
+loop-again c =
+    let v = c .before in
+    let i = v .before .before .loop .inv in
+    (omega arith, i .1, i .2 ∙ links-go _ _ _ (omega arith) (sym (v .link-check .ensures) ∙ c .if1 .left))
 
 returns-2 : tie.Need-returns-2 Inv-loop μ-loop
 returns-2 c = sym (c .before .loop .inv .2 ∙ links-over _ _ _ (omega arith))
@@ -41,16 +39,9 @@ links-check-spec =
     (tie.spec
     Inv-loop
     μ-loop
-    loop-holds
     (λ c κs. search needs)
     (λ c. search needs)
-    (λ c. search needs)
-    (λ c. search needs)
-    (λ c. search needs)
-    (λ c. search needs)
-    (λ c. search needs)
-    (λ c. search needs)
-    (λ c. search needs)
+    loop-holds
     (λ c κs. search needs)
     returns
     (λ c. search needs)

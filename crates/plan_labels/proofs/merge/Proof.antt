@@ -3,59 +3,54 @@ use Prim.Native.Nat.{_≤_, _<_, _-_}
 use native.Mathlib.Omega.{arith}
 use native.Mathlib.Numerals.{add-one}
 use mathlib.Core.Path.{_≡_, _∙_}
-use lib.ListN.{getD}
-use Rattle.graph.specs.Decide.{label}
+use Rattle.base.specs.Limits.{maxModules}
 use Rattle.base.specs.Table.{tabulate, length-tabulate}
-use Rattle.plan_labels.specs.Columns.{edges}
+use Rattle.graph.specs.Decide.{label}
+use Rattle.plan.specs.Links.{linksOf, lowerOf, higherOf, graphOf}
 use Rattle.plan_labels.proofs.Laws.{all, merge-turn}
 use borrow.Author.Needs.{needs}
 use Rattle.plan_labels.proofs.merge.Statement.{statement}
 use Rattle.plan_labels.proofs.merge.Tie as tie
 
 abbrev Inv-loop : tie.InvT-loop
-Inv-loop l lower higher parts₀ k₀ parts k = (k ≤ l) × (parts ≡ tabulate 192 (label (edges l lower higher) all k))
+Inv-loop plan parts₀ end k₀ parts k = (k ≤ linksOf plan) × (end ≡ linksOf plan) × (parts ≡ tabulate maxModules (label (graphOf plan) all k))
 
 abbrev μ-loop : tie.MeasureT-loop
-μ-loop l lower higher parts₀ k₀ parts k = l - k
+μ-loop plan parts₀ end k₀ parts k = end - k
 
 -- the ends of the link of this turn
-ends : (c : tie.In-loop Inv-loop μ-loop) →
-    (getD (c .before .before .before .before .args .lower .now) (c .before .loop .k) 0 < 192) × (getD (c .before .before .before .before .args .higher .now) (c .before .loop .k) 0 < 192)
-ends c = c .before .before .before .before .pre .2 (c .before .loop .k) (c .loop-test .taken)
-
-number-requires : tie.Need-number-requires Inv-loop μ-loop
-number-requires c κs = c .before .pre .0
+ends : (c : tie.In-loop Inv-loop μ-loop) → let p = c .before .before .before .before .before .args .plan .now in let k = c .before .loop .k in
+    (lowerOf p k < maxModules) × (higherOf p k < maxModules)
+ends c = c .before .before .before .before .before .pre .2 (c .before .loop .k) (omega arith)
 
 loop-holds : tie.Need-loop-holds Inv-loop μ-loop
 unfolding label
-loop-holds c = (omega arith, c .number .ensures)
+loop-holds c = (omega arith, c .links .ensures, c .before .number .ensures)
 
 element-copy-out-a : tie.Need-element-copy-out-a Inv-loop μ-loop
-element-copy-out-a c = omega arith
+element-copy-out-a c = omega (arith, ends (c .before) .0)
 
-cast-a : tie.Need-cast-a Inv-loop μ-loop
-cast-a c = omega (arith, ends (c .before) .0)
-
-element-copy-out-a-2 : tie.Need-element-copy-out-a-2 Inv-loop μ-loop
-element-copy-out-a-2 c = ends (c .before) .0
-
-cast-b : tie.Need-cast-b Inv-loop μ-loop
-cast-b c = omega (arith, ends (c .before .before .before) .1)
-
-element-copy-out-b-2 : tie.Need-element-copy-out-b-2 Inv-loop μ-loop
-element-copy-out-b-2 c = ends (c .before .before .before) .1
+element-copy-out-b : tie.Need-element-copy-out-b Inv-loop μ-loop
+element-copy-out-b c = omega (arith, ends (c .before .before .before) .1)
 
 join-requires : tie.Need-join-requires Inv-loop μ-loop
-join-requires c κs = let e = c .before .before .before .before .before .before in rw (e .loop .inv .1) (length-tabulate 192 _)
+join-requires c κs = rw (c .before .before .before .before .before .before .loop .inv .2) (length-tabulate maxModules _)
 
 loop-again : tie.Need-loop-again Inv-loop μ-loop
-loop-again c = let turn = c .before .before .before .before .before .before in
-    let e = turn .before in
-    let both = ends turn in
-    (omega arith, rw add-one (c .join .ensures ∙ merge-turn _ _ 192 _ (e .loop .inv .1) (both .0) (both .1)))
+loop-again c =
+    let h = c .before .before .before in
+    let l = h .before .before in
+    let turn = l .before in
+    let both = ends turn in (
+      omega arith,
+      turn .before .loop .inv .1,
+      rw add-one (c .join .ensures ∙ merge-turn _ _ maxModules _ _ _ (turn .before .loop .inv .2) (l .lower .ensures) (h .higher .ensures) (omega arith) (omega arith)),
+    )
 
 returns : tie.Need-returns Inv-loop μ-loop
-returns c = let e = c .before in rw (let q : e .loop .k ≡ e .before .before .before .args .l = omega arith in q) at (e .loop .inv .1)
+returns c =
+    let e = c .before .loop in
+    rw (let q : e .k ≡ linksOf (c .before .before .before .before .before .args .plan .now) = omega arith in q) at (e .inv .2)
 
 pub merge-spec : {M : Type 1} → statement M
 merge-spec =
@@ -63,16 +58,16 @@ merge-spec =
     (tie.spec
     Inv-loop
     μ-loop
-    number-requires
+    (λ c κs. search needs)
+    (λ c κs. search needs)
+    (λ c. search needs)
     loop-holds
+    (λ c κs. search needs)
     (λ c. search needs)
     element-copy-out-a
-    cast-a
-    element-copy-out-a-2
+    (λ c κs. search needs)
     (λ c. search needs)
-    (λ c. search needs)
-    cast-b
-    element-copy-out-b-2
+    element-copy-out-b
     join-requires
     (λ c. search needs)
     (λ c. search needs)

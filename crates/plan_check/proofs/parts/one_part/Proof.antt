@@ -9,8 +9,8 @@ use lib.Dec.{eqb}
 use lib.ListN.{getD}
 use Rattle.base.specs.Test.{every, every-of-none, every-goes-on, every-stops}
 use borrow.Author.Needs.{needs}
-use Rattle.plan.proofs.parts.one_part.Statement.{statement}
-use Rattle.plan.proofs.parts.one_part.Tie as tie
+use Rattle.plan_check.proofs.parts.one_part.Statement.{statement}
+use Rattle.plan_check.proofs.parts.one_part.Tie as tie
 
 abbrev same : List ℕ → ℕ → Bool
 same parts v = eqb (getD parts 0 0) (getD parts v 0)
