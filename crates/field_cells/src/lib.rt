@@ -55,13 +55,7 @@ pub fn put_node(cells: &mut Cells, v: u16, n: Node)
 }
 
 // Module v's mark for its link k becomes c, if k is a link of v.
-pub fn put_mark<'a>(
-    plan: &'a Plan,
-    marks: &mut Marks,
-    v: u16,
-    k: u16,
-    c: u8,
-)
+pub fn put_mark<'a>(plan: &'a Plan, marks: &mut Marks, v: u16, k: u16, c: u8)
     requires { ⌜ linksOf (now plan) ≤ maxLinks ⌝ }
     ensures { λ _. ⌜ now (marks .exit) ≡ markPut (now (plan .entry)) (now (marks .entry)) v k c ⌝ }
 {

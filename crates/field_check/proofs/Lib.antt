@@ -1,3 +1,3 @@
 pub mod Words
-pub mod Ends
+pub mod Degrees
 pub mod Outcomes

@@ -2,11 +2,11 @@
 use Prim.Native.Nat.{ℕ}
 use mathlib.Core.List.{List}
 use lib.ListN.{length}
-use Rattle.plan.specs.declared.Plan.{Plan}
 use Rattle.field.specs.State.{State}
 use Rattle.field.specs.Valid.{waitingIn}
 use Rattle.field.specs.Held.{Held, valid}
 use Rattle.field_check.specs.declared.Checked.{Checked}
+use Rattle.plan.specs.Links.{Plan}
 
 abbrev pub checkOf : Held → Checked
 checkOf h = record { ok = valid h; waiting = length (waitingIn (h .words)) }

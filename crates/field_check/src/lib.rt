@@ -1,22 +1,27 @@
 // Refusal 31: whether a field that a host supplies is one, item by item.
 mod items;
 
-use field::CELLS;
-use plan;
+use base::MAX_MODULES;
+use field::Cells;
+use field::Marks;
+use node::REJECTED;
+use plan::Plan;
 ghost use Prim.Native.Nat.{ℕ, _*_, _<_, _≤_};
 ghost use mathlib.Core.Path.{_≡_};
-ghost use mathlib.Core.List.{List};
 ghost use lib.ListN.{length, getD};
-ghost use lib.Dec.{eqb};
+ghost use lib.Dec.{eqb, leb};
 ghost use Rattle.base.specs.Test.{every};
-ghost use Rattle.plan.specs.Links.{planOf};
-ghost use Rattle.plan.specs.Refusal.{planRefusal};
-ghost use Rattle.node.specs.Work.{degree};
-ghost use Rattle.node_edges.specs.Own.{ownIn};
+ghost use Rattle.plan.specs.Accepted.{Accepted};
+ghost use Rattle.base.specs.Limits.{maxModules, maxLinks};
+ghost use Rattle.plan.specs.Links.{modulesOf, linksOf};
 ghost use Rattle.field.specs.Edges.{ownOf};
+ghost use Rattle.node.specs.Work.{REJECTED, degree};
 ghost use Rattle.field.specs.State.{nodeIn};
-ghost use Rattle.field.specs.Valid.{allOf, waitingIn, wordFits, nodeFits, markFits, fits};
+ghost use Rattle.field.specs.Valid.{allOf, waitingIn, wordFits, nodeFits, fits};
 ghost use Rattle.field_check.specs.Checked.{checkOf, heldIn, stateIn};
+
+// How many links each module has.
+type Degrees = [u16; MAX_MODULES as usize];
 
 // ok: 31 does not apply. waiting: how many words wait.
 pub struct Checked {
@@ -53,13 +58,13 @@ fn all_zero(part: &[u64]) -> bool
 }
 
 // Whether all waiting words fit.
-fn words_fit(modules: u16, links: u16, words: &[u64]) -> bool
-    requires { ⌜ links ≤ 600 ⌝ }
-    ensures { λ r. ⌜ ((lower higher near far : List ℕ) → r ≡ allOf (wordFits (planOf modules links lower higher near far)) (now (words .entry))) ⌝ }
+fn words_fit(plan: &Plan, words: &[u64]) -> bool
+    requires { ⌜ linksOf (now plan) ≤ maxLinks ⌝ }
+    ensures { λ r. ⌜ r ≡ allOf (wordFits (now (plan .entry))) (now (words .entry)) ⌝ }
 {
     let mut i: usize = 0;
     while i < words.len() {
-        if !items::word_fits(modules, links, words[i]) {
+        if !items::word_fits(plan, words[i]) {
             return false;
         }
         i += 1;
@@ -68,14 +73,14 @@ fn words_fit(modules: u16, links: u16, words: &[u64]) -> bool
 }
 
 // Whether each mark is in its list.
-fn marks_fit(links: u16, marks: &[u8; 1200]) -> bool
-    requires { ⌜ links ≤ 600 ⌝ }
-    ensures { λ r. ⌜ ((cells words : List ℕ) (sent : ℕ) → r ≡ every (2 * links) (markFits (stateIn cells (now (marks .entry)) words sent))) ⌝ }
+fn marks_fit<'a>(plan: &'a Plan, marks: &'a Marks) -> bool
+    requires { ⌜ linksOf (now plan) ≤ maxLinks ⌝ }
+    ensures { λ r. ⌜ r ≡ every (2 * linksOf (now (plan .entry))) (λ d. leb (getD (now (marks .entry)) d 0) REJECTED) ⌝ }
 {
-    let mut d: usize = 2 * (links as usize);
+    let mut d: usize = 2 * (plan::links(plan) as usize);
     while 0 < d {
         d -= 1;
-        if 2 < marks[d] {
+        if REJECTED < marks[d] {
             return false;
         }
     }
@@ -83,40 +88,31 @@ fn marks_fit(links: u16, marks: &[u8; 1200]) -> bool
 }
 
 // Counts each module's links, in one pass over them.
-fn count_ends<'a>(links: u16, lower: &'a [u16; 600], higher: &'a [u16; 600], ends: &mut [u16; 192])
-    requires { ⌜ (links ≤ 600) × (length (now ends) ≡ 192) × ((v : ℕ) → v < 192 → getD (now ends) v 0 ≡ 0)
-        × ((k : ℕ) → k < links → (getD (now lower) k 0 < getD (now higher) k 0) × (getD (now higher) k 0 < 192)) ⌝ }
-    ensures { λ _. ⌜ ((near far : List ℕ) (v : ℕ) → v < 192 → getD (now (ends .exit)) v 0 ≡ degree (ownIn links (now (lower .entry)) (now (higher .entry)) near far v)) ⌝ }
+fn count_links<'a>(plan: &'a Plan, degrees: &mut Degrees)
+    requires { ⌜ Accepted (now plan) × (length (now degrees) ≡ maxModules) × ((v : ℕ) → v < maxModules → getD (now degrees) v 0 ≡ 0) ⌝ }
+    ensures { λ _. ⌜ ((v : ℕ) → v < maxModules → getD (now (degrees .exit)) v 0 ≡ degree (ownOf (now (plan .entry)) v)) ⌝ }
 {
+    let links = plan::links(plan) as usize;
     let mut k: usize = 0;
-    while k < links as usize {
-        let a = lower[k] as usize;
-        let b = higher[k] as usize;
-        ends[a] += 1;
-        ends[b] += 1;
+    while k < links {
+        let a = plan::lower(plan, k) as usize;
+        let b = plan::higher(plan, k) as usize;
+        degrees[a] += 1;
+        degrees[b] += 1;
         k += 1;
     }
 }
 
 // Whether each module's values fit.
-fn nodes_fit<'a>(
-    modules: u16,
-    links: u16,
-    lower: &'a [u16; 600],
-    higher: &'a [u16; 600],
-    ends: &'a [u16; 192],
-    cells: &'a [u16; CELLS],
-) -> bool
-    requires { ⌜ (modules ≤ 192) × (links ≤ 600) ⌝ }
-    ensures { λ r. ⌜ ((near far : List ℕ)
-        → ((v : ℕ) → v < 192 → getD (now (ends .entry)) v 0 ≡ degree (ownIn links (now (lower .entry)) (now (higher .entry)) near far v))
-        → r ≡ every modules (λ v. nodeFits (planOf modules links (now (lower .entry)) (now (higher .entry)) near far) v (nodeIn (now (cells .entry)) v))) ⌝ }
+fn nodes_fit<'a>(plan: &'a Plan, degrees: &'a Degrees, cells: &'a Cells) -> bool
+    requires { ⌜ Accepted (now plan) × ((v : ℕ) → v < maxModules → getD (now degrees) v 0 ≡ degree (ownOf (now plan) v)) ⌝ }
+    ensures { λ r. ⌜ r ≡ every (modulesOf (now (plan .entry))) (λ v. nodeFits (now (plan .entry)) v (nodeIn (now (cells .entry)) v)) ⌝ }
 {
-    let mut v: u16 = modules;
+    let mut v: u16 = plan::modules(plan);
     while 0 < v {
         v -= 1;
         let n = field_cells::load(cells, v);
-        if !items::node_fits(modules, links, lower, higher, ends[v as usize], v, n) {
+        if !items::node_fits(plan, degrees[v as usize], v, n) {
             return false;
         }
     }
@@ -125,53 +121,43 @@ fn nodes_fit<'a>(
 
 // All that 31 asks of the state of an accepted plan.
 fn state_fits<'a>(
-    modules: u16,
-    links: u16,
-    lower: &'a [u16; 600],
-    higher: &'a [u16; 600],
-    cells: &'a [u16; CELLS],
-    marks: &'a [u8; 1200],
+    plan: &'a Plan,
+    cells: &'a Cells,
+    marks: &'a Marks,
     sent: u32,
     words: &[u64],
 ) -> bool
-    requires { ⌜ (modules ≤ 192) × (links ≤ 600)
-        × ((k : ℕ) → k < links → (getD (now lower) k 0 < getD (now higher) k 0) × (getD (now higher) k 0 < 192)) ⌝ }
-    ensures { λ r. ⌜ ((near far : List ℕ) → r ≡ fits (planOf modules links (now (lower .entry)) (now (higher .entry)) near far)
-        (stateIn (now (cells .entry)) (now (marks .entry)) (now (words .entry)) sent)) ⌝ }
+    requires { ⌜ Accepted (now plan) ⌝ }
+    ensures { λ r. ⌜ r ≡ fits (now (plan .entry)) (stateIn (now (cells .entry)) (now (marks .entry)) (now (words .entry)) sent) ⌝ }
 {
-    let mut ends = [0u16; 192];
-    count_ends(links, lower, higher, &mut ends);
-    words_fit(modules, links, words)
-        & nodes_fit(modules, links, lower, higher, &ends, cells)
-        & marks_fit(links, marks)
+    let mut degrees = [0u16; MAX_MODULES as usize];
+    count_links(plan, &mut degrees);
+    words_fit(plan, words)
+        & nodes_fit(plan, &degrees, cells)
+        & marks_fit(plan, marks)
         & (words.len() <= sent as usize)
-        & (sent <= plan::ceiling(modules, links))
+        & (sent <= plan::ceiling_of(plan))
 }
 
 // The check for 31 of a field in lent arrays and words, and how many words wait.
 pub fn check<'a>(
-    modules: u16,
-    links: u16,
-    lower: &'a [u16; 600],
-    higher: &'a [u16; 600],
-    near: &'a [u16; 600],
-    far: &'a [u16; 600],
-    cells: &'a [u16; CELLS],
-    marks: &'a [u8; 1200],
+    plan: &'a Plan,
+    cells: &'a Cells,
+    marks: &'a Marks,
     sent: u32,
     lent: &[u64],
 ) -> Checked
-    ensures { λ r. ⌜ r ≡ checkOf (heldIn (planOf modules links (now (lower .entry)) (now (higher .entry)) (now (near .entry)) (now (far .entry)))
+    ensures { λ r. ⌜ r ≡ checkOf (heldIn (now (plan .entry))
         (now (cells .entry)) (now (marks .entry)) sent (now (lent .entry))) ⌝ }
 {
     let n = waiting(lent);
-    if plan::check_columns(modules, links, lower, higher, near, far) != 0 {
+    if plan_check::check(plan) != 0 {
         return Checked {
             ok: false,
             waiting: n,
         };
     }
-    if lent.len() < plan::ceiling(modules, links) as usize {
+    if lent.len() < plan::ceiling_of(plan) as usize {
         return Checked {
             ok: false,
             waiting: n,
@@ -183,15 +169,6 @@ pub fn check<'a>(
             waiting: n,
         };
     }
-    let ok = state_fits(
-        modules,
-        links,
-        lower,
-        higher,
-        cells,
-        marks,
-        sent,
-        &lent[..n],
-    );
+    let ok = state_fits(plan, cells, marks, sent, &lent[..n]);
     Checked { ok: ok, waiting: n }
 }

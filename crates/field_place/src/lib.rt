@@ -1,14 +1,14 @@
 // A response that was worked out by value is put in place: its messages behind the waiting words, its node and its mark.
-use node_response::Response;
-use node_response::Packet;
 use base::NONE;
-use field_cells;
 use field::CELLS;
+use field_cells;
+use field_words;
 use format_message;
+use format_word;
 use node::Node;
 use node_edges;
-use field_words;
-use format_word;
+use node_response::Packet;
+use node_response::Response;
 ghost use Prim.Native.Nat.{ℕ, _+_, _<_, _≤_};
 ghost use mathlib.Core.Path.{_≡_};
 ghost use mathlib.Core.Bool.{true, cond};

@@ -1,14 +1,14 @@
 // Two steps on lent arrays: a module wakes, a module serves the first word of its queue. (A hand-over is in `store`.)
 // A response is worked out by value, then settled: 32 and 33 before anything is written.
-use node_response::Response;
+use field::CELLS;
 use field_cells;
 use field_place;
-use field::CELLS;
-use format_message;
-use plan;
-use node_dispatch;
 use field_words;
+use format_message;
 use format_word;
+use node_dispatch;
+use node_response::Response;
+use plan;
 ghost use Prim.Native.Nat.{ℕ, _+_, _<_};
 ghost use mathlib.Core.Path.{_≡_};
 ghost use mathlib.Core.Bool.{true};

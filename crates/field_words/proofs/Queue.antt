@@ -9,7 +9,6 @@ use Rattle.field.specs.Edges.{linkOf, dest}
 use Rattle.base.specs.Limits.{maxLinks}
 use Rattle.plan.specs.Links.{Plan, planSize}
 
-
 both : (b : Bool) → _≡_ {A = ℕ} (cond b 0 0) 0
 both true = refl
 both false = refl

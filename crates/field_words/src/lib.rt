@@ -65,11 +65,7 @@ pub fn first_in_air(words: &[u64], d: u16) -> usize
 }
 
 // The place of the first word in module v's queue, or the number of words.
-pub fn first_in_queue<'a>(
-    plan: &'a Plan,
-    words: &[u64],
-    v: u16,
-) -> usize
+pub fn first_in_queue<'a>(plan: &'a Plan, words: &[u64], v: u16) -> usize
     requires { ⌜ length (now plan) ≡ planSize ⌝ }
     ensures { λ r. ⌜ r ≡ place (inQueue (now (plan .entry)) v) (now (words .entry)) ⌝ }
 {
@@ -99,11 +95,7 @@ pub fn many_in_air(words: &[u64], d: u16) -> usize
 }
 
 // How many words module v's queue holds.
-pub fn many_in_queue<'a>(
-    plan: &'a Plan,
-    words: &[u64],
-    v: u16,
-) -> usize
+pub fn many_in_queue<'a>(plan: &'a Plan, words: &[u64], v: u16) -> usize
     requires { ⌜ length (now plan) ≡ planSize ⌝ }
     ensures { λ r. ⌜ r ≡ many (inQueue (now (plan .entry)) v) (now (words .entry)) ⌝ }
 {

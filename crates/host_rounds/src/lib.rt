@@ -3,8 +3,8 @@ mod air;
 mod queue;
 mod round;
 
-use field_admit;
 use field::Field;
+use field_admit;
 ghost use mathlib.Core.Path.{_≡_};
 ghost use Rattle.field_calls.specs.Call.{runRounds};
 

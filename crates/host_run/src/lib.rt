@@ -1,8 +1,8 @@
 // A step given alone, and a run of a schedule, over a field. 31 is checked first, and once.
 mod steps;
 
-use field_admit;
 use field::Field;
+use field_admit;
 use host_schedule;
 ghost use mathlib.Core.Path.{_≡_};
 ghost use Rattle.field.specs.Held.{stepAlone};

@@ -1,9 +1,9 @@
 // Steps on lent arrays: one by its kind, and those of a schedule one after the other.
 use field::CELLS;
-use host_schedule;
 use field_serve;
 use field_serve::Done;
 use field_words;
+use host_schedule;
 ghost use mathlib.Core.Path.{_≡_};
 ghost use Rattle.plan.specs.Links.{planOf};
 ghost use Rattle.field.specs.Step.{step};

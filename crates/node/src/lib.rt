@@ -3,17 +3,23 @@ pub const WIDTH: usize = 9;
 
 // A node's status.
 pub const ASLEEP: u16 = 0;
+
 pub const FIND: u16 = 1;
+
 pub const FOUND: u16 = 2;
 
 // A node's mark for an own edge.
 pub const BASIC: u8 = 0;
+
 pub const BRANCH: u8 = 1;
+
 pub const REJECTED: u8 = 2;
 
 // What a response answers: the message is taken, put back, or refused by 32.
 pub const TAKEN: u32 = 0;
+
 pub const BACK: u32 = 1;
+
 pub const REFUSED: u32 = 32;
 
 pub struct Node {

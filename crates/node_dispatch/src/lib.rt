@@ -1,6 +1,6 @@
 // A node's response to a message, or to a wakeup: the dispatch by the message's kind.
-use node_response::Response;
 use node::Node;
+use node_response::Response;
 ghost use mathlib.Core.Path.{_≡_};
 ghost use mathlib.Core.Bool.{true, not, _&&_};
 ghost use mathlib.Core.List.{List};
@@ -146,5 +146,14 @@ pub fn wakeup<'a>(
     requires { ⌜ links ≤ 600 ⌝ }
     ensures { λ r. ⌜ ((cs : List Send) → workOf (marksIn links (now (lower .entry)) (now (higher .entry)) (now (marks .entry)) v) cs r ≡ wakes (ownIn links (now (lower .entry)) (now (higher .entry)) (now (near .entry)) (now (far .entry)) v) n (marksIn links (now (lower .entry)) (now (higher .entry)) (now (marks .entry)) v)) × Formed r ⌝ }
 {
-    node_joining::wake(links, lower, higher, near, far, marks, v, node_response::begin(n))
+    node_joining::wake(
+        links,
+        lower,
+        higher,
+        near,
+        far,
+        marks,
+        v,
+        node_response::begin(n),
+    )
 }

@@ -43,14 +43,7 @@ pub fn end_at(plan: &Plan, v: u16, k: u16) -> u16
 }
 
 // Node v's mark for its edge k, where edge e's mark is to become x (e none: no mark changes).
-pub fn mark_of<'a>(
-    plan: &'a Plan,
-    marks: &'a Marks,
-    v: u16,
-    e: u16,
-    x: u8,
-    k: u16,
-) -> u8
+pub fn mark_of<'a>(plan: &'a Plan, marks: &'a Marks, v: u16, e: u16, x: u8, k: u16) -> u8
     requires { ⌜ k < maxLinks ⌝ }
     ensures { λ r. ⌜ (isOwn (now (plan .entry)) v k ≡ true → r ≡ marked (marksIn (now (plan .entry)) (now (marks .entry)) v) e x k) ⌝ }
 {
@@ -62,15 +55,7 @@ pub fn mark_of<'a>(
 }
 
 // Whether a search of node v's edges looks at k: an own edge, with mark Basic unless all are looked at.
-fn looks<'a>(
-    plan: &'a Plan,
-    marks: &'a Marks,
-    v: u16,
-    e: u16,
-    x: u8,
-    all: bool,
-    k: u16,
-) -> bool
+fn looks<'a>(plan: &'a Plan, marks: &'a Marks, v: u16, e: u16, x: u8, all: bool, k: u16) -> bool
     requires { ⌜ (linksOf (now plan) ≤ maxLinks) × (k < linksOf (now plan)) ⌝ }
     ensures { λ r. ⌜ r ≡ (isOwn (now (plan .entry)) v k
         && looked all (marked (marksIn (now (plan .entry)) (now (marks .entry)) v) e x) k) ⌝ }
@@ -110,14 +95,7 @@ fn turn<'a>(
 }
 
 // The earliest own edge of node v, of all or of those with mark Basic, or none. Edge e's mark is to become x.
-fn find<'a>(
-    plan: &'a Plan,
-    marks: &'a Marks,
-    v: u16,
-    e: u16,
-    x: u8,
-    all: bool,
-) -> u16
+fn find<'a>(plan: &'a Plan, marks: &'a Marks, v: u16, e: u16, x: u8, all: bool) -> u16
     requires { ⌜ linksOf (now plan) ≤ maxLinks ⌝ }
     ensures { λ r. ⌜ r ≡ earliest (ownOf (now (plan .entry)) v)
         (looked all (marked (marksIn (now (plan .entry)) (now (marks .entry)) v) e x)) (linksOf (now (plan .entry))) ⌝ }
@@ -133,11 +111,7 @@ fn find<'a>(
 }
 
 // The earliest own edge of node v, or none.
-pub fn earliest_own<'a>(
-    plan: &'a Plan,
-    marks: &'a Marks,
-    v: u16,
-) -> u16
+pub fn earliest_own<'a>(plan: &'a Plan, marks: &'a Marks, v: u16) -> u16
     requires { ⌜ linksOf (now plan) ≤ maxLinks ⌝ }
     ensures { λ r. ⌜ r ≡ earliest (ownOf (now (plan .entry)) v) anyEdge (linksOf (now (plan .entry))) ⌝ }
 {
@@ -145,13 +119,7 @@ pub fn earliest_own<'a>(
 }
 
 // The earliest own edge of node v with mark Basic, or none. Edge e's mark is to become x.
-pub fn earliest_basic<'a>(
-    plan: &'a Plan,
-    marks: &'a Marks,
-    v: u16,
-    e: u16,
-    x: u8,
-) -> u16
+pub fn earliest_basic<'a>(plan: &'a Plan, marks: &'a Marks, v: u16, e: u16, x: u8) -> u16
     requires { ⌜ linksOf (now plan) ≤ maxLinks ⌝ }
     ensures { λ r. ⌜ r ≡ earliest (ownOf (now (plan .entry)) v)
         (λ k. eqb (marked (marksIn (now (plan .entry)) (now (marks .entry)) v) e x k) BASIC) (linksOf (now (plan .entry))) ⌝ }
@@ -160,14 +128,7 @@ pub fn earliest_basic<'a>(
 }
 
 // 1 if a count of node v's edges counts k: an own edge, a branch other than j unless all are counted.
-fn one<'a>(
-    plan: &'a Plan,
-    marks: &'a Marks,
-    v: u16,
-    all: bool,
-    j: u16,
-    k: u16,
-) -> u16
+fn one<'a>(plan: &'a Plan, marks: &'a Marks, v: u16, all: bool, j: u16, k: u16) -> u16
     requires { ⌜ (linksOf (now plan) ≤ maxLinks) × (k < linksOf (now plan)) ⌝ }
     ensures { λ r. ⌜ (r ≡ bit (isOwn (now (plan .entry)) v k
         && counted all j (marksIn (now (plan .entry)) (now (marks .entry)) v) k)) × (r ≤ 1) ⌝ }
@@ -188,13 +149,7 @@ fn one<'a>(
 }
 
 // How many own edges node v has: all, or the branches other than j.
-fn count<'a>(
-    plan: &'a Plan,
-    marks: &'a Marks,
-    v: u16,
-    all: bool,
-    j: u16,
-) -> u16
+fn count<'a>(plan: &'a Plan, marks: &'a Marks, v: u16, all: bool, j: u16) -> u16
     requires { ⌜ linksOf (now plan) ≤ maxLinks ⌝ }
     ensures { λ r. ⌜ (r ≡ number (ownOf (now (plan .entry)) v)
         (counted all j (marksIn (now (plan .entry)) (now (marks .entry)) v)) (linksOf (now (plan .entry)))) × (r ≤ maxLinks) ⌝ }
@@ -210,11 +165,7 @@ fn count<'a>(
 }
 
 // The number of node v's own edges.
-pub fn degree<'a>(
-    plan: &'a Plan,
-    marks: &'a Marks,
-    v: u16,
-) -> u16
+pub fn degree<'a>(plan: &'a Plan, marks: &'a Marks, v: u16) -> u16
     requires { ⌜ linksOf (now plan) ≤ maxLinks ⌝ }
     ensures { λ r. ⌜ (r ≡ degree (ownOf (now (plan .entry)) v)) × (r ≤ maxLinks) ⌝ }
 {
@@ -222,12 +173,7 @@ pub fn degree<'a>(
 }
 
 // The number of node v's branches other than j.
-pub fn branches<'a>(
-    plan: &'a Plan,
-    marks: &'a Marks,
-    v: u16,
-    j: u16,
-) -> u16
+pub fn branches<'a>(plan: &'a Plan, marks: &'a Marks, v: u16, j: u16) -> u16
     requires { ⌜ linksOf (now plan) ≤ maxLinks ⌝ }
     ensures { λ r. ⌜ (r ≡ number (ownOf (now (plan .entry)) v)
         (λ k. not (eqb k j) && eqb (marksIn (now (plan .entry)) (now (marks .entry)) v k) BRANCH) (linksOf (now (plan .entry)))) × (r ≤ maxLinks) ⌝ }

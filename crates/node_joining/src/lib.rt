@@ -1,7 +1,7 @@
 // The procedures test, wakeup and change-root, and the responses to Connect and Initiate, worked out by value from the plan's columns and the marks: v is the node, j the own edge that the message came by.
-use node_response::Response;
 use base::NONE;
 use node::Node;
+use node_response::Response;
 ghost use mathlib.Core.Path.{_≡_};
 ghost use mathlib.Core.Logic.{_≢_, _⊎_};
 ghost use mathlib.Core.Bool.{true};
@@ -107,7 +107,10 @@ fn join(j: u16, find: u8, a: Response) -> Response
     let mut b = a;
     b.edge = j;
     b.mark = 1;
-    node_response::say(b, node_response::an_initiate(j, a.node.level, a.node.identity, find))
+    node_response::say(
+        b,
+        node_response::an_initiate(j, a.node.level, a.node.identity, find),
+    )
 }
 
 // A Connect of a lower level.

@@ -1,7 +1,7 @@
 // The responses to Test, Accept, Reject and Report, worked out by value: v is the node, j the own edge that the message came by.
-use node_response::Response;
 use base::NONE;
 use node::Node;
+use node_response::Response;
 ghost use mathlib.Core.Path.{_≡_};
 ghost use mathlib.Core.Logic.{_⊎_};
 ghost use mathlib.Core.Bool.{true, cond};
@@ -131,7 +131,13 @@ pub fn on_accept<'a>(near: &'a [u16; 600], far: &'a [u16; 600], j: u16, a: Respo
 }
 
 // Report(x) of a node below.
-fn child_report<'a>(near: &'a [u16; 600], far: &'a [u16; 600], x: u16, j: u16, a: Response) -> Response
+fn child_report<'a>(
+    near: &'a [u16; 600],
+    far: &'a [u16; 600],
+    x: u16,
+    j: u16,
+    a: Response,
+) -> Response
     requires { ⌜ ((x < 600) ⊎ (x ≡ none)) × (a .second .edge ≡ none) × ((a .node .weight < 600) ⊎ (a .node .weight ≡ none)) ⌝ }
     ensures { λ r. ⌜ ((links v : ℕ) (lower higher : List ℕ) (m : ℕ → ℕ) (cs : List Send) → Does m cs (childReport (ownIn links lower higher (now (near .entry)) (now (far .entry)) v) x j) a r) ⌝ }
 {

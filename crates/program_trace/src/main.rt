@@ -9,10 +9,10 @@ ghost use Rattle.field.specs.Edges.{ceilingOf};
 ghost use Rattle.field_calls.specs.Call.{runBytes};
 ghost use Rattle.program_trace.specs.Text.{ranText};
 ghost use Rattle.program_trace.specs.Traced.{start, planPart, traced};
+use host_run::Ran;
 use libc::STDIN_FILENO;
 use libc::STDOUT_FILENO;
 use plan::Plan;
-use host_run::Ran;
 
 mod render;
 

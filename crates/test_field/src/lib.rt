@@ -7,9 +7,9 @@ ghost use Rattle.field_calls.specs.Call.{runBytes, runRounds};
 ghost use Rattle.test_field.specs.Parts.{fieldOf, heldOf};
 use field::CELLS;
 use field::Field;
-use plan::Plan;
 use host_rounds;
 use host_run;
+use plan::Plan;
 
 // The field of these parts.
 fn field_of<'a>(

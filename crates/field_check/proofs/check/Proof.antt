@@ -8,7 +8,6 @@ use borrow.Author.Tests.{not-true, not-false}
 use borrow.Author.Needs.{needs}
 use Rattle.field.specs.Valid.{allOf, fits}
 use Rattle.plan.specs.Accepted.{accepted}
-use Rattle.plan.specs.Links.{planOf}
 use Rattle.field_check.specs.Checked.{stateIn, heldIn}
 use Rattle.field_check.proofs.Outcomes.{checked, valid-plan, valid-few, valid-gap, valid-fits}
 use Rattle.field_check.proofs.Words.{front, behind, within}
@@ -18,13 +17,13 @@ use Rattle.field_check.proofs.check.Tie as tie
 returns : tie.Need-returns
 returns c =
     let k = c .before in
-    checked _ _ _ (sym (valid-plan _ (λ e. c .if1 .taken (k .check-columns .ensures ∙ e)))) (k .before .waiting .ensures)
+    checked _ _ _ (sym (valid-plan _ (λ e. c .if1 .taken (k .check .ensures ∙ e)))) (k .before .waiting .ensures)
 
 returns-2 : tie.Need-returns-2
 returns-2 c =
     let m = c .before in
     let k = m .before .before in
-    checked _ _ _ (sym (valid-few _ (sym (k .check-columns .ensures) ∙ m .before .if1 .left) (omega (arith, m .ceiling .ensures)))) (k .before .waiting .ensures)
+    checked _ _ _ (sym (valid-few _ (sym (k .check .ensures) ∙ m .before .if1 .left) (omega (arith, m .ceiling-of .ensures)))) (k .before .waiting .ensures)
 
 mul-all-zero : tie.Need-mul-all-zero
 mul-all-zero c =
@@ -50,7 +49,7 @@ returns-3 c =
     let k = m .before .before in
     let w = k .before in
     let lent = w .before .before .args .lent .now in
-    checked _ _ _ (sym (valid-gap _ (sym (k .check-columns .ensures) ∙ m .before .if1 .left) (omega (arith, m .ceiling .ensures, o .if2 .left))
+    checked _ _ _ (sym (valid-gap _ (sym (k .check .ensures) ∙ m .before .if1 .left) (omega (arith, m .ceiling-of .ensures, o .if2 .left))
     (ap (allOf (λ x. eqb x 0)) (sym (behind lent (w .waiting .result) (w .waiting .ensures))) ∙ sym (z .all-zero .ensures) ∙ not-true _ (c .if3 .taken)))) (w .waiting .ensures)
 
 slice-aggregate-state-fits : tie.Need-slice-aggregate-state-fits
@@ -62,8 +61,7 @@ slice-aggregate-state-fits c =
 state-fits-requires : tie.Need-state-fits-requires
 state-fits-requires c κs =
     let k = c .before .before .before .before .before .before .before in
-    let e = accepted _ (sym (k .check-columns .ensures) ∙ c .before .before .before .before .before .before .if1 .left) in
-    (e .modulesOk, e .linksOk, λ i l. (e .each i l .ordered, omega (arith, e .each i l .inside, e .modulesOk)))
+    accepted _ (sym (k .check .ensures) ∙ c .before .before .before .before .before .before .if1 .left)
 
 returns-4 : tie.Need-returns-4
 returns-4 c =
@@ -75,10 +73,10 @@ returns-4 c =
     let w = k .before in
     let a = w .before .before .args in
     let lent = a .lent .now in
-    let p = planOf (a .modules) (a .links) (a .lower .now) (a .higher .now) (a .near .now) (a .far .now) in
-    checked _ _ _ (c .state-fits .ensures (a .near .now) (a .far .now)
+    let p = a .plan .now in
+    checked _ _ _ (c .state-fits .ensures
     ∙ ap (λ (ws : List ℕ). fits p (stateIn (a .cells .now) (a .marks .now) ws (a .sent))) (front lent (w .waiting .result) (w .waiting .ensures))
-    ∙ sym (valid-fits (heldIn p (a .cells .now) (a .marks .now) (a .sent) lent) (sym (k .check-columns .ensures) ∙ m .before .if1 .left) (omega (arith, m .ceiling .ensures, o .if2 .left))
+    ∙ sym (valid-fits (heldIn p (a .cells .now) (a .marks .now) (a .sent) lent) (sym (k .check .ensures) ∙ m .before .if1 .left) (omega (arith, m .ceiling-of .ensures, o .if2 .left))
     (ap (allOf (λ x. eqb x 0)) (sym (behind lent (w .waiting .result) (w .waiting .ensures))) ∙ sym (z .all-zero .ensures) ∙ not-false _ (t .if3 .left)))) (w .waiting .ensures)
 
 pub check-spec : {M : Type 1} → statement M

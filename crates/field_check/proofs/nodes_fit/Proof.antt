@@ -1,49 +1,51 @@
-use Prim.Native.Nat.{ℕ, _-_, _≤_, _<_}
+use Prim.Native.Nat.{ℕ, _-_, _≤_}
 use native.Mathlib.Omega.{arith}
 use mathlib.Core.Path.{ap, _≡_, refl, sym, _∙_}
-use mathlib.Core.List.{List}
-use lib.ListN.{getD}
 use borrow.Author.Tests.{not-true, not-false}
 use borrow.Author.Needs.{needs}
 use Rattle.field.specs.Valid.{nodeFits}
 use Rattle.field.specs.State.{nodeIn}
-use Rattle.plan.specs.Links.{planOf}
-use Rattle.node_edges.specs.Own.{ownIn}
-use Rattle.node.specs.Work.{degree}
 use Rattle.base.specs.Test.{every, every-goes-on, every-stops, every-of-none}
+use Rattle.plan.specs.Links.{modulesOf}
 use Rattle.field_check.proofs.nodes_fit.Statement.{statement}
 use Rattle.field_check.proofs.nodes_fit.Tie as tie
 
 abbrev Inv-loop : tie.InvT-loop
-Inv-loop modules links lower higher ends cells v₀ v = (v ≤ modules) × ((near far : List ℕ) → ((u : ℕ) → u < 192 → getD ends u 0 ≡ degree (ownIn links lower higher near far u))
-    → every modules (λ u. nodeFits (planOf modules links lower higher near far) u (nodeIn cells u)) ≡ every v (λ u. nodeFits (planOf modules links lower higher near far) u (nodeIn cells u)))
+Inv-loop plan degrees cells v₀ v = (v ≤ modulesOf plan)
+    × (every (modulesOf plan) (λ u. nodeFits plan u (nodeIn cells u)) ≡ every v (λ u. nodeFits plan u (nodeIn cells u)))
 
 abbrev μ-loop : tie.MeasureT-loop
-μ-loop modules links lower higher ends cells v₀ v = v
+μ-loop plan degrees cells v₀ v = v
 
 loop-holds : tie.Need-loop-holds Inv-loop μ-loop
-loop-holds c = (search needs, λ near far d. refl)
+loop-holds c = (omega (arith, c .modules .ensures), ap (λ (n : ℕ). every n (λ u. nodeFits (c .before .args .plan .now) u (nodeIn (c .before .args .cells .now) u))) (sym (c .modules .ensures)))
+
+node-fits-requires : tie.Need-node-fits-requires Inv-loop μ-loop
+node-fits-requires c κs =
+    let i = c .before .before in
+    let s = i .before .before .before in
+    (s .pre .0 .linksOk, s .pre .1 (i .before .loop .v - 1) (omega (arith, i .before .loop .inv .0, s .pre .0 .modulesOk)))
 
 returns : tie.Need-returns Inv-loop μ-loop
-returns c = λ near far d.
+returns c =
     let e = c .before .before .before .before in
     let v = e .before .loop .v - 1 in
-    let s = e .before .before .args in
-    sym (e .before .loop .inv .1 near far d ∙ every-stops _ _ (e .loop-test .taken)
-    (sym (c .before .node-fits .ensures near far (d v (omega arith)) ∙ ap (nodeFits (planOf (s .modules) (s .links) (s .lower .now) (s .higher .now) near far) v) (c .before .before .before .load .ensures)) ∙ not-true _ (c .if1 .taken)))
+    let s = e .before .before .before .args in
+    sym (e .before .loop .inv .1 ∙ every-stops _ _ (e .loop-test .taken)
+    (sym (c .before .node-fits .ensures ∙ ap (nodeFits (s .plan .now) v) (c .before .before .before .load .ensures)) ∙ not-true _ (c .if1 .taken)))
 
 loop-again : tie.Need-loop-again Inv-loop μ-loop
 loop-again c =
     let e = c .before .before .before .before in
     let v = e .before .loop .v - 1 in
-    let s = e .before .before .args in (
+    let s = e .before .before .before .args in (
       omega arith,
-      λ near far d. e .before .loop .inv .1 near far d ∙ every-goes-on _ _ (e .loop-test .taken)
-          (sym (c .before .node-fits .ensures near far (d v (omega arith)) ∙ ap (nodeFits (planOf (s .modules) (s .links) (s .lower .now) (s .higher .now) near far) v) (c .before .before .before .load .ensures)) ∙ not-false _ (c .if1 .left)),
+      e .before .loop .inv .1 ∙ every-goes-on _ _ (e .loop-test .taken)
+          (sym (c .before .node-fits .ensures ∙ ap (nodeFits (s .plan .now) v) (c .before .before .before .load .ensures)) ∙ not-false _ (c .if1 .left)),
     )
 
 returns-2 : tie.Need-returns-2 Inv-loop μ-loop
-returns-2 c = λ near far d. sym (c .before .loop .inv .1 near far d ∙ every-of-none _ _ (c .loop-test .left))
+returns-2 c = sym (c .before .loop .inv .1 ∙ every-of-none _ _ (c .loop-test .left))
 
 pub nodes-fit-spec : {M : Type 1} → statement M
 nodes-fit-spec =
@@ -51,13 +53,14 @@ nodes-fit-spec =
     (tie.spec
     Inv-loop
     μ-loop
+    (λ c κs. search needs)
     loop-holds
     (λ c. search needs)
     (λ c κs. search needs)
     (λ c. search needs)
     (λ c. search needs)
     (λ c. search needs)
-    (λ c κs. search needs)
+    node-fits-requires
     returns
     (λ c. search needs)
     loop-again

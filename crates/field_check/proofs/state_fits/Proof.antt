@@ -4,25 +4,20 @@ use borrow.Author.Needs.{needs}
 use Rattle.field.specs.Valid.{fits}
 use Rattle.field_check.proofs.state_fits.Statement.{statement}
 use Rattle.field_check.proofs.state_fits.Tie as tie
+use Rattle.base.specs.Limits.{maxModules}
 
-count-ends-requires : tie.Need-count-ends-requires
-count-ends-requires c κs = (c .before .before .pre .1, refl, λ v h. getD-replicate 192 v 0 0 h, c .before .before .pre .2)
+count-links-requires : tie.Need-count-links-requires
+count-links-requires c κs = (c .before .before .pre, refl, λ v h. getD-replicate maxModules v 0 0 h)
 
 returns : tie.Need-returns
 unfolding fits
-returns c = λ near far.
-    let m = c .before in
-    let n = m .before in
-    let w = n .before .before in
-    let e = w .before in
-    let a = e .before .before .before .args in
-    cc (w .words-fit .ensures (a .lower .now) (a .higher .now) near far, n .nodes-fit .ensures near far (e .count-ends .ensures near far), m .marks-fit .ensures (a .cells .now) (a .words .now) (a .sent))
+returns c = cc
 
 pub state-fits-spec : {M : Type 1} → statement M
 state-fits-spec =
     tie.close
     (tie.spec
-    count-ends-requires
+    count-links-requires
     (λ c κs. search needs)
     (λ c κs. search needs)
     (λ c κs. search needs)

@@ -5,7 +5,7 @@ use Rattle.field_check.proofs.items.node_fits.Tie as tie
 
 returns : tie.Need-returns
 unfolding nodeFits
-returns c = λ near far e. cc (c .before .before .before .before .values-listed .ensures (c .before .before .before .before .before .args .modules) near far)
+returns c = cc
 
 pub node-fits-spec : {M : Type 1} → statement M
 node-fits-spec =

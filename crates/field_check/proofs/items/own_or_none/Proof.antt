@@ -1,6 +1,6 @@
 use borrow.Author.Tests.{eq-eqb, ne-eqb, le-ltb}
 use borrow.Author.Needs.{needs}
-use Rattle.node_edges.specs.Own.{isOwn}
+use Rattle.field.specs.Edges.{isOwn}
 use Rattle.field_check.proofs.items.own_or_none.Statement.{statement}
 use Rattle.field_check.proofs.items.own_or_none.Tie as tie
 
@@ -9,10 +9,10 @@ returns c = simp (eq-eqb _ _ (c .if1 .taken))
 
 returns-2 : tie.Need-returns-2
 unfolding isOwn
-returns-2 c = simp (ne-eqb _ _ (c .before .if1 .left), le-ltb _ _ (c .if2 .taken))
+returns-2 c = simp (ne-eqb _ _ (c .before .before .if1 .left), ← c .before .links .ensures, le-ltb _ _ (c .if2 .taken))
 
 returns-3 : tie.Need-returns-3
-returns-3 c = simp (ne-eqb _ _ (c .before .before .if1 .left), c .owns .ensures)
+returns-3 c = simp (ne-eqb _ _ (c .before .before .before .if1 .left), c .owns .ensures)
 
 pub own-or-none-spec : {M : Type 1} → statement M
-own-or-none-spec = tie.close (tie.spec returns returns-2 (λ c κs. search needs) returns-3)
+own-or-none-spec = tie.close (tie.spec returns (λ c κs. search needs) returns-2 (λ c κs. search needs) returns-3)

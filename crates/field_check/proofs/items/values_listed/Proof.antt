@@ -3,7 +3,7 @@ use Rattle.field_check.proofs.items.values_listed.Statement.{statement}
 use Rattle.field_check.proofs.items.values_listed.Tie as tie
 
 returns : tie.Need-returns
-returns c = λ modules near far. cc
+returns c = cc
 
 pub values-listed-spec : {M : Type 1} → statement M
 values-listed-spec =

@@ -5,12 +5,13 @@ use Rattle.field_check.proofs.items.word_fits.Tie as tie
 
 returns : tie.Need-returns
 unfolding wordFits
-returns c = λ lower higher near far. cc
+returns c = cc
 
 pub word-fits-spec : {M : Type 1} → statement M
 word-fits-spec =
     tie.close
     (tie.spec
+    (λ c κs. search needs)
     (λ c κs. search needs)
     (λ c κs. search needs)
     (λ c κs. search needs)
