@@ -12,7 +12,6 @@ use Rattle.node.specs.declared.Node.{Node}
 use Rattle.node.specs.Work.{Own, Send, BRANCH, FIND, FOUND, onEach, number, branches, degree, refused, withNode, setCount}
 use Rattle.node.specs.Rules.{told, seek, doTest, onInitiate}
 use Rattle.node.specs.Laws.{initiate-find, seek-refused, seek-tests}
-use Rattle.node_edges.specs.Own.{marked}
 use Rattle.node_edges.specs.Laws.{marked-none}
 use Rattle.node_response.specs.declared.Response.{Response}
 use Rattle.node_response.specs.Response.{workOf, Does}

@@ -1,103 +1,28 @@
-// The procedures test, wakeup and change-root, and the responses to Connect and Initiate, worked out by value from the plan's columns and the marks: v is the node, j the own edge that the message came by.
+// The responses to Connect and Initiate, worked out by value: v is the node, x the message, a the response so far.
 use base::NONE;
+use field::Marks;
+use node::BASIC;
+use node::BRANCH;
+use node::FIND;
+use node::FOUND;
 use node::Node;
+use node_response::Packet;
 use node_response::Response;
+use plan::Plan;
 ghost use mathlib.Core.Path.{_≡_};
 ghost use mathlib.Core.Logic.{_≢_, _⊎_};
 ghost use mathlib.Core.Bool.{true};
 ghost use mathlib.Core.List.{List};
 ghost use Prim.Native.Nat.{ℕ, _≤_};
-ghost use Rattle.format_message.specs.Msg.{none, initiate};
+ghost use Rattle.base.specs.None.{none};
+ghost use Rattle.base.specs.Limits.{maxLinks};
+ghost use Rattle.format_message.specs.Msg.{initiate};
+ghost use Rattle.plan.specs.Links.{linksOf};
+ghost use Rattle.field.specs.Edges.{isOwn, ownOf, marksIn, limitOf};
 ghost use Rattle.node.specs.Work.{Send};
-ghost use Rattle.node.specs.Rules.{doTest, wakeup, awake, changeRoot, joined, absorb, coreEnd, onConnect, onInitiate};
-ghost use Rattle.node_edges.specs.Own.{isOwn, ownIn, marksIn};
-ghost use Rattle.node_joining.specs.Copies.{copiesIn};
+ghost use Rattle.node.specs.Rules.{joined, absorb, coreEnd, onConnect, onInitiate};
 ghost use Rattle.node_response.specs.Response.{Does};
-
-// Procedure test.
-pub fn do_test<'a>(
-    links: u16,
-    lower: &'a [u16; 600],
-    higher: &'a [u16; 600],
-    near: &'a [u16; 600],
-    far: &'a [u16; 600],
-    marks: &'a [u8; 1200],
-    v: u16,
-    a: Response,
-) -> Response
-    requires { ⌜ (links ≤ 600) × (a .second .edge ≡ none) ⌝ }
-    ensures { λ r. ⌜ ((cs : List Send) → Does (marksIn links (now (lower .entry)) (now (higher .entry)) (now (marks .entry)) v) cs (doTest (ownIn links (now (lower .entry)) (now (higher .entry)) (now (near .entry)) (now (far .entry)) v)) a r) ⌝ }
-{
-    node_response::test_on(
-        node_edges::earliest_basic(links, lower, higher, near, far, marks, v, a.edge, a.mark),
-        a,
-    )
-}
-
-// Procedure wakeup.
-pub fn wake<'a>(
-    links: u16,
-    lower: &'a [u16; 600],
-    higher: &'a [u16; 600],
-    near: &'a [u16; 600],
-    far: &'a [u16; 600],
-    marks: &'a [u8; 1200],
-    v: u16,
-    a: Response,
-) -> Response
-    requires { ⌜ (links ≤ 600) × (a .edge ≡ none) × (a .first .edge ≡ none) × (a .second .edge ≡ none) ⌝ }
-    ensures { λ r. ⌜ ((m : ℕ → ℕ) (cs : List Send) → Does m cs (wakeup (ownIn links (now (lower .entry)) (now (higher .entry)) (now (near .entry)) (now (far .entry)) v)) a r) × (r .second .edge ≡ none) × (r .node .level ≡ 0) ⌝ }
-{
-    node_response::wake_on(
-        node_edges::earliest_own(links, lower, higher, near, far, marks, v),
-        a,
-    )
-}
-
-// A sleeper wakes.
-pub fn wakened<'a>(
-    links: u16,
-    lower: &'a [u16; 600],
-    higher: &'a [u16; 600],
-    near: &'a [u16; 600],
-    far: &'a [u16; 600],
-    marks: &'a [u8; 1200],
-    v: u16,
-    a: Response,
-) -> Response
-    requires { ⌜ (links ≤ 600) × (a .edge ≡ none) × (a .first .edge ≡ none) × (a .second .edge ≡ none) ⌝ }
-    ensures { λ r. ⌜ ((m : ℕ → ℕ) (cs : List Send) → Does m cs (awake (ownIn links (now (lower .entry)) (now (higher .entry)) (now (near .entry)) (now (far .entry)) v)) a r) × (r .second .edge ≡ none) × ((r .edge ≡ none) ⊎ (r .node .level ≡ 0)) ⌝ }
-{
-    if a.node.status == 0 {
-        return wake(links, lower, higher, near, far, marks, v, a);
-    }
-    a
-}
-
-// Procedure change-root.
-pub fn change_root<'a>(
-    links: u16,
-    lower: &'a [u16; 600],
-    higher: &'a [u16; 600],
-    marks: &'a [u8; 1200],
-    v: u16,
-    a: Response,
-) -> Response
-    requires { ⌜ (links ≤ 600) × (a .edge ≡ none) × (a .second .edge ≡ none) × ((a .node .best ≡ none) ⊎ (isOwn links (now lower) (now higher) v (a .node .best) ≡ true)) ⌝ }
-    ensures { λ r. ⌜ ((cs : List Send) → Does (marksIn links (now (lower .entry)) (now (higher .entry)) (now (marks .entry)) v) cs changeRoot a r) ⌝ }
-{
-    let e = a.node.best;
-    if e == NONE {
-        return node_response::refuse(a);
-    }
-    if node_edges::mark_of(lower, marks, v, a.edge, a.mark, e) == 1 {
-        return node_response::say(a, node_response::a_change(e));
-    }
-    let mut b = a;
-    b.edge = e;
-    b.mark = 1;
-    node_response::say(b, node_response::a_connect(e, a.node.level))
-}
+ghost use Rattle.node_joining.specs.Copies.{copiesIn};
 
 // Edge j becomes a branch and its other end is told, with the Find bit.
 fn join(j: u16, find: u8, a: Response) -> Response
@@ -106,30 +31,19 @@ fn join(j: u16, find: u8, a: Response) -> Response
 {
     let mut b = a;
     b.edge = j;
-    b.mark = 1;
-    node_response::say(
-        b,
-        node_response::an_initiate(j, a.node.level, a.node.identity, find),
-    )
+    b.mark = BRANCH;
+    node_response::say(b, node_response::an_initiate(j, a.node.level, a.node.identity, find))
 }
 
-// A Connect of a lower level.
-fn absorb<'a>(
-    links: u16,
-    lower: &'a [u16; 600],
-    higher: &'a [u16; 600],
-    marks: &'a [u8; 1200],
-    v: u16,
-    j: u16,
-    a: Response,
-) -> Response
-    requires { ⌜ (links ≤ 600) × (j ≢ none) × (a .edge ≡ none) × (a .second .edge ≡ none) ⌝ }
-    ensures { λ r. ⌜ ((near far : List ℕ) (m : ℕ → ℕ) (cs : List Send) → Does m cs (absorb (ownIn links (now (lower .entry)) (now (higher .entry)) near far v) j) a r) ⌝ }
+// A Connect of a lower level, on edge j.
+fn absorb<'a>(plan: &'a Plan, marks: &'a Marks, v: u16, j: u16, a: Response) -> Response
+    requires { ⌜ (linksOf (now plan) ≤ maxLinks) × (j ≢ none) × (a .edge ≡ none) × (a .second .edge ≡ none) ⌝ }
+    ensures { λ r. ⌜ ((m : ℕ → ℕ) (cs : List Send) → Does m cs (absorb (ownOf (now (plan .entry)) v) j) a r) ⌝ }
 {
-    if a.node.status != 1 {
+    if a.node.status != FIND {
         return join(j, 0, a);
     }
-    if node_edges::degree(links, lower, higher, marks, v) <= a.node.count {
+    if node_edges::degree(plan, marks, v) <= a.node.count {
         return node_response::refuse(join(j, 1, a));
     }
     let mut b = a;
@@ -138,39 +52,31 @@ fn absorb<'a>(
     join(j, 1, b)
 }
 
-// A Connect of the own level on a branch: the next level begins.
-fn core_end(limit: u16, j: u16, a: Response) -> Response
+// A Connect of the own level on the branch j: the next level begins.
+fn core_end(plan: &Plan, j: u16, a: Response) -> Response
     requires { ⌜ (j ≢ none) × (a .second .edge ≡ none) ⌝ }
-    ensures { λ r. ⌜ ((m : ℕ → ℕ) (cs : List Send) → Does m cs (coreEnd limit j) a r) ⌝ }
+    ensures { λ r. ⌜ ((m : ℕ → ℕ) (cs : List Send) → Does m cs (coreEnd (limitOf (now (plan .entry))) j) a r) ⌝ }
 {
-    if limit <= a.node.level {
+    if plan::level_limit(plan) <= a.node.level {
         return node_response::refuse(a);
     }
     node_response::say(a, node_response::an_initiate(j, a.node.level + 1, j, 1))
 }
 
-// Connect(l), by an awake node: it may have been woken by it, and then its level is 0.
-pub fn on_connect<'a>(
-    links: u16,
-    lower: &'a [u16; 600],
-    higher: &'a [u16; 600],
-    marks: &'a [u8; 1200],
-    v: u16,
-    limit: u16,
-    l: u16,
-    j: u16,
-    a: Response,
-) -> Response
-    requires { ⌜ (links ≤ 600) × (isOwn links (now lower) (now higher) v j ≡ true) × (a .second .edge ≡ none) × ((a .edge ≡ none) ⊎ (a .node .level ≡ 0)) ⌝ }
-    ensures { λ r. ⌜ ((near far : List ℕ) (cs : List Send) → Does (marksIn links (now (lower .entry)) (now (higher .entry)) (now (marks .entry)) v) cs (onConnect (ownIn links (now (lower .entry)) (now (higher .entry)) near far v) limit l j) a r) ⌝ }
+// Connect, by an awake node: it may have been woken by it, and then its level is 0.
+pub fn on_connect<'a>(plan: &'a Plan, marks: &'a Marks, v: u16, x: Packet, a: Response) -> Response
+    requires { ⌜ (linksOf (now plan) ≤ maxLinks) × (isOwn (now plan) v (x .edge) ≡ true) × (a .second .edge ≡ none)
+        × ((a .edge ≡ none) ⊎ (a .node .level ≡ 0)) ⌝ }
+    ensures { λ r. ⌜ ((cs : List Send) → Does (marksIn (now (plan .entry)) (now (marks .entry)) v) cs
+        (onConnect (ownOf (now (plan .entry)) v) (limitOf (now (plan .entry))) (x .level) (x .edge)) a r) ⌝ }
 {
-    if l < a.node.level {
-        return absorb(links, lower, higher, marks, v, j, a);
+    if x.level < a.node.level {
+        return absorb(plan, marks, v, x.edge, a);
     }
-    if node_edges::mark_of(lower, marks, v, a.edge, a.mark, j) == 0 {
+    if node_edges::mark_of(plan, marks, v, a.edge, a.mark, x.edge) == BASIC {
         return node_response::back(a);
     }
-    core_end(limit, j, a)
+    core_end(plan, x.edge, a)
 }
 
 fn wide(x: u16) -> u32
@@ -179,49 +85,37 @@ fn wide(x: u16) -> u32
     x as u32
 }
 
-// Initiate(l, f, find), by an awake node, before which nothing was done.
-pub fn on_initiate<'a>(
-    links: u16,
-    lower: &'a [u16; 600],
-    higher: &'a [u16; 600],
-    near: &'a [u16; 600],
-    far: &'a [u16; 600],
-    marks: &'a [u8; 1200],
-    v: u16,
-    l: u16,
-    f: u16,
-    find: u8,
-    j: u16,
-    a: Response,
-) -> Response
-    requires { ⌜ (links ≤ 600) × (a .edge ≡ none) × (a .copies ≡ 0) × (a .first .edge ≡ none) × (a .second .edge ≡ none) ⌝ }
-    ensures { λ r. ⌜ Does (marksIn links (now (lower .entry)) (now (higher .entry)) (now (marks .entry)) v) (copiesIn (ownIn links (now (lower .entry)) (now (higher .entry)) (now (near .entry)) (now (far .entry)) v) j (initiate l f find) (marksIn links (now (lower .entry)) (now (higher .entry)) (now (marks .entry)) v))
-        (onInitiate (ownIn links (now (lower .entry)) (now (higher .entry)) (now (near .entry)) (now (far .entry)) v) l f find j) a r ⌝ }
+// Initiate, by an awake node, before which nothing was done.
+pub fn on_initiate<'a>(plan: &'a Plan, marks: &'a Marks, v: u16, x: Packet, a: Response) -> Response
+    requires { ⌜ (linksOf (now plan) ≤ maxLinks) × (a .edge ≡ none) × (a .copies ≡ 0) × (a .first .edge ≡ none) × (a .second .edge ≡ none) ⌝ }
+    ensures { λ r. ⌜ Does (marksIn (now (plan .entry)) (now (marks .entry)) v)
+        (copiesIn (ownOf (now (plan .entry)) v) (x .edge) (initiate (x .level) (x .carried) (x .find)) (marksIn (now (plan .entry)) (now (marks .entry)) v))
+        (onInitiate (ownOf (now (plan .entry)) v) (x .level) (x .carried) (x .find) (x .edge)) a r ⌝ }
 {
     let mut n = Node {
-        status: 2,
-        level: l,
-        identity: f,
+        status: FOUND,
+        level: x.level,
+        identity: x.carried,
         weight: NONE,
         best: NONE,
         test: a.node.test,
-        branch: j,
+        branch: x.edge,
         count: a.node.count,
         halted: a.node.halted,
     };
     let mut b = a;
     b.copies = 1;
-    if find != 1 {
+    if x.find != 1 {
         b.node = n;
         return b;
     }
-    n.status = 1;
+    n.status = FIND;
     b.node = n;
-    let c = wide(a.node.count) + wide(node_edges::branches(links, lower, higher, marks, v, j));
-    if wide(node_edges::degree(links, lower, higher, marks, v)) < c {
+    let c = wide(a.node.count) + wide(node_edges::branches(plan, marks, v, x.edge));
+    if wide(node_edges::degree(plan, marks, v)) < c {
         return node_response::refuse(b);
     }
     let e = c as u16;
     b.node.count = e;
-    do_test(links, lower, higher, near, far, marks, v, b)
+    node_procedures::do_test(plan, marks, v, b)
 }

@@ -2,22 +2,19 @@
 use Prim.Native.Nat.{ℕ}
 use mathlib.Core.Path.{_≡_, refl, sym, ap, _∙_}
 use mathlib.Core.Logic.{_≢_}
-use mathlib.Core.Bool.{cond}
 use mathlib.Core.List.{List, [], _∷_, _++_, append-nil, append-assoc}
-use lib.Dec.{eqb}
 use borrow.Author.Tests.{eq-eqb, ne-eqb}
-use Rattle.base.specs.Cond.{upd}
 use Rattle.format_message.specs.Msg.{Msg, none, connect, initiate, test, accept, reject, report, change}
-use Rattle.format_message.specs.Header.{msgOf, partsOf, parts}
+use Rattle.format_message.specs.Header.{msgOf}
 use Rattle.node.specs.declared.Node.{Node}
-use Rattle.node.specs.Work.{Send, Work, send, setMark, withNode, start}
+use Rattle.node.specs.Work.{Send, Work, setMark, withNode, start}
 use Rattle.node_edges.specs.Own.{marked}
 use Rattle.node.specs.Rules.{copied}
 use Rattle.node_response.specs.declared.Packet.{Packet}
 use Rattle.node_response.specs.declared.Response.{Response}
 use Rattle.node_response.specs.Response.{packetMsg, packetFor, packetSends, copiesOf, workOf, Formed, Does, Says, begun}
 
--- an Packet that says a message says it, on its edge
+-- the packet that says a message says it, on its edge
 pub msg-for : (to : ℕ) (m : Msg) → packetMsg (packetFor to m) ≡ m
 unfolding msgOf
 msg-for to (connect l) = refl
@@ -28,36 +25,22 @@ msg-for to reject = refl
 msg-for to (report w) = refl
 msg-for to change = refl
 
-pub to-for : (to : ℕ) (m : Msg) → packetFor to m .edge ≡ to
-to-for to (connect l) = refl
-to-for to (initiate l i f) = refl
-to-for to (test l i) = refl
-to-for to accept = refl
-to-for to reject = refl
-to-for to (report w) = refl
-to-for to change = refl
-
--- the parts of what a well written Packet says are its own: so it is packed as it stands
-pub parts-for : (to : ℕ) (m : Msg) → partsOf m ≡ parts (packetFor to m .kind) (packetFor to m .level) (packetFor to m .carried) (packetFor to m .find)
-unfolding partsOf
-parts-for to (connect l) = refl
-parts-for to (initiate l i f) = refl
-parts-for to (test l i) = refl
-parts-for to accept = refl
-parts-for to reject = refl
-parts-for to (report w) = refl
-parts-for to change = refl
-
-pub out-parts : (x : Packet) → packetFor (x .edge) (packetMsg x) ≡ x → partsOf (packetMsg x) ≡ parts (x .kind) (x .level) (x .carried) (x .find)
-out-parts x e = parts-for (x .edge) (packetMsg x) ∙ ap (λ y. parts (y .kind) (y .level) (y .carried) (y .find)) e
+pub edge-for : (to : ℕ) (m : Msg) → packetFor to m .edge ≡ to
+edge-for to (connect l) = refl
+edge-for to (initiate l i f) = refl
+edge-for to (test l i) = refl
+edge-for to accept = refl
+edge-for to reject = refl
+edge-for to (report w) = refl
+edge-for to change = refl
 
 module _ (x : Packet) (to : ℕ) (m : Msg) (e : x ≡ packetFor to m) where
   pub formed-for : packetFor (x .edge) (packetMsg x) ≡ x
-  formed-for = rw (e, msg-for, to-for)
+  formed-for = rw (e, msg-for, edge-for)
 
   pub packet-sends : to ≢ none → packetSends x ≡ record { edge = to; msg = m } ∷ []
   unfolding packetSends
-  packet-sends n = rw (e, msg-for, to-for, ne-eqb _ _ n)
+  packet-sends n = rw (e, msg-for, edge-for, ne-eqb _ _ n)
 
 pub packet-none : (x : Packet) → x .edge ≡ none → packetSends x ≡ []
 unfolding packetSends

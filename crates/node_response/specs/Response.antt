@@ -8,7 +8,7 @@ use lib.Dec.{eqb}
 use Rattle.format_message.specs.Msg.{Msg, none, connect, initiate, test, accept, reject, report, change}
 use Rattle.format_message.specs.Header.{msgOf}
 use Rattle.node.specs.declared.Node.{Node}
-use Rattle.node.specs.Work.{Send, Work, TAKEN, send}
+use Rattle.node.specs.Work.{Send, Work, BASIC, TAKEN, send}
 use Rattle.node_edges.specs.Own.{marked}
 use Rattle.node_response.specs.declared.Packet.{Packet}
 use Rattle.node_response.specs.declared.Response.{Response}
@@ -27,13 +27,15 @@ packetFor e reject = record { edge = e; kind = 5; level = 0; carried = none; fin
 packetFor e (report w) = record { edge = e; kind = 6; level = 0; carried = w; find = 0 }
 packetFor e change = record { edge = e; kind = 7; level = 0; carried = none; find = 0 }
 
+-- what a packet sends: nothing where its edge is none
 unfoldable pub packetSends : Packet → List Send
 packetSends x = cond (eqb (x .edge) none) [] (record { edge = x .edge; msg = packetMsg x } ∷ [])
 
+-- the copies that go out, of those that would
 unfoldable pub copiesOf : ℕ → List Send → List Send
 copiesOf c cs = cond (eqb c 1) cs []
 
--- for marks m before the response, where cs are the copies of the served message
+-- the response in the rules' terms, for marks m before the response, where cs are the copies of the served message
 abbrev pub workOf : (ℕ → ℕ) → List Send → Response → Work
 workOf m cs a =
     record {
@@ -58,5 +60,6 @@ pub record Says (m : ℕ → ℕ) (cs : List Send) (x : Packet) (a r : Response)
   pub does : (e : ℕ) (msg : Msg) → x ≡ packetFor e msg → e ≢ none → Does m cs (send e msg) a r
   pub room : a .first .edge ≡ none → r .second .edge ≡ none
 
+-- nothing done yet
 abbrev pub begun : Node → Response
-begun n = record { answer = TAKEN; node = n; edge = none; mark = 0; copies = 0; first = packetFor none change; second = packetFor none change }
+begun n = record { answer = TAKEN; node = n; edge = none; mark = BASIC; copies = 0; first = packetFor none change; second = packetFor none change }

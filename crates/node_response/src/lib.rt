@@ -1,15 +1,18 @@
 // A response worked out by value: what it answers, the new node, at most one new mark, and what it sends.
 use base::NONE;
+use node::BACK;
+use node::BASIC;
 use node::Node;
+use node::REFUSED;
+use node::TAKEN;
 ghost use mathlib.Core.Path.{_≡_};
 ghost use mathlib.Core.List.{List};
 ghost use Prim.Native.Nat.{ℕ};
 ghost use Rattle.format_message.specs.Msg.{none, connect, initiate, test, accept, reject, report, change};
 ghost use Rattle.node.specs.Work.{Send, putBack, refused};
-ghost use Rattle.node.specs.Rules.{doReport, testOn, wakeOn};
 ghost use Rattle.node_response.specs.Response.{Does, Says, packetFor, begun};
 
-// A message and the own edge that it goes by, none for no message.
+// A message and the own edge that it goes or came by, none for no message. Kinds are numbered as in document 01.
 pub struct Packet {
     pub edge: u16,
     pub kind: u8,
@@ -18,8 +21,8 @@ pub struct Packet {
     pub find: u8,
 }
 
-// answer: 0 taken, 1 put back, 32 refused. edge's mark becomes mark, edge none for no mark. copies: 1 if the served message is copied to
-// every other branch. The copies go out first, then first, then second.
+// answer: TAKEN, BACK or REFUSED. edge's mark becomes mark, edge none for no mark. copies: 1 if the served message is copied to every other
+// branch. The copies go out first, then first, then second.
 pub struct Response {
     pub answer: u32,
     pub node: Node,
@@ -120,29 +123,31 @@ pub fn begin(n: Node) -> Response
 {
     let x = a_change(NONE);
     Response {
-        answer: 0,
+        answer: TAKEN,
         node: n,
         edge: NONE,
-        mark: 0,
+        mark: BASIC,
         copies: 0,
         first: x,
         second: x,
     }
 }
 
+// Refused by 32: the caller drops the rest.
 pub fn refuse(a: Response) -> Response
     ensures { λ r. ⌜ ((m : ℕ → ℕ) (cs : List Send) → Does m cs refused a r) ⌝ }
 {
     let mut r = a;
-    r.answer = 32;
+    r.answer = REFUSED;
     r
 }
 
+// The served message is put back behind those that wait.
 pub fn back(a: Response) -> Response
     ensures { λ r. ⌜ ((m : ℕ → ℕ) (cs : List Send) → Does m cs putBack a r) ⌝ }
 {
     let mut r = a;
-    r.answer = 1;
+    r.answer = BACK;
     r
 }
 
@@ -158,68 +163,4 @@ pub fn say(a: Response, x: Packet) -> Response
     }
     r.second = x;
     r
-}
-
-// Procedure report.
-pub fn do_report(a: Response) -> Response
-    requires { ⌜ a .second .edge ≡ none ⌝ }
-    ensures { λ r. ⌜ ((m : ℕ → ℕ) (cs : List Send) → Does m cs doReport a r) ⌝ }
-{
-    if a.node.count != 0 {
-        return a;
-    }
-    if a.node.test != NONE {
-        return a;
-    }
-    if a.node.branch == NONE {
-        return refuse(a);
-    }
-    let mut b = a;
-    b.node.status = 2;
-    say(b, a_report(a.node.branch, a.node.weight))
-}
-
-// Procedure test, for the earliest own edge k with mark Basic, or none.
-pub fn test_on(k: u16, a: Response) -> Response
-    requires { ⌜ a .second .edge ≡ none ⌝ }
-    ensures { λ r. ⌜ ((m : ℕ → ℕ) (cs : List Send) → Does m cs (testOn k) a r) ⌝ }
-{
-    let mut b = a;
-    if k == NONE {
-        b.node.test = NONE;
-        return do_report(b);
-    }
-    if a.node.level == 0 {
-        return refuse(a);
-    }
-    b.node.test = k;
-    say(b, a_test(k, a.node.level, a.node.identity))
-}
-
-// Procedure wakeup, for the earliest own edge k, or none. Nothing was done before it.
-pub fn wake_on(k: u16, a: Response) -> Response
-    requires { ⌜ (a .edge ≡ none) × (a .first .edge ≡ none) × (a .second .edge ≡ none) ⌝ }
-    ensures { λ r. ⌜ ((m : ℕ → ℕ) (cs : List Send) → Does m cs (wakeOn k) a r) × (r .second .edge ≡ none) × (r .node .level ≡ 0) ⌝ }
-{
-    let mut n = Node {
-        status: 2,
-        level: 0,
-        identity: NONE,
-        weight: NONE,
-        best: NONE,
-        test: NONE,
-        branch: NONE,
-        count: 0,
-        halted: a.node.halted,
-    };
-    let mut b = a;
-    if k == NONE {
-        n.halted = 1;
-        b.node = n;
-        return b;
-    }
-    b.node = n;
-    b.edge = k;
-    b.mark = 1;
-    say(b, a_connect(k, 0))
 }

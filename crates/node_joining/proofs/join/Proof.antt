@@ -1,4 +1,3 @@
--- `reply::join` meets its contract.
 use borrow.Author.Needs.{needs}
 use mathlib.Core.Path.{refl}
 use Rattle.node_response.specs.Laws.{told-as, then, marks-edge}

@@ -1,4 +1,3 @@
--- `reply::on_initiate` meets its contract.
 use borrow.Author.Needs.{needs}
 use mathlib.Core.Path.{sym, _∙_}
 use native.Mathlib.Omega.{arith}
@@ -10,7 +9,7 @@ use Rattle.node_joining.proofs.on_initiate.Tie as tie
 
 returns : tie.Need-returns
 returns c =
-    let p = c .before .pre in
+    let p = c .before .before .pre in
     told-as (tell-found _ _ _ (p .1) _ _ _ _ (p .2) (p .3) (p .4) (c .if1 .taken)) (sym (initiate-found _ _ _ _ _ _ (c .if1 .taken)))
 
 returns-2 : tie.Need-returns-2
@@ -19,9 +18,9 @@ returns-2 c =
     let w2 = w3 .before .before in
     let b = w2 .before in
     let e = b .before .before in
-    let p = e .before .pre in
+    let p = e .before .before .pre in
     told-as (then (c .refuse .ensures _ _) (tell-find _ _ _ (p .1) _ _ _ _ (p .2) (p .3) (p .4) (e .if1 .left)))
-    (sym (initiate-refused _ _ _ _ _ _ _ _ _ _ _ (p .1) (e .if1 .left) (b .branches .ensures .0 _ _) (w3 .wide3 .ensures .0 ∙ w3 .before .degree .ensures .0 _ _)
+    (sym (initiate-refused _ _ _ _ _ _ _ _ _ _ _ (p .1) (e .if1 .left) (b .branches .ensures .0) (w3 .wide3 .ensures .0 ∙ w3 .before .degree .ensures .0)
     (omega (arith, w2 .wide2 .ensures .0, b .before .wide .ensures .0)) (c .before .if2 .taken)))
 
 returns-3 : tie.Need-returns-3
@@ -31,9 +30,9 @@ returns-3 c =
     let w2 = w3 .before .before in
     let b = w2 .before in
     let e = b .before .before in
-    let p = e .before .pre in
+    let p = e .before .before .pre in
     told-as (then (c .do-test .ensures _) (then (sets-node _ _ _ _) (tell-find _ _ _ (p .1) _ _ _ _ (p .2) (p .3) (p .4) (e .if1 .left))))
-    (sym (initiate-searches _ _ _ _ _ _ _ _ _ _ _ (p .1) (e .if1 .left) (b .branches .ensures .0 _ _) (w3 .wide3 .ensures .0 ∙ w3 .before .degree .ensures .0 _ _)
+    (sym (initiate-searches _ _ _ _ _ _ _ _ _ _ _ (p .1) (e .if1 .left) (b .branches .ensures .0) (w3 .wide3 .ensures .0 ∙ w3 .before .degree .ensures .0)
     (omega (arith, w2 .wide2 .ensures .0, b .before .wide .ensures .0)) (t .if2 .left)))
 
 pub on-initiate-spec : {M : Type 1} → statement M

@@ -1,4 +1,3 @@
--- `act::back` meets its contract.
 use mathlib.Core.Path.{refl}
 use Rattle.node_response.proofs.back.Statement.{statement}
 use Rattle.node_response.proofs.back.Tie as tie

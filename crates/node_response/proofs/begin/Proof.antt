@@ -1,4 +1,3 @@
--- `act::begin` meets its contract.
 use borrow.Author.Needs.{needs}
 use Rattle.node_response.proofs.begin.Statement.{statement}
 use Rattle.node_response.proofs.begin.Tie as tie

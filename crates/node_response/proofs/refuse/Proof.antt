@@ -1,4 +1,3 @@
--- `act::refuse` meets its contract.
 use mathlib.Core.Path.{refl}
 use Rattle.node_response.proofs.refuse.Statement.{statement}
 use Rattle.node_response.proofs.refuse.Tie as tie

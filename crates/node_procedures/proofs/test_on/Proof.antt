@@ -1,10 +1,9 @@
--- `act::test_on` meets its contract.
 use borrow.Author.Needs.{needs}
 use mathlib.Core.Path.{sym}
 use Rattle.node_response.specs.Laws.{told-as, then, sets-node}
 use Rattle.node.specs.Laws.{test-over, test-refused, test-sends}
-use Rattle.node_response.proofs.test_on.Statement.{statement}
-use Rattle.node_response.proofs.test_on.Tie as tie
+use Rattle.node_procedures.proofs.test_on.Statement.{statement}
+use Rattle.node_procedures.proofs.test_on.Tie as tie
 
 do-report-requires : tie.Need-do-report-requires
 do-report-requires c κs = c .before .before .pre

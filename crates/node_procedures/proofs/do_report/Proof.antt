@@ -1,11 +1,10 @@
--- `act::do_report` meets its contract.
 use borrow.Author.Needs.{needs}
 use mathlib.Core.Path.{sym}
 use Rattle.node_response.specs.Laws.{stays, told-as, then, sets-node}
 use Rattle.node.specs.Laws.{report-counts, report-tests, report-refused, report-sends}
 use Rattle.node.specs.Rules.{doReport}
-use Rattle.node_response.proofs.do_report.Statement.{statement}
-use Rattle.node_response.proofs.do_report.Tie as tie
+use Rattle.node_procedures.proofs.do_report.Statement.{statement}
+use Rattle.node_procedures.proofs.do_report.Tie as tie
 
 returns : tie.Need-returns
 returns c = λ m cs. stays m cs _ doReport (report-counts _ (c .if1 .taken))

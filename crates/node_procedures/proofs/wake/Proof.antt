@@ -1,9 +1,8 @@
--- `reply::wake` meets its contract.
 use borrow.Author.Needs.{needs}
 use Rattle.node_response.specs.Laws.{told-as}
-use Rattle.node_joining.specs.Laws.{wake-same}
-use Rattle.node_joining.proofs.wake.Statement.{statement}
-use Rattle.node_joining.proofs.wake.Tie as tie
+use Rattle.node_procedures.specs.Laws.{wake-same}
+use Rattle.node_procedures.proofs.wake.Statement.{statement}
+use Rattle.node_procedures.proofs.wake.Tie as tie
 
 returns : tie.Need-returns
 returns c = (λ m cs. told-as (c .wake-on .ensures .0 m cs) (wake-same _ (c .before .earliest-own .ensures)), c .wake-on .ensures .1, c .wake-on .ensures .2)

@@ -1,14 +1,13 @@
--- `act::wake_on` meets its contract.
 use Prim.Native.Nat.{ℕ}
 use borrow.Author.Needs.{needs}
 use mathlib.Core.List.{[]}
 use mathlib.Core.Path.{refl, sym, ap}
 use Rattle.node_response.specs.Laws.{told-as, then, sets-node, marks-edge}
 use Rattle.format_message.specs.Msg.{connect}
 use Rattle.node.specs.Laws.{wake-alone, wake-edge}
 use Rattle.node.specs.Work.{Work}
-use Rattle.node_response.proofs.wake_on.Statement.{statement}
-use Rattle.node_response.proofs.wake_on.Tie as tie
+use Rattle.node_procedures.proofs.wake_on.Statement.{statement}
+use Rattle.node_procedures.proofs.wake_on.Tie as tie
 
 returns : tie.Need-returns
 returns c = (λ m cs. told-as (sets-node m cs _ _) (sym (wake-alone _ _ (c .if1 .taken))), c .before .pre .2, refl)

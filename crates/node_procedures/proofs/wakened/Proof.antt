@@ -1,12 +1,11 @@
--- `reply::wakened` meets its contract.
 use borrow.Author.Needs.{needs}
 use mathlib.Core.Logic.{inl, inr}
 use mathlib.Core.Path.{sym}
 use Rattle.node_response.specs.Laws.{told-as, stays}
 use Rattle.node.specs.Laws.{awake-wakes, awake-is}
 use Rattle.node.specs.Rules.{awake}
-use Rattle.node_joining.proofs.wakened.Statement.{statement}
-use Rattle.node_joining.proofs.wakened.Tie as tie
+use Rattle.node_procedures.proofs.wakened.Statement.{statement}
+use Rattle.node_procedures.proofs.wakened.Tie as tie
 
 returns : tie.Need-returns
 returns c =

@@ -1,4 +1,4 @@
--- Small facts that the responses' proofs share.
+-- Small facts that the proofs of procedures and responses share.
 use Prim.Native.Nat.{ℕ}
 use mathlib.Core.Path.{_≡_, ap}
 use mathlib.Core.Logic.{_⊎_, inl, inr}

@@ -1,9 +1,8 @@
--- `reply::do_test` meets its contract.
 use borrow.Author.Needs.{needs}
 use Rattle.node_response.specs.Laws.{told-as}
-use Rattle.node_joining.specs.Laws.{test-same}
-use Rattle.node_joining.proofs.do_test.Statement.{statement}
-use Rattle.node_joining.proofs.do_test.Tie as tie
+use Rattle.node_procedures.specs.Laws.{test-same}
+use Rattle.node_procedures.proofs.do_test.Statement.{statement}
+use Rattle.node_procedures.proofs.do_test.Tie as tie
 
 returns : tie.Need-returns
 returns c = λ cs. told-as (c .test-on .ensures _ cs) (test-same _ (c .before .earliest-basic .ensures))

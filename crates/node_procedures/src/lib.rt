@@ -1,0 +1,136 @@
+// The paper's procedures, worked out by value: report, test, wakeup, change-root. v is the node, whose response a is so far.
+use base::NONE;
+use field::Marks;
+use node::ASLEEP;
+use node::BRANCH;
+use node::FOUND;
+use node::Node;
+use node_response::Response;
+use plan::Plan;
+ghost use mathlib.Core.Path.{_≡_};
+ghost use mathlib.Core.Logic.{_⊎_};
+ghost use mathlib.Core.Bool.{true};
+ghost use mathlib.Core.List.{List};
+ghost use Prim.Native.Nat.{ℕ, _≤_};
+ghost use Rattle.base.specs.None.{none};
+ghost use Rattle.base.specs.Limits.{maxLinks};
+ghost use Rattle.plan.specs.Links.{linksOf};
+ghost use Rattle.field.specs.Edges.{isOwn, ownOf, marksIn};
+ghost use Rattle.node.specs.Work.{Send};
+ghost use Rattle.node.specs.Rules.{doReport, testOn, doTest, wakeOn, wakeup, awake, changeRoot};
+ghost use Rattle.node_response.specs.Response.{Does};
+
+// Procedure report.
+pub fn do_report(a: Response) -> Response
+    requires { ⌜ a .second .edge ≡ none ⌝ }
+    ensures { λ r. ⌜ ((m : ℕ → ℕ) (cs : List Send) → Does m cs doReport a r) ⌝ }
+{
+    if a.node.count != 0 {
+        return a;
+    }
+    if a.node.test != NONE {
+        return a;
+    }
+    if a.node.branch == NONE {
+        return node_response::refuse(a);
+    }
+    let mut b = a;
+    b.node.status = FOUND;
+    node_response::say(b, node_response::a_report(a.node.branch, a.node.weight))
+}
+
+// Procedure test, for the earliest own edge k with mark Basic, or none.
+fn test_on(k: u16, a: Response) -> Response
+    requires { ⌜ a .second .edge ≡ none ⌝ }
+    ensures { λ r. ⌜ ((m : ℕ → ℕ) (cs : List Send) → Does m cs (testOn k) a r) ⌝ }
+{
+    let mut b = a;
+    if k == NONE {
+        b.node.test = NONE;
+        return do_report(b);
+    }
+    if a.node.level == 0 {
+        return node_response::refuse(a);
+    }
+    b.node.test = k;
+    node_response::say(b, node_response::a_test(k, a.node.level, a.node.identity))
+}
+
+// Procedure test.
+pub fn do_test<'a>(plan: &'a Plan, marks: &'a Marks, v: u16, a: Response) -> Response
+    requires { ⌜ (linksOf (now plan) ≤ maxLinks) × (a .second .edge ≡ none) ⌝ }
+    ensures { λ r. ⌜ ((cs : List Send) → Does (marksIn (now (plan .entry)) (now (marks .entry)) v) cs (doTest (ownOf (now (plan .entry)) v)) a r) ⌝ }
+{
+    test_on(
+        node_edges::earliest_basic(plan, marks, v, a.edge, a.mark),
+        a,
+    )
+}
+
+// Procedure wakeup, for the earliest own edge k, or none. Nothing was done before it.
+fn wake_on(k: u16, a: Response) -> Response
+    requires { ⌜ (a .edge ≡ none) × (a .first .edge ≡ none) × (a .second .edge ≡ none) ⌝ }
+    ensures { λ r. ⌜ ((m : ℕ → ℕ) (cs : List Send) → Does m cs (wakeOn k) a r) × (r .second .edge ≡ none) × (r .node .level ≡ 0) ⌝ }
+{
+    let mut n = Node {
+        status: FOUND,
+        level: 0,
+        identity: NONE,
+        weight: NONE,
+        best: NONE,
+        test: NONE,
+        branch: NONE,
+        count: 0,
+        halted: a.node.halted,
+    };
+    let mut b = a;
+    if k == NONE {
+        n.halted = 1;
+        b.node = n;
+        return b;
+    }
+    b.node = n;
+    b.edge = k;
+    b.mark = BRANCH;
+    node_response::say(b, node_response::a_connect(k, 0))
+}
+
+// Procedure wakeup. Nothing was done before it.
+pub fn wake<'a>(plan: &'a Plan, marks: &'a Marks, v: u16, a: Response) -> Response
+    requires { ⌜ (linksOf (now plan) ≤ maxLinks) × (a .edge ≡ none) × (a .first .edge ≡ none) × (a .second .edge ≡ none) ⌝ }
+    ensures { λ r. ⌜ ((m : ℕ → ℕ) (cs : List Send) → Does m cs (wakeup (ownOf (now (plan .entry)) v)) a r)
+        × (r .second .edge ≡ none) × (r .node .level ≡ 0) ⌝ }
+{
+    wake_on(node_edges::earliest_own(plan, marks, v), a)
+}
+
+// A sleeper wakes.
+pub fn wakened<'a>(plan: &'a Plan, marks: &'a Marks, v: u16, a: Response) -> Response
+    requires { ⌜ (linksOf (now plan) ≤ maxLinks) × (a .edge ≡ none) × (a .first .edge ≡ none) × (a .second .edge ≡ none) ⌝ }
+    ensures { λ r. ⌜ ((m : ℕ → ℕ) (cs : List Send) → Does m cs (awake (ownOf (now (plan .entry)) v)) a r)
+        × (r .second .edge ≡ none) × ((r .edge ≡ none) ⊎ (r .node .level ≡ 0)) ⌝ }
+{
+    if a.node.status == ASLEEP {
+        return wake(plan, marks, v, a);
+    }
+    a
+}
+
+// Procedure change-root. No mark was changed before it.
+pub fn change_root<'a>(plan: &'a Plan, marks: &'a Marks, v: u16, a: Response) -> Response
+    requires { ⌜ (linksOf (now plan) ≤ maxLinks) × (a .edge ≡ none) × (a .second .edge ≡ none)
+        × ((a .node .best ≡ none) ⊎ (isOwn (now plan) v (a .node .best) ≡ true)) ⌝ }
+    ensures { λ r. ⌜ ((cs : List Send) → Does (marksIn (now (plan .entry)) (now (marks .entry)) v) cs changeRoot a r) ⌝ }
+{
+    let e = a.node.best;
+    if e == NONE {
+        return node_response::refuse(a);
+    }
+    if node_edges::mark_of(plan, marks, v, a.edge, a.mark, e) == BRANCH {
+        return node_response::say(a, node_response::a_change(e));
+    }
+    let mut b = a;
+    b.edge = e;
+    b.mark = BRANCH;
+    node_response::say(b, node_response::a_connect(e, a.node.level))
+}
