@@ -30,7 +30,12 @@ fn in_order(p: &Plan, k: usize) -> bool
         return true;
     }
     let j = k - 1;
-    ascends(plan::lower(p, j), plan::higher(p, j), plan::lower(p, k), plan::higher(p, k))
+    ascends(
+        plan::lower(p, j),
+        plan::higher(p, j),
+        plan::lower(p, k),
+        plan::higher(p, k),
+    )
 }
 
 // 16, 17, 18 or 0 for one link: its ends, whether it is in order, its readings.

@@ -11,7 +11,7 @@ returns c =
     let h = o .before in
     let l = h .before in
     link-from _ _ _ _ (l .lower .ensures) (h .higher .ensures) _ _ _ _ _ (l .before .modules .ensures) (o .in-order .ensures) (n .near .ensures) (f .far .ensures)
-        (c .link-verdict .ensures)
+    (c .link-verdict .ensures)
 
 pub link-check-spec : {M : Type 1} → statement M
 link-check-spec =
