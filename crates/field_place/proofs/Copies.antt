@@ -4,15 +4,16 @@ use native.Mathlib.Omega.{arith}
 use native.Mathlib.Numerals.{add-one}
 use mathlib.Core.Path.{_≡_, refl, sym, ap, _∙_}
 use mathlib.Core.Bool.{Bool, true, false, cond, _&&_}
-use mathlib.Core.List.{List, [], _∷_, _++_, map-append, append-nil}
-use lib.ListN.{length, length-append, length-map}
+use mathlib.Core.List.{[], _∷_, _++_, map-append, append-nil}
+use lib.ListN.{length, length-append}
 use Rattle.base.specs.Cond.{bool-cases, by-eq}
 use Rattle.format_message.specs.Msg.{Msg}
 use Rattle.format_message.specs.Header.{headerOf, carriedOf}
 use Rattle.format_word.specs.Word.{packed}
-use Rattle.node_edges.specs.Own.{endIn}
-use Rattle.node.specs.Work.{Own, Send, onEach, number}
-use Rattle.field_place.specs.Posted.{wordIn, postedIn}
+use Rattle.plan.specs.Links.{Plan}
+use Rattle.field.specs.Edges.{endOf}
+use Rattle.node.specs.Work.{Own, onEach, number}
+use Rattle.field.specs.State.{wordOf, posted}
 
 zero-of : (k : ℕ) → k ≤ 0 → k ≡ 0
 zero-of k h = omega arith
@@ -44,11 +45,8 @@ module _ (o : Own) (f : ℕ → Bool) (m : Msg) where
   each-short k n h = omega (arith, each-number k, each-number n, mono k n h)
 
   -- the words of the copies, with link k's where it gets one
-  pub copies-on : (lower : List ℕ) (v k header carried : ℕ) → headerOf m ≡ header → carriedOf m ≡ carried
-      → postedIn lower v (onEach o f m k) ++ cond (o.own k && f k) (packed header carried (endIn lower v k) 0 ∷ []) [] ≡ postedIn lower v (onEach o f m (k + 1))
-  copies-on lower v k header carried e d = bool-cases (o.own k && f k)
-      (λ h. rw (h, ← e, ← d, each-on k h) (sym (map-append (wordIn lower v) (onEach o f m k) (record { edge = k; msg = m } ∷ []))))
-      (λ h. rw (h, each-off k h) (append-nil (postedIn lower v (onEach o f m k))))
-
-pub posted-many : (lower : List ℕ) (v : ℕ) (l : List Send) → length (postedIn lower v l) ≡ length l
-posted-many lower v l = length-map l (wordIn lower v)
+  pub copies-on : (p : Plan) (v k header carried : ℕ) → headerOf m ≡ header → carriedOf m ≡ carried
+      → posted p v (onEach o f m k) ++ cond (o.own k && f k) (packed header carried (endOf p v k) 0 ∷ []) [] ≡ posted p v (onEach o f m (k + 1))
+  copies-on p v k header carried e d = bool-cases (o.own k && f k)
+      (λ h. rw (h, ← e, ← d, each-on k h) (sym (map-append (wordOf p v) (onEach o f m k) (record { edge = k; msg = m } ∷ []))))
+      (λ h. rw (h, each-off k h) (append-nil (posted p v (onEach o f m k))))

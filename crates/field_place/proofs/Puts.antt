@@ -4,15 +4,15 @@ use native.Mathlib.Omega.{arith}
 use mathlib.Core.Path.{_≡_, refl, sym, ap, subst, _∙_}
 use mathlib.Core.Logic.{_≢_}
 use mathlib.Core.List.{List, [], _++_, map-append}
-use lib.ListN.{length, length-append}
+use lib.ListN.{length, length-append, length-map}
 use borrow.Author.Tests.{eq-eqb, ne-eqb}
-use Rattle.format_message.specs.Msg.{Msg, change}
+use Rattle.plan.specs.Links.{Plan}
 use Rattle.node.specs.Work.{Send}
 use Rattle.node_response.specs.Response.{copiesOf}
+use Rattle.field.specs.State.{wordOf, posted}
 use Rattle.field_words.specs.Laid.{Laid}
-use Rattle.field_place.specs.Posted.{wordIn, postedIn, Posted, Put}
+use Rattle.field_place.specs.Posted.{Posted, Put}
 use Rattle.field_place.proofs.Words.{posted-none, posted-laid, posted-length, posted-then}
-use Rattle.field_place.proofs.Copies.{posted-many}
 
 pub copies-told : (c : ℕ) (cs : List Send) → c ≡ 1 → copiesOf c cs ≡ cs
 unfolding copiesOf
@@ -22,73 +22,59 @@ pub copies-none : (c : ℕ) (cs : List Send) → c ≢ 1 → copiesOf c cs ≡ [
 unfolding copiesOf
 copies-none c cs n = simp (ne-eqb _ _ n)
 
-module _ (lower : List ℕ) (v header carried : ℕ) where
-  pub put-none : (s : List ℕ → List ℕ → Msg → List Send) → ((near far : List ℕ) (msg : Msg) → s near far msg ≡ [])
-      → (lent : List ℕ) (n : ℕ) → Laid lent n → Put lower v header carried s lent n lent n
-  put-none s z lent n h = record {
-    same = refl;
-    laid = h;
-    many = λ near far msg. omega (arith, ap length (z near far msg));
-    posted = λ near far msg e d. rw (z near far msg) (posted-none lent n h);
-  }
+module _ (p : Plan) (v : ℕ) where
+  pub posted-many : (l : List Send) → length (posted p v l) ≡ length l
+  posted-many l = length-map l (wordOf p v)
 
-  pub put-as : (s t : List ℕ → List ℕ → Msg → List Send) → ((near far : List ℕ) (msg : Msg) → s near far msg ≡ t near far msg)
-      → (lent after : List ℕ) (n r : ℕ) → Put lower v header carried s lent n after r → Put lower v header carried t lent n after r
-  put-as s t q lent after n r p = record {
-    same = p .same;
-    laid = p .laid;
-    many = λ near far msg. p .many near far msg ∙ ap (λ l. n + length l) (q near far msg);
-    posted = λ near far msg e d. subst (λ l. Posted lent after n r (postedIn lower v l)) (q near far msg) (p .posted near far msg e d);
-  }
+  pub put-many : {l : List Send} {lent after : List ℕ} {n r : ℕ} → Put p v l lent n after r → r ≡ n + length l
+  put-many {l} {n = n} d = d .words .many ∙ ap (λ k. n + k) (posted-many l)
 
-  -- messages that are no copies
-  pub put-of : (l : List Send) (lent after : List ℕ) (n r : ℕ) → Laid lent n → n + length l ≤ length lent → Posted lent after n r (postedIn lower v l)
-      → Put lower v header carried (λ near far msg. l) lent n after r
-  put-of l lent after n r h room p =
-      let k : r ≡ n + length l = p .many ∙ ap (λ j. n + j) (posted-many lower v l) in
+  pub put-none : (lent : List ℕ) (n : ℕ) → Laid lent n → Put p v [] lent n lent n
+  put-none lent n h = record { same = refl; laid = h; words = posted-none lent n h }
+
+  pub put-as : {s t : List Send} {lent after : List ℕ} {n r : ℕ} → s ≡ t → Put p v s lent n after r → Put p v t lent n after r
+  put-as {lent = lent} {after = after} {n = n} {r = r} e d = subst (λ l. Put p v l lent n after r) e d
+
+  pub put-of : (l : List Send) (lent after : List ℕ) (n r : ℕ) → Laid lent n → n + length l ≤ length lent → Posted lent after n r (posted p v l)
+      → Put p v l lent n after r
+  put-of l lent after n r h room d =
+      let k : r ≡ n + length l = d .many ∙ ap (λ j. n + j) (posted-many l) in
       record {
-        same = posted-length lent n h after (postedIn lower v l) r p (omega arith);
-        laid = posted-laid lent n h after (postedIn lower v l) r p (omega arith);
-        many = λ near far msg. k;
-        posted = λ near far msg e d. p;
+        same = posted-length lent n h after (posted p v l) r d (omega arith);
+        laid = posted-laid lent n h after (posted p v l) r d (omega arith);
+        words = d;
       }
 
-  pub put-then : (s t : List ℕ → List ℕ → Msg → List Send) (lent mid after : List ℕ) (n m r : ℕ) → Laid lent n
-      → Put lower v header carried s lent n mid m → Put lower v header carried t mid m after r
-      → Put lower v header carried (λ near far msg. s near far msg ++ t near far msg) lent n after r
-  put-then s t lent mid after n m r h p q = record {
-    same = q .same ∙ p .same;
-    laid = q .laid;
-    many = λ near far msg. omega (arith, q .many near far msg, p .many near far msg, length-append (s near far msg) (t near far msg));
-    posted = λ near far msg e d.
-        subst (Posted lent after n r) (sym (map-append (wordIn lower v) (s near far msg) (t near far msg)))
-        (posted-then lent n h mid (postedIn lower v (s near far msg)) m (p .posted near far msg e d) (omega (arith, p .laid .within, p .same)) after (postedIn lower v (t near far msg)) r (q .posted near far msg e d));
+  pub put-then : {s t : List Send} {lent mid after : List ℕ} {n m r : ℕ} → Laid lent n
+      → Put p v s lent n mid m → Put p v t mid m after r → Put p v (s ++ t) lent n after r
+  put-then {s} {t} {lent} {mid} {after} {n} {m} {r} h d e = record {
+    same = e .same ∙ d .same;
+    laid = e .laid;
+    words = subst (Posted lent after n r) (sym (map-append (wordOf p v) s t))
+        (posted-then lent n h mid (posted p v s) m (d .words) (omega (arith, d .laid .within, d .same)) after (posted p v t) r (e .words));
   }
 
 -- The three lots of a response: s its copies, then f and g.
-module _ (lower : List ℕ) (v header carried : ℕ) (s : List ℕ → List ℕ → Msg → List Send) (f g : List Send) (lent : List ℕ) (n : ℕ) (h : Laid lent n)
-    (room : (near far : List ℕ) (msg : Msg) → n + length (s near far msg ++ (f ++ g)) ≤ length lent) where
-  total : (near far : List ℕ) (msg : Msg) → length (s near far msg ++ (f ++ g)) ≡ length (s near far msg) + (length f + length g)
-  total near far msg = length-append (s near far msg) (f ++ g) ∙ ap (λ k. length (s near far msg) + k) (length-append f g)
+module _ (p : Plan) (v : ℕ) (s f g : List Send) (lent : List ℕ) (n : ℕ) (h : Laid lent n) (room : n + length (s ++ (f ++ g)) ≤ length lent) where
+  total : length (s ++ (f ++ g)) ≡ length s + (length f + length g)
+  total = length-append s (f ++ g) ∙ ap (λ k. length s + k) (length-append f g)
 
-  pub lots-first : (near far : List ℕ) (msg : Msg) → n + length (s near far msg) ≤ length lent
-  lots-first near far msg = omega (arith, room near far msg, total near far msg)
+  pub lots-first : n + length s ≤ length lent
+  lots-first = omega (arith, room, total)
 
-  module _ (mid : List ℕ) (m : ℕ) (p : Put lower v header carried s lent n mid m) where
+  module _ (mid : List ℕ) (m : ℕ) (d : Put p v s lent n mid m) where
     pub lots-second : m + length f ≤ length mid
-    lots-second = omega (arith, room [] [] change, total [] [] change, p .many [] [] change, p .same)
+    lots-second = omega (arith, room, total, put-many p v d, d .same)
 
-    module _ (next : List ℕ) (k : ℕ) (q : Posted mid next m k (postedIn lower v f)) where
-      first : Put lower v header carried (λ near far msg. f) mid m next k
-      first = put-of lower v header carried f mid next m k (p .laid) lots-second q
+    module _ (next : List ℕ) (k : ℕ) (q : Posted mid next m k (posted p v f)) where
+      first : Put p v f mid m next k
+      first = put-of p v f mid next m k (d .laid) lots-second q
 
       pub lots-laid : Laid next k
       lots-laid = first .laid
 
       pub lots-third : k + length g ≤ length next
-      lots-third = omega (arith, room [] [] change, total [] [] change, p .many [] [] change, first .many [] [] change, first .same, p .same)
+      lots-third = omega (arith, room, total, put-many p v d, put-many p v first, first .same, d .same)
 
-      pub lots : (after : List ℕ) (r : ℕ) → Posted next after k r (postedIn lower v g) → Put lower v header carried (λ near far msg. s near far msg ++ (f ++ g)) lent n after r
-      lots after r z =
-          put-then lower v header carried s (λ near far msg. f ++ g) lent mid after n m r h p
-          (put-then lower v header carried (λ near far msg. f) (λ near far msg. g) mid next after m k r (p .laid) first (put-of lower v header carried g next after k r lots-laid lots-third z))
+      pub lots : (after : List ℕ) (r : ℕ) → Posted next after k r (posted p v g) → Put p v (s ++ (f ++ g)) lent n after r
+      lots after r z = put-then p v h d (put-then p v (d .laid) first (put-of p v g next after k r lots-laid lots-third z))

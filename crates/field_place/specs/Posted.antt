@@ -1,61 +1,52 @@
 -- What a response leaves in the lent words.
-use Prim.Native.Nat.{ℕ, _+_, _≤_, _<_}
+use Prim.Native.Nat.{ℕ, _+_, _<_}
 use mathlib.Core.Path.{_≡_}
 use mathlib.Core.Logic.{_⊎_}
 use mathlib.Core.Bool.{Bool, not, _&&_}
-use mathlib.Core.List.{List, _++_, map}
+use mathlib.Core.List.{List, _++_}
 use lib.ListN.{length, take}
 use lib.Dec.{eqb}
 use Rattle.base.specs.None.{none}
-use Rattle.format_message.specs.Msg.{Msg}
-use Rattle.format_message.specs.Header.{headerOf, carriedOf}
+use Rattle.base.specs.Limits.{maxLinks}
 use Rattle.format_message.specs.Listed.{Listed}
-use Rattle.format_word.specs.Word.{packed}
+use Rattle.format_word.specs.Word.{linkIn}
+use Rattle.plan.specs.Links.{Plan, linksOf}
 use Rattle.node.specs.Work.{Send, BRANCH, onEach}
-use Rattle.node_edges.specs.Own.{isOwn, ownIn, endIn, marksIn}
 use Rattle.node_response.specs.declared.Packet.{Packet}
 use Rattle.node_response.specs.declared.Response.{Response}
 use Rattle.node_response.specs.Response.{packetFor, packetMsg, packetSends, copiesOf}
+use Rattle.field.specs.Edges.{isOwn, ownOf, marksIn, linkOf}
+use Rattle.field.specs.State.{msgIn, posted}
 use Rattle.field.specs.Held.{layout}
 use Rattle.field_words.specs.Laid.{Laid}
 
--- `wordOf` and `posted` of the field, for a plan with this column
-abbrev pub wordIn : List ℕ → ℕ → Send → ℕ
-wordIn lower v x = packed (headerOf (x .msg)) (carriedOf (x .msg)) (endIn lower v (x .edge)) 0
+-- link k gets a copy of the message that v had as word x: "for all i ≠ j such that SE(i) = Branch"
+abbrev pub copyTest : Plan → List ℕ → ℕ → ℕ → ℕ → Bool
+copyTest p marks v x k = not (eqb k (linkOf (linkIn x))) && eqb (marksIn p marks v k) BRANCH
 
-abbrev pub postedIn : List ℕ → ℕ → List Send → List ℕ
-postedIn lower v l = map (wordIn lower v) l
+abbrev pub copiedAt : Plan → List ℕ → ℕ → ℕ → ℕ → Bool
+copiedAt p marks v x k = isOwn p v k && copyTest p marks v x k
 
--- link k gets a copy of a message that v had over link j: "for all i ≠ j such that SE(i) = Branch"
-abbrev pub copyTest : ℕ → List ℕ → List ℕ → List ℕ → ℕ → ℕ → ℕ → Bool
-copyTest links lower higher marks v j k = not (eqb k j) && eqb (marksIn links lower higher marks v k) BRANCH
+-- the copies for the links below k
+abbrev pub copiesTo : Plan → List ℕ → ℕ → ℕ → ℕ → List Send
+copiesTo p marks v x k = onEach (ownOf p v) (copyTest p marks v x) (msgIn x) k
 
-abbrev pub copiedAt : ℕ → List ℕ → List ℕ → List ℕ → ℕ → ℕ → ℕ → Bool
-copiedAt links lower higher marks v j k = isOwn links lower higher v k && copyTest links lower higher marks v j k
+-- all sends of the response a to word x
+abbrev pub sendsBy : Plan → List ℕ → ℕ → ℕ → Response → List Send
+sendsBy p marks v x a = copiesOf (a .copies) (copiesTo p marks v x (linksOf p)) ++ (packetSends (a .first) ++ packetSends (a .second))
 
 -- "A send goes to the end": `words` behind the n that waited, r then wait
 pub record Posted (before after : List ℕ) (n r : ℕ) (words : List ℕ) : Type 0 where
   pub is : after ≡ layout (length before) (take n before ++ words)
   pub many : r ≡ n + length words
 
+-- the same of module v's sends
+pub record Put (p : Plan) (v : ℕ) (sends : List Send) (before : List ℕ) (n : ℕ) (after : List ℕ) (r : ℕ) : Type 0 where
+  pub same : length after ≡ length before
+  pub laid : Laid after r
+  pub words : Posted before after n r (posted p v sends)
+
 -- no message, or a listed one on a link
 pub record PacketOk (x : Packet) : Type 0 where
   pub formed : packetFor (x .edge) (packetMsg x) ≡ x
-  pub sends : (x .edge ≡ none) ⊎ ((x .edge < 600) × Listed (packetMsg x))
-
--- The same for messages among which are copies of the served one, which is known by its header and carried number alone; near and far are the
--- columns of readings, which sends do not depend on.
-pub record Put (lower : List ℕ) (v header carried : ℕ) (sends : List ℕ → List ℕ → Msg → List Send) (before : List ℕ) (n : ℕ) (after : List ℕ) (r : ℕ) : Type 0 where
-  pub same : length after ≡ length before
-  pub laid : Laid after r
-  pub many : (near far : List ℕ) (msg : Msg) → r ≡ n + length (sends near far msg)
-  pub posted : (near far : List ℕ) (msg : Msg) → headerOf msg ≡ header → carriedOf msg ≡ carried → Posted before after n r (postedIn lower v (sends near far msg))
-
--- the copies for the links below k
-abbrev pub copiesTo : ℕ → List ℕ → List ℕ → List ℕ → ℕ → ℕ → ℕ → List ℕ → List ℕ → Msg → List Send
-copiesTo links lower higher marks v j k near far msg = onEach (ownIn links lower higher near far v) (copyTest links lower higher marks v j) msg k
-
--- all sends of the response a
-abbrev pub sendsOf : ℕ → List ℕ → List ℕ → List ℕ → ℕ → ℕ → Response → List ℕ → List ℕ → Msg → List Send
-sendsOf links lower higher marks v j a near far msg =
-    copiesOf (a .copies) (copiesTo links lower higher marks v j links near far msg) ++ (packetSends (a .first) ++ packetSends (a .second))
+  pub sends : (x .edge ≡ none) ⊎ ((x .edge < maxLinks) × Listed (packetMsg x))

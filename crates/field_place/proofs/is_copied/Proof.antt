@@ -10,16 +10,19 @@ returns c = simp (sym (c .before .owns .ensures) ∙ not-true _ (c .if1 .taken))
 
 returns-2 : tie.Need-returns-2
 returns-2 c =
-    let o = c .before in
-    simp (sym (o .before .owns .ensures) ∙ not-false _ (o .if1 .left), eq-eqb _ _ (c .if2 .taken))
+    let l = c .before in
+    let o = l .before in
+    simp (sym (o .before .owns .ensures) ∙ not-false _ (o .if1 .left), eq-eqb _ _ (c .if2 .taken ∙ l .link-of .ensures))
 
 returns-3 : tie.Need-returns-3
 returns-3 c =
     let e = c .before in
-    let o = e .before in
+    let l = e .before in
+    let o = l .before in
     let own = sym (o .before .owns .ensures) ∙ not-false _ (o .if1 .left) in
     let a = o .before .before .args in
-    simp (own, ne-eqb _ _ (e .if2 .left), c .mark-of .ensures (a .links) (a .higher .now) own ∙ marked-same _ 0 (a .k))
+    simp (own, ne-eqb _ _ (λ q. e .if2 .left (q ∙ sym (l .link-of .ensures))), c .mark-of .ensures own ∙ marked-same _ 0 (a .k))
 
 pub is-copied-spec : {M : Type 1} → statement M
-is-copied-spec = tie.close (tie.spec (λ c κs. search needs) returns returns-2 (λ c κs. search needs) returns-3)
+is-copied-spec =
+    tie.close (tie.spec (λ c κs. search needs) returns (λ c κs. search needs) returns-2 (λ c κs. search needs) returns-3)

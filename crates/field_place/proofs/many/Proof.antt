@@ -2,6 +2,7 @@ use native.Mathlib.Omega.{arith}
 use mathlib.Core.List.{_++_}
 use lib.ListN.{length-append}
 use borrow.Author.Needs.{needs}
+use Rattle.plan.specs.Links.{linksOf}
 use Rattle.node_response.specs.Response.{packetSends, copiesOf}
 use Rattle.field_place.specs.Posted.{copiesTo}
 use Rattle.field_place.proofs.many.Statement.{statement}
@@ -18,10 +19,9 @@ returns c =
     let o = c .before in
     let t = o .before in
     let s = t .before .args in
-    let x = s .a in (
-      λ near far msg.
-          let cs = copiesOf (x .copies) (copiesTo (s .links) (s .lower .now) (s .higher .now) (s .marks .now) (s .v) (s .j) (s .links) near far msg) in
-          omega (arith, t .told .ensures .0 near far msg, o .one .ensures .0, c .one2 .ensures .0, length-append cs (packetSends (x .first) ++ packetSends (x .second)), length-append (packetSends (x .first)) (packetSends (x .second))),
+    let a = s .a in
+    let cs = copiesOf (a .copies) (copiesTo (s .plan .now) (s .marks .now) (s .v) (s .x) (linksOf (s .plan .now))) in (
+      omega (arith, t .told .ensures .0, o .one .ensures .0, c .one2 .ensures .0, length-append cs (packetSends (a .first) ++ packetSends (a .second)), length-append (packetSends (a .first)) (packetSends (a .second))),
       omega (arith, t .told .ensures .1, o .one .ensures .1, c .one2 .ensures .1),
     )
 

@@ -1,4 +1,3 @@
--- there is a message
 use Prim.Native.Nat.{ℕ, _<_}
 use native.Mathlib.Omega.{arith}
 use mathlib.Core.Path.{ap₂, ap, _∙_}
@@ -6,18 +5,20 @@ use mathlib.Core.List.{[], _∷_, _++_}
 use mathlib.Core.Logic.{⊎-elim}
 use lib.ListN.{length, take}
 use borrow.Author.Needs.{needs}
+use Rattle.base.specs.Limits.{maxLinks}
 use Rattle.node_response.specs.Response.{packetMsg}
 use Rattle.field.specs.Held.{layout}
 use Rattle.format_word.specs.Word.{packed}
 use Rattle.format_message.specs.Listed.{Listed}
 use Rattle.node_response.specs.Laws.{packet-none}
-use Rattle.field_place.specs.Posted.{wordIn}
-use Rattle.field_place.proofs.Parts.{out-header, out-word, sent-some}
+use Rattle.field.specs.State.{wordOf}
+use Rattle.field_place.proofs.Parts.{packet-header, packet-word, packet-some}
 use Rattle.field_place.proofs.Words.{posted-none, posted-one}
 use Rattle.field_place.proofs.post.Statement.{statement}
 use Rattle.field_place.proofs.post.Tie as tie
 
-some : (c : tie.Else1) → (c .before .before .before .args .x .edge < 600) × Listed (packetMsg (c .before .before .before .args .x))
+-- there is a message
+some : (c : tie.Else1) → (c .before .before .before .args .x .edge < maxLinks) × Listed (packetMsg (c .before .before .before .args .x))
 some c = ⊎-elim (λ e. absurd (c .if1 .left e)) (λ h. h) (c .before .before .before .pre .1 .sends)
 
 returns : tie.Need-returns
@@ -32,7 +33,7 @@ put-requires : tie.Need-put-requires
 put-requires c κs =
     let o = c .before .before .before .before in
     let s = o .before .before .before in
-    (s .pre .0, omega (arith, s .pre .2, ap length (sent-some (s .args .x) (o .if1 .left))))
+    (s .pre .0, omega (arith, s .pre .2, ap length (packet-some (s .args .x) (o .if1 .left))))
 
 returns-2 : tie.Need-returns-2
 returns-2 c =
@@ -44,9 +45,9 @@ returns-2 c =
     let s = o .before .before .before in
     let a = s .args in
     let x = a .x in
-    let word = k .pack .ensures ∙ ap₂ (λ (b d : ℕ). packed b (x .carried) d 0) (h .header .ensures ∙ out-header x (s .pre .1 .formed) (some o .1)) (e .end-at .ensures) ∙ out-word x (s .pre .1 .formed) (a .lower .now) (a .v) in
-    rw (sent-some x (o .if1 .left))
-    (posted-one (a .lent .now) (a .n) (s .pre .0) (p .put .last .0) (wordIn (a .lower .now) (a .v) (record { edge = x .edge; msg = packetMsg x }))
+    let word = k .pack .ensures ∙ ap₂ (λ (b d : ℕ). packed b (x .carried) d 0) (h .header .ensures ∙ packet-header x (s .pre .1 .formed) (some o .1)) (e .end-at .ensures) ∙ packet-word x (s .pre .1 .formed) (a .plan .now) (a .v) in
+    rw (packet-some x (o .if1 .left))
+    (posted-one (a .lent .now) (a .n) (s .pre .0) (p .put .last .0) (wordOf (a .plan .now) (a .v) (record { edge = x .edge; msg = packetMsg x }))
     (p .put .ensures ∙ ap (λ (w : ℕ). layout (length (a .lent .now)) (take (a .n) (a .lent .now) ++ (w ∷ []))) word))
 
 pub post-spec : {M : Type 1} → statement M

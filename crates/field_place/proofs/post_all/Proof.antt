@@ -1,45 +1,30 @@
-use Prim.Native.Nat.{ℕ}
-use mathlib.Core.List.{List}
 use borrow.Author.Needs.{needs}
-use Rattle.node.specs.Work.{Send}
-use Rattle.format_message.specs.Msg.{Msg}
-use Rattle.node_response.specs.Response.{packetSends, copiesOf}
 use Rattle.field_place.proofs.Puts.{lots-first, lots-second, lots-laid, lots-third, lots}
-use Rattle.field_place.specs.Posted.{copiesTo}
 use Rattle.field_place.proofs.post_all.Statement.{statement}
 use Rattle.field_place.proofs.post_all.Tie as tie
 
 post-told-requires : tie.Need-post-told-requires
 post-told-requires c κs =
     let s = c .before .before in
-    let a = s .args in (
-      s .pre .0,
-      s .pre .1,
-      lots-first (a .lower .now) (a .v) (a .header) (a .carried)
-          (λ (near far : List ℕ) (msg : Msg). copiesOf (a .a .copies) (copiesTo (a .links) (a .lower .now) (a .higher .now) (a .marks .now) (a .v) (a .j) (a .links) near far msg)) (packetSends (a .a .first)) (packetSends (a .a .second)) (a .lent .now) (a .n) (s .pre .0) (s .pre .4),
-    )
+    let a = s .args in
+    (s .pre .0, s .pre .1, s .pre .2, lots-first (a .plan .now) (a .v) _ _ _ (a .lent .now) (a .n) (s .pre .0) (s .pre .5))
 
 post-requires : tie.Need-post-requires
 post-requires c κs =
     let t = c .before .before .before in
     let s = t .before .before .before in
-    let a = s .args in (
-      t .post-told .ensures .laid,
-      s .pre .2,
-      lots-second (a .lower .now) (a .v) (a .header) (a .carried)
-          (λ (near far : List ℕ) (msg : Msg). copiesOf (a .a .copies) (copiesTo (a .links) (a .lower .now) (a .higher .now) (a .marks .now) (a .v) (a .j) (a .links) near far msg)) (packetSends (a .a .first)) (packetSends (a .a .second)) (a .lent .now) (a .n) (s .pre .0) (s .pre .4) _ _ (t .post-told .ensures),
-    )
+    let a = s .args in
+    (t .post-told .ensures .laid, s .pre .3, lots-second (a .plan .now) (a .v) _ _ _ (a .lent .now) (a .n) (s .pre .0) (s .pre .5) _ _ (t .post-told .ensures))
 
 post-requires-2 : tie.Need-post-requires-2
 post-requires-2 c κs =
     let f = c .before .before .before in
     let t = f .before .before .before .before in
     let s = t .before .before .before in
-    let a = s .args in
-    let cs : List ℕ → List ℕ → Msg → List Send = λ near far msg. copiesOf (a .a .copies) (copiesTo (a .links) (a .lower .now) (a .higher .now) (a .marks .now) (a .v) (a .j) (a .links) near far msg) in (
-      lots-laid (a .lower .now) (a .v) (a .header) (a .carried) cs (packetSends (a .a .first)) (packetSends (a .a .second)) (a .lent .now) (a .n) (s .pre .0) (s .pre .4) _ _ (t .post-told .ensures) _ _ (f .post .ensures),
-      s .pre .3,
-      lots-third (a .lower .now) (a .v) (a .header) (a .carried) cs (packetSends (a .a .first)) (packetSends (a .a .second)) (a .lent .now) (a .n) (s .pre .0) (s .pre .4) _ _ (t .post-told .ensures) _ _ (f .post .ensures),
+    let a = s .args in (
+      lots-laid (a .plan .now) (a .v) _ _ _ (a .lent .now) (a .n) (s .pre .0) (s .pre .5) _ _ (t .post-told .ensures) _ _ (f .post .ensures),
+      s .pre .4,
+      lots-third (a .plan .now) (a .v) _ _ _ (a .lent .now) (a .n) (s .pre .0) (s .pre .5) _ _ (t .post-told .ensures) _ _ (f .post .ensures),
     )
 
 returns : tie.Need-returns
@@ -49,9 +34,7 @@ returns c =
     let t = f .before .before .before .before in
     let s = t .before .before .before in
     let a = s .args in
-    lots (a .lower .now) (a .v) (a .header) (a .carried)
-    (λ (near far : List ℕ) (msg : Msg). copiesOf (a .a .copies) (copiesTo (a .links) (a .lower .now) (a .higher .now) (a .marks .now) (a .v) (a .j) (a .links) near far msg)) (packetSends (a .a .first)) (packetSends (a .a .second)) (a .lent .now) (a .n) (s .pre .0) (s .pre .4)
-    _ _ (t .post-told .ensures) _ _ (f .post .ensures) _ _ (g .post2 .ensures)
+    lots (a .plan .now) (a .v) _ _ _ (a .lent .now) (a .n) (s .pre .0) (s .pre .5) _ _ (t .post-told .ensures) _ _ (f .post .ensures) _ _ (g .post2 .ensures)
 
 pub post-all-spec : {M : Type 1} → statement M
 post-all-spec =

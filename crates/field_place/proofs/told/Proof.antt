@@ -1,8 +1,14 @@
 use native.Mathlib.Omega.{arith}
+use Prim.Native.Nat.{ℕ}
+use mathlib.Core.Bool.{not, _&&_}
 use mathlib.Core.Path.{sym, ap, _∙_}
+use lib.Dec.{eqb}
 use lib.ListN.{length}
 use borrow.Author.Needs.{needs}
-use Rattle.node_edges.specs.Own.{ownIn}
+use Rattle.plan.specs.Links.{linksOf}
+use Rattle.node.specs.Work.{BRANCH, number}
+use Rattle.field.specs.Edges.{ownOf, marksIn}
+use Rattle.field.specs.State.{msgIn}
 use Rattle.field_place.proofs.Copies.{each-number}
 use Rattle.field_place.proofs.Puts.{copies-told, copies-none}
 use Rattle.field_place.specs.Posted.{copyTest}
@@ -10,16 +16,20 @@ use Rattle.field_place.proofs.told.Statement.{statement}
 use Rattle.field_place.proofs.told.Tie as tie
 
 returns : tie.Need-returns
-returns c = (λ near far msg. sym (ap length (copies-none (c .before .args .copies) _ (c .if1 .taken))), omega arith)
+returns c = (sym (ap length (copies-none (c .before .args .copies) _ (c .if1 .taken))), omega arith)
 
 returns-2 : tie.Need-returns-2
 returns-2 c =
-    let a = c .before .before .args in (
-      λ near far msg. c .branches .ensures .0 near far
-          ∙ sym (each-number (ownIn (a .links) (a .lower .now) (a .higher .now) near far (a .v)) (copyTest (a .links) (a .lower .now) (a .higher .now) (a .marks .now) (a .v) (a .j)) msg (a .links))
-          ∙ sym (ap length (copies-told (a .copies) _ (c .before .if1 .left))),
+    let l = c .before in
+    let e = l .before in
+    let a = e .before .args in
+    let p = a .plan .now in (
+      c .branches .ensures .0
+          ∙ ap (λ (j : ℕ). number (ownOf p (a .v)) (λ k. not (eqb k j) && eqb (marksIn p (a .marks .now) (a .v) k) BRANCH) (linksOf p)) (l .link-of .ensures)
+          ∙ sym (each-number (ownOf p (a .v)) (copyTest p (a .marks .now) (a .v) (a .x)) (msgIn (a .x)) (linksOf p))
+          ∙ sym (ap length (copies-told (a .copies) _ (e .if1 .left))),
       c .branches .ensures .1,
     )
 
 pub told-spec : {M : Type 1} → statement M
-told-spec = tie.close (tie.spec returns (λ c κs. search needs) (λ c. search needs) returns-2)
+told-spec = tie.close (tie.spec returns (λ c κs. search needs) (λ c κs. search needs) (λ c. search needs) returns-2)
