@@ -1,20 +1,25 @@
--- What a response asks of the field: values that are in document 01's lists.
+-- What a response asks of the field and of the message: values that are in document 01's lists. The check for 31 gives it.
 use Prim.Native.Nat.{ℕ, _<_, _≤_}
 use mathlib.Core.Path.{_≡_}
 use mathlib.Core.Logic.{_⊎_}
 use mathlib.Core.Bool.{true}
-use mathlib.Core.List.{List}
-use Rattle.format_message.specs.Msg.{none}
+use Rattle.base.specs.None.{none}
+use Rattle.base.specs.Limits.{maxLinks}
+use Rattle.format_message.specs.Listed.{listedAs}
+use Rattle.plan.specs.Links.{Plan, linksOf}
+use Rattle.field.specs.Edges.{isOwn}
 use Rattle.node.specs.declared.Node.{Node}
-use Rattle.node_edges.specs.Own.{isOwn}
+use Rattle.node_response.specs.declared.Packet.{Packet}
 use Rattle.node_response.specs.declared.Response.{Response}
 
--- node n of v: the message came by an own edge j, the best edge is an own edge or none, the best weight an edge or none
-pub record Fit (links : ℕ) (lower higher : List ℕ) (v j : ℕ) (n : Node) : Type 0 where
-  pub small : links ≤ 600
-  pub mine : isOwn links lower higher v j ≡ true
-  pub best : (n .best ≡ none) ⊎ (isOwn links lower higher v (n .best) ≡ true)
-  pub weight : (n .weight < 600) ⊎ (n .weight ≡ none)
+-- node n, which is v, receives x: a listed message that came by an own edge. The best edge is an own edge or none, the best weight an edge
+-- or none.
+pub record Receives (p : Plan) (v : ℕ) (x : Packet) (n : Node) : Type 0 where
+  pub small : linksOf p ≤ maxLinks
+  pub mine : isOwn p v (x .edge) ≡ true
+  pub message : listedAs (x .kind) (x .level) (x .carried) (x .find) ≡ true
+  pub best : (n .best ≡ none) ⊎ (isOwn p v (n .best) ≡ true)
+  pub weight : (n .weight < maxLinks) ⊎ (n .weight ≡ none)
 
 -- nothing is done yet
 pub record Fresh (a : Response) : Type 0 where
