@@ -2,20 +2,21 @@
 use Prim.Native.Nat.{ℕ, _<_}
 use mathlib.Core.Path.{_≡_, refl, sym, ap, _∙_}
 use mathlib.Core.Logic.{_≢_, _⊎_, inl, inr}
-use mathlib.Core.Bool.{Bool, true, false, not, cond, _&&_, _||_, false≢true}
-use lib.Dec.{eqb, ltb}
+use mathlib.Core.Bool.{Bool, true, false, not, _&&_, _||_, false≢true}
+use lib.Dec.{eqb}
 use borrow.Author.Tests.{ltb-true, eqb-true, eq-eqb, ne-eqb, not-true}
 use Rattle.base.specs.Cond.{bool-cases}
 use Rattle.format_message.specs.Msg.{none, initiate}
 use Rattle.format_message.specs.Header.{msgOf}
-use Rattle.format_message.specs.Listed.{listedAs, isLink, bare}
+use Rattle.format_message.specs.Listed.{listedAs, isLink}
+use Rattle.base.specs.Limits.{maxLinks}
 use Rattle.node.specs.declared.Node.{Node}
 use Rattle.node.specs.Work.{Own, Work, ASLEEP, refused}
 use Rattle.node.specs.Rules.{awake, onConnect, onInitiate, onTest, onAccept, onReject, onReport, changeRoot, unlessAsleep, respondTo}
 use Rattle.node.specs.Laws.{asleep-refused, asleep-not}
 use Rattle.node_response.specs.declared.Response.{Response}
 use Rattle.node_response.specs.Response.{begun}
-use Rattle.node_dispatch.specs.Fit.{Fresh}
+use Rattle.node_dispatch.specs.Receives.{Fresh}
 
 left-of : (a b : Bool) → (a && b) ≡ true → a ≡ true
 left-of true b h = refl
@@ -34,12 +35,12 @@ module _ (level carried find : ℕ) where
   unfolding listedAs
   test-level h = ltb-true 0 level (left-of _ _ (left-of _ _ h))
 
-  pub report-weight : listedAs 6 level carried find ≡ true → (carried < 600) ⊎ (carried ≡ none)
+  pub report-weight : listedAs 6 level carried find ≡ true → (carried < maxLinks) ⊎ (carried ≡ none)
   unfolding listedAs
   report-weight h = link (one-of (isLink carried) (eqb carried none) (right-of (eqb level 0 && eqb find 0) _ h))
     where
-      link : (isLink carried ≡ true) ⊎ (eqb carried none ≡ true) → (carried < 600) ⊎ (carried ≡ none)
-      link (inl e) = inl (ltb-true carried 600 e)
+      link : (isLink carried ≡ true) ⊎ (eqb carried none ≡ true) → (carried < maxLinks) ⊎ (carried ≡ none)
+      link (inl e) = inl (ltb-true carried maxLinks e)
       link (inr e) = inr (eqb-true carried none e)
 
 pub fresh : {a : Response} {n : Node} → a ≡ begun n → Fresh a
@@ -47,13 +48,13 @@ fresh e = record { edge = ap (λ x. x .edge) e; copies = ap (λ x. x .copies) e;
 
 -- a sleeper refuses all but Connect and Test
 module _ (kind status : ℕ) where
-  pub hears : (k : ℕ) → eqb k 1 ≡ false → eqb k 3 ≡ false → kind ≡ k → (eqb status 0 && not (eqb kind 1) && not (eqb kind 3)) ≡ false → status ≢ ASLEEP
+  pub hears : (k : ℕ) → eqb k 1 ≡ false → eqb k 3 ≡ false → kind ≡ k → (eqb status ASLEEP && not (eqb kind 1) && not (eqb kind 3)) ≡ false → status ≢ ASLEEP
   hears k a b q h e = false≢true (sym h ∙ rw (eq-eqb _ _ e, q, a, b))
 
-  deaf-parts : (eqb status 0 && not (eqb kind 1) && not (eqb kind 3)) ≡ true → (status ≡ ASLEEP) × (eqb kind 1 ≡ false) × (eqb kind 3 ≡ false)
+  deaf-parts : (eqb status ASLEEP && not (eqb kind 1) && not (eqb kind 3)) ≡ true → (status ≡ ASLEEP) × (eqb kind 1 ≡ false) × (eqb kind 3 ≡ false)
   deaf-parts h =
-      let l = left-of (eqb status 0 && not (eqb kind 1)) (not (eqb kind 3)) h in
-      (eqb-true status 0 (left-of _ _ l), not-true _ (right-of (eqb status 0) _ l), not-true _ (right-of (eqb status 0 && not (eqb kind 1)) _ h))
+      let l = left-of (eqb status ASLEEP && not (eqb kind 1)) (not (eqb kind 3)) h in
+      (eqb-true status ASLEEP (left-of _ _ l), not-true _ (right-of (eqb status ASLEEP) _ l), not-true _ (right-of (eqb status ASLEEP && not (eqb kind 1)) _ h))
 
 pub as-initiate : (o : Own) (limit level carried find j : ℕ) (w : Work) → w .node .status ≢ ASLEEP
     → onInitiate o level carried find j w ≡ respondTo o limit (initiate level carried find) j w
@@ -73,7 +74,7 @@ module _ (kind level carried find : ℕ) where
 
   -- what the dispatch by kind does
   module _ (o : Own) (limit j : ℕ) (w : Work) where
-    pub as-deaf : (eqb (w .node .status) 0 && not (eqb kind 1) && not (eqb kind 3)) ≡ true → refused w ≡ respondTo o limit (msgOf kind level carried find) j w
+    pub as-deaf : (eqb (w .node .status) ASLEEP && not (eqb kind 1) && not (eqb kind 3)) ≡ true → refused w ≡ respondTo o limit (msgOf kind level carried find) j w
     unfolding msgOf respondTo
     as-deaf d =
         let p = deaf-parts kind (w .node .status) d in

@@ -1,2 +1,2 @@
-pub mod Fit
+pub mod Receives
 pub mod Laws

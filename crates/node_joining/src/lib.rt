@@ -32,7 +32,10 @@ fn join(j: u16, find: u8, a: Response) -> Response
     let mut b = a;
     b.edge = j;
     b.mark = BRANCH;
-    node_response::say(b, node_response::an_initiate(j, a.node.level, a.node.identity, find))
+    node_response::say(
+        b,
+        node_response::an_initiate(j, a.node.level, a.node.identity, find),
+    )
 }
 
 // A Connect of a lower level, on edge j.

@@ -1,17 +1,13 @@
 -- A struck mark and a better edge, as the code's tests meet them.
 use Prim.Native.Nat.{ℕ}
-use mathlib.Core.Path.{_≡_, refl, sym, ap, _∙_}
+use mathlib.Core.Path.{_≡_, refl, ap}
 use mathlib.Core.Logic.{_≢_}
 use mathlib.Core.Bool.{Bool, true, false, cond}
-use mathlib.Core.List.{List}
 use lib.Dec.{eqb}
 use borrow.Author.Tests.{eq-eqb, ne-eqb}
-use Rattle.plan.specs.Weights.{beforeIn}
 use Rattle.node.specs.declared.Node.{Node}
-use Rattle.node.specs.Work.{Work, setBest, setMark, withNode}
-use Rattle.node.specs.Rules.{strike, doReport, better}
-use Rattle.node_edges.specs.Own.{ownIn}
-use Rattle.node_edges.specs.Laws.{before-in}
+use Rattle.node.specs.Work.{BASIC, REJECTED, Work, setBest, setMark, withNode}
+use Rattle.node.specs.Rules.{strike, doReport}
 
 -- best edge j and best weight x where the test says so
 abbrev pub bettered : Bool → ℕ → ℕ → Node → Node
@@ -23,19 +19,14 @@ better-new t j x n h = rw h
 pub better-old : (t : Bool) (j x : ℕ) (n : Node) → t ≡ false → n ≡ bettered t j x n
 better-old t j x n h = rw h
 
-pub struck-basic : (x : ℕ) → x ≡ 0 → cond (eqb x 0) 2 x ≡ 2
+pub struck-basic : (x : ℕ) → x ≡ BASIC → cond (eqb x BASIC) REJECTED x ≡ REJECTED
 struck-basic x h = rw (eq-eqb _ _ h)
 
-pub struck-other : (x : ℕ) → x ≢ 0 → cond (eqb x 0) 2 x ≡ x
+pub struck-other : (x : ℕ) → x ≢ BASIC → cond (eqb x BASIC) REJECTED x ≡ x
 struck-other x h = rw (ne-eqb _ _ h)
 
-pub strike-with : (j x : ℕ) (w : Work) → x ≡ cond (eqb (w .mark j) 0) 2 (w .mark j) → setMark j x w ≡ strike j w
+pub strike-with : (j x : ℕ) (w : Work) → x ≡ cond (eqb (w .mark j) BASIC) REJECTED (w .mark j) → setMark j x w ≡ strike j w
 strike-with j x w h = ap (λ y. setMark j y w) h
 
 pub report-with : (n p : Node) (w : Work) → n ≡ p → doReport (withNode n w) ≡ doReport (withNode p w)
 report-with n p w h = ap (λ y. doReport (withNode y w)) h
-
--- the better of two, in the plan's order
-pub better-in : (links : ℕ) (lower higher near far : List ℕ) (v j x : ℕ) (n r : Node)
-    → r ≡ bettered (beforeIn near far x (n .weight)) j x n → r ≡ better (ownIn links lower higher near far v) j x n
-better-in links lower higher near far v j x n r h = h ∙ ap (λ t. bettered t j x n) (sym (before-in links lower higher near far v x (n .weight)))

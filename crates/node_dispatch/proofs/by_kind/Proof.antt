@@ -4,9 +4,9 @@ use mathlib.Core.Path.{refl, sym, _∙_}
 use native.Mathlib.Omega.{arith}
 use Rattle.node_response.specs.Laws.{told-as, then}
 use Rattle.node_dispatch.specs.Laws.{test-level, report-weight, zero-unlisted, rest-unlisted, hears, as-deaf, as-connect, as-initiate, as-test, as-accept, as-reject, as-report, as-change, msg-initiate}
-use Rattle.node_edges.specs.Laws.{own-below}
 use Rattle.node_dispatch.proofs.by_kind.Statement.{statement}
 use Rattle.node_dispatch.proofs.by_kind.Tie as tie
+use Rattle.field.specs.laws.Edges.{own-below}
 
 returns : tie.Need-returns
 returns c = told-as (c .refuse .ensures _ _) (as-deaf _ _ _ _ _ _ _ _ (sym (c .before .before .deaf .ensures) ∙ c .before .if1 .taken))
@@ -14,20 +14,20 @@ returns c = told-as (c .refuse .ensures _ _) (as-deaf _ _ _ _ _ _ _ _ (sym (c .b
 on-test-requires : tie.Need-on-test-requires
 on-test-requires c κs =
     let p = c .before .before .before .before .pre in
-    (p .0 .small, p .0 .mine, c .wakened2 .ensures .1, c .wakened2 .ensures .2, test-level _ _ _ (rw (c .before .match .keys3) at (p .2)))
+    (p .0 .small, p .0 .mine, c .wakened2 .ensures .1, c .wakened2 .ensures .2, test-level _ _ _ (rw (c .before .match .keys3) at (p .0 .message)))
 
 on-accept-requires : tie.Need-on-accept-requires
 on-accept-requires c κs =
     let p = c .before .before .before .pre in
-    (omega (arith, p .0 .small, own-below _ _ _ _ _ (p .0 .mine)), p .1 .second, p .0 .weight)
+    (omega (arith, p .0 .small, own-below _ _ _ (p .0 .mine)), p .1 .second, p .0 .weight)
 
 on-report-requires : tie.Need-on-report-requires
 on-report-requires c κs =
     let p = c .before .before .before .pre in
-    (p .0 .small, p .1 .edge, p .1 .second, p .0 .best, report-weight _ _ _ (rw (c .match .keys6) at (p .2)), p .0 .weight)
+    (p .0 .small, p .1 .edge, p .1 .second, p .0 .best, report-weight _ _ _ (rw (c .match .keys6) at (p .0 .message)), p .0 .weight)
 
 returns-2 : tie.Need-returns-2
-returns-2 c = told-as (then (c .on-connect .ensures _ _ _) (c .before .wakened .ensures .0 _ _)) (as-connect _ _ _ _ _ _ _ _ (c .before .before .match .keys1))
+returns-2 c = told-as (then (c .on-connect .ensures _) (c .before .wakened .ensures .0 _ _)) (as-connect _ _ _ _ _ _ _ _ (c .before .before .match .keys1))
 
 returns-3 : tie.Need-returns-3
 returns-3 c =
@@ -40,7 +40,7 @@ returns-4 c = told-as (then (c .on-test .ensures _) (c .before .wakened2 .ensure
 returns-5 : tie.Need-returns-5
 returns-5 c =
     let k = c .before .match .keys4 in
-    told-as (c .on-accept .ensures _ _ _ _ _ _) (as-accept _ _ _ _ _ _ _ _ (hears _ _ 4 refl refl k (sym (c .before .before .before .deaf .ensures) ∙ c .before .before .if1 .left)) k)
+    told-as (c .on-accept .ensures (c .before .before .before .before .args .v) _ _) (as-accept _ _ _ _ _ _ _ _ (hears _ _ 4 refl refl k (sym (c .before .before .before .deaf .ensures) ∙ c .before .before .if1 .left)) k)
 
 returns-6 : tie.Need-returns-6
 returns-6 c =
@@ -59,8 +59,8 @@ returns-8 c =
 
 returns-9 : tie.Need-returns-9
 returns-9 c =
-    ⊎-elim (λ w. absurd (zero-unlisted _ _ _ _ (w .keys8) (c .before .before .before .before .pre .2)))
-    (λ w. absurd (rest-unlisted _ _ _ _ (w .rest .0 .0 .0 .0 .0 .0 .0 .1) (w .rest .0 .0 .0 .0 .0 .0 .1) (w .rest .0 .0 .0 .0 .0 .1) (w .rest .0 .0 .0 .0 .1) (w .rest .0 .0 .0 .1) (w .rest .0 .0 .1) (w .rest .0 .1) (c .before .before .before .before .pre .2)))
+    ⊎-elim (λ w. absurd (zero-unlisted _ _ _ _ (w .keys8) (c .before .before .before .before .pre .0 .message)))
+    (λ w. absurd (rest-unlisted _ _ _ _ (w .rest .0 .0 .0 .0 .0 .0 .0 .1) (w .rest .0 .0 .0 .0 .0 .0 .1) (w .rest .0 .0 .0 .0 .0 .1) (w .rest .0 .0 .0 .0 .1) (w .rest .0 .0 .0 .1) (w .rest .0 .0 .1) (w .rest .0 .1) (c .before .before .before .before .pre .0 .message)))
     (c .before .match .came)
 
 pub by-kind-spec : {M : Type 1} → statement M

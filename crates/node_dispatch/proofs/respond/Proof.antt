@@ -1,4 +1,3 @@
--- `respond::respond` meets its contract.
 use borrow.Author.Needs.{needs}
 use Rattle.node_response.specs.Laws.{done}
 use Rattle.node_dispatch.specs.Laws.{fresh}
@@ -6,7 +5,7 @@ use Rattle.node_dispatch.proofs.respond.Statement.{statement}
 use Rattle.node_dispatch.proofs.respond.Tie as tie
 
 by-kind-requires : tie.Need-by-kind-requires
-by-kind-requires c κs = (rw (c .begin .ensures) (c .before .pre .0), fresh (c .begin .ensures), c .before .pre .1)
+by-kind-requires c κs = (rw (c .begin .ensures) (c .before .pre), fresh (c .begin .ensures))
 
 returns : tie.Need-returns
 returns c = done (c .before .begin .ensures) (c .by-kind .ensures)

@@ -1,4 +1,3 @@
--- `respond::wakeup` meets its contract.
 use borrow.Author.Needs.{needs}
 use mathlib.Core.List.{[]}
 use Rattle.node_response.specs.Laws.{done}

@@ -1,4 +1,3 @@
--- `answer::better` meets its contract.
 use borrow.Author.Needs.{needs}
 use mathlib.Core.Path.{sym, _∙_}
 use Rattle.node_searching.specs.Laws.{better-new, better-old}

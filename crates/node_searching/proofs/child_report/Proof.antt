@@ -1,20 +1,19 @@
--- `answer::child_report` meets its contract.
 use borrow.Author.Needs.{needs}
 use mathlib.Core.Path.{sym, _∙_}
 use Rattle.node_response.specs.Response.{workOf}
 use Rattle.node_response.specs.Laws.{told-as, then, sets-node}
-use Rattle.node_searching.specs.Laws.{report-with, better-in}
+use Rattle.node_searching.specs.Laws.{report-with}
 use Rattle.node.specs.Laws.{child-refused, child-reports}
 use Rattle.node_searching.proofs.child_report.Statement.{statement}
 use Rattle.node_searching.proofs.child_report.Tie as tie
 
 returns : tie.Need-returns
-returns c = λ links v lower higher m cs. told-as (c .refuse .ensures m cs) (sym (child-refused _ _ _ _ (c .before .if1 .taken)))
+returns c = λ v m cs. told-as (c .refuse .ensures m cs) (sym (child-refused _ _ _ _ (c .before .if1 .taken)))
 
 returns-2 : tie.Need-returns-2
 returns-2 c =
-    λ links v lower higher m cs. told-as (then (c .do-report .ensures m cs) (sets-node m cs _ _))
-    (report-with _ _ (workOf m cs (c .before .before .before .before .before .before .args .a)) (better-in links lower higher _ _ v _ _ _ _ (c .before .better .ensures)) ∙ sym (child-reports _ _ _ _ (c .before .before .before .before .if1 .left)))
+    λ v m cs. told-as (then (c .do-report .ensures m cs) (sets-node m cs _ _))
+    (report-with _ _ (workOf m cs (c .before .before .before .before .before .before .args .a)) (c .before .better .ensures) ∙ sym (child-reports _ _ _ _ (c .before .before .before .before .if1 .left)))
 
 pub child-report-spec : {M : Type 1} → statement M
 child-report-spec =

@@ -1,4 +1,3 @@
--- `answer::on_reject` meets its contract.
 use mathlib.Core.Path.{ap, _∙_}
 use Rattle.node_response.specs.Laws.{then}
 use Rattle.node_response.specs.declared.Packet.{Packet}

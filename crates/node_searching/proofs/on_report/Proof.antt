@@ -1,4 +1,3 @@
--- `answer::on_report` meets its contract.
 use borrow.Author.Needs.{needs}
 use mathlib.Core.Path.{sym}
 use Rattle.node_response.specs.Laws.{told-as}
@@ -7,7 +6,7 @@ use Rattle.node_searching.proofs.on_report.Statement.{statement}
 use Rattle.node_searching.proofs.on_report.Tie as tie
 
 returns : tie.Need-returns
-returns c = λ cs. told-as (c .child-report .ensures _ _ _ _ _ cs) (sym (report-child _ _ _ _ (c .before .if1 .taken)))
+returns c = λ cs. told-as (c .child-report .ensures _ _ cs) (sym (report-child _ _ _ _ (c .before .if1 .taken)))
 
 returns-2 : tie.Need-returns-2
 returns-2 c = λ cs. told-as (c .back .ensures _ cs) (sym (report-waits _ _ _ _ (c .before .before .before .if1 .left) (c .before .if2 .taken)))

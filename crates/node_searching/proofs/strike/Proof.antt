@@ -1,4 +1,3 @@
--- `answer::strike` meets its contract.
 use Prim.Native.Nat.{ℕ}
 use borrow.Author.Needs.{needs}
 use lib.Dec.{eqb}
@@ -6,19 +5,20 @@ use mathlib.Core.Bool.{cond}
 use mathlib.Core.Path.{refl, ap, _∙_}
 use native.Mathlib.Omega.{arith}
 use Rattle.node_response.specs.Laws.{told-as, marks-edge}
+use Rattle.node.specs.Work.{BASIC, REJECTED}
 use Rattle.node_searching.specs.Laws.{strike-with}
-use Rattle.node_edges.specs.Laws.{own-below}
 use Rattle.node_searching.proofs.strike.Statement.{statement}
 use Rattle.node_searching.proofs.strike.Tie as tie
+use Rattle.field.specs.laws.Edges.{own-below}
 
 mark-of-requires : tie.Need-mark-of-requires
-mark-of-requires c κs = omega (arith, own-below _ _ _ _ _ (c .pre .1))
+mark-of-requires c κs = omega (arith, own-below _ _ _ (c .pre .1))
 
 returns : tie.Need-returns
 returns c =
     let p = c .before .before .pre in (
-      λ cs. told-as (marks-edge _ cs _ _ _ (p .2) (λ h. omega (arith, own-below _ _ _ _ _ (p .1))))
-          (strike-with _ _ _ (c .struck .ensures ∙ ap (λ (y : ℕ). cond (eqb y 0) 2 y) (c .before .mark-of .ensures _ _ (p .1)))),
+      λ cs. told-as (marks-edge _ cs _ _ _ (p .2) (λ h. omega (arith, own-below _ _ _ (p .1))))
+          (strike-with _ _ _ (c .struck .ensures ∙ ap (λ (y : ℕ). cond (eqb y BASIC) REJECTED y) (c .before .mark-of .ensures (p .1)))),
       refl,
     )
 

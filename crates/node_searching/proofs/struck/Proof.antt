@@ -1,4 +1,3 @@
--- `answer::struck` meets its contract.
 use mathlib.Core.Path.{sym}
 use Rattle.node_searching.specs.Laws.{struck-basic, struck-other}
 use Rattle.node_searching.proofs.struck.Statement.{statement}
