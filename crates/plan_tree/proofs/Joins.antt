@@ -1,7 +1,7 @@
 -- What joining picks does to the labels and the marks.
 use Prim.Native.Nat.{ℕ, _+_, _≤_, _<_}
 use native.Mathlib.Omega.{arith}
-use mathlib.Core.Path.{_≡_, sym, ap, subst, _∙_}
+use mathlib.Core.Path.{_≡_, sym, ap, _∙_}
 use mathlib.Core.Logic.{_≢_, _⊎_, ⊎-elim}
 use mathlib.Core.Bool.{Bool}
 use mathlib.Core.List.{List}
@@ -9,26 +9,27 @@ use lib.ListN.{length, set}
 use lib.Seq.{getD-set-same, getD-set-other}
 use Rattle.base.specs.Cond.{by-eq}
 use Rattle.base.specs.None.{none}
+use Rattle.base.specs.Limits.{maxModules, maxLinks}
 use Rattle.base.specs.Table.{tabulate, length-tabulate, getD-tabulate}
 use Rattle.graph.specs.Graph.{Graph}
 use Rattle.graph.specs.Labels.{rename}
-use Rattle.plan.specs.Links.{edges}
 use Rattle.plan_tree.specs.Forest.{Ends, Forest, Joined, joined-coarser, joined-inside, joined-range, joined-forest, grows-then}
 use Rattle.plan_tree.specs.Phase.{Leaves, First, first-pick, first-some, apart, apart-none, apart-some, apart-falls}
-use Rattle.plan_tree.specs.Columns.{at, Parts, Fit, Takes, TakesTo, Phased}
+use Rattle.plan_tree.specs.Lent.{at, Parts, Takes, TakesTo, Phased}
+use Rattle.plan.specs.Weights.{earlier}
 
 -- each node a part of its own
-pub own-label : (s : List ℕ) → s ≡ tabulate 192 (λ v. v) → (v : ℕ) → v < 192 → at s v ≡ v
-own-label s e v l = rw e (getD-tabulate 192 (λ i. i) v l)
+pub own-label : (s : List ℕ) → s ≡ tabulate maxModules (λ v. v) → (v : ℕ) → v < maxModules → at s v ≡ v
+own-label s e v l = rw e (getD-tabulate maxModules (λ i. i) v l)
 
-pub own-parts : (s : List ℕ) → s ≡ tabulate 192 (λ v. v) → Parts s
-own-parts s e = record { size = rw e (length-tabulate 192 (λ i. i)); range = λ v l. omega (arith, own-label s e v l) }
+pub own-parts : (s : List ℕ) → s ≡ tabulate maxModules (λ v. v) → Parts s
+own-parts s e = record { size = rw e (length-tabulate maxModules (λ i. i)); range = λ v l. omega (arith, own-label s e v l) }
 
--- one edge: the labels are renamed, the byte is set
-pub joined : (label label′ out : List ℕ) (u v x y k : ℕ) → u ≡ x → v ≡ y → k < length out
-    → label′ ≡ tabulate 192 (λ w. rename (at label u) (at label v) (at label w)) → Joined x y k (at label) (at out) (at label′) (at (set out k 1))
-joined label label′ out u v x y k p q l e = record {
-  labels = λ w lw. rw (← p, ← q, e) (getD-tabulate 192 (λ i. rename (at label u) (at label v) (at label i)) w lw);
+-- edge k, of ends u and v: the labels are renamed, the byte is set
+pub joined : (g : Graph) (label label′ out : List ℕ) (u v k : ℕ) → u ≡ g.lo k → v ≡ g.hi k → k < length out
+    → label′ ≡ tabulate maxModules (λ w. rename (at label u) (at label v) (at label w)) → Joined g k (at label) (at out) (at label′) (at (set out k 1))
+joined g label label′ out u v k p q l e = record {
+  labels = λ w lw. rw (← p, ← q, e) (getD-tabulate maxModules (λ i. rename (at label u) (at label v) (at label i)) w lw);
   marked = getD-set-same out k 1 0 l;
   others = λ j n. getD-set-other out k j 1 0 (λ e. n (sym e));
 }
@@ -37,22 +38,16 @@ joined label label′ out u v x y k p q l e = record {
 pub not-none : {k l : ℕ} → k ≢ none → (k ≡ none) ⊎ (k < l) → k < l
 not-none n s = ⊎-elim (λ e. absurd (n e)) (λ h. h) s
 
-pub takes : (g : Graph) (k i : ℕ) (label out label′ out′ : List ℕ) → i ≡ k → k ≢ none → k < g.L → Ends g → Parts label → length label′ ≡ 192
-    → Joined (g.lo i) (g.hi i) i (at label) (at out) (at label′) (at out′) → Takes g k label out label′ out′
-takes g k i label out label′ out′ e n l ends parts size h =
-    let j = subst (λ z. Joined (g.lo z) (g.hi z) z (at label) (at out) (at label′) (at out′)) e h in
-    record {
-      parts = record { size = size; range = joined-range j (ends k l .1) (parts.range) };
-      grows = record { forest = λ earlier p f. joined-forest g earlier k j ends l (⊎-elim (λ q. absurd (n q)) (λ q. q .1) p) f; coarser = joined-coarser j };
-      closes = λ m. joined-inside j (ends k l .0) (ends k l .1);
-    }
-
--- the columns fit a buffer of the same length
-pub fit-of : (lower higher : List ℕ) (l : ℕ) (label out : List ℕ) → l ≤ 600 → Ends (edges l lower higher) → length out ≡ l → Parts label → Fit lower higher label out
-fit-of lower higher l label out few ends e parts = record { few = omega arith; ends = subst (λ n. Ends (edges n lower higher)) (sym e) ends; parts = parts }
+pub takes : (g : Graph) (k : ℕ) (label out label′ out′ : List ℕ) → k ≢ none → k < g.L → Ends g → Parts label → length label′ ≡ maxModules
+    → Joined g k (at label) (at out) (at label′) (at out′) → Takes g k label out label′ out′
+takes g k label out label′ out′ n l ends parts size j = record {
+  parts = record { size = size; range = joined-range j (ends k l .1) (parts.range) };
+  grows = record { forest = λ earlier p f. joined-forest g earlier k j ends l (⊎-elim (λ q. absurd (n q)) (λ q. q .1) p) f; coarser = joined-coarser j };
+  closes = λ m. joined-inside j (ends k l .0) (ends k l .1);
+}
 
 -- the picks of the parts below a, and one more
-pub takes-next : (g : Graph) (best label₀ out₀ label out label′ out′ : List ℕ) (a : ℕ) → Ends g → ((b : ℕ) → b < 192 → (at best b ≡ none) ⊎ (at best b < g.L)) → a < 192
+pub takes-next : (g : Graph) (best label₀ out₀ label out label′ out′ : List ℕ) (a : ℕ) → Ends g → ((b : ℕ) → b < maxModules → (at best b ≡ none) ⊎ (at best b < g.L)) → a < maxModules
     → TakesTo a g best label₀ out₀ label out → Takes g (at best a) label out label′ out′ → TakesTo (a + 1) g best label₀ out₀ label′ out′
 takes-next g best label₀ out₀ label out label′ out′ a ends bounds l before t = record {
   parts = t.parts;
@@ -63,9 +58,9 @@ takes-next g best label₀ out₀ label out label′ out′ a ends bounds l befo
 }
 
 -- THE WHOLE PHASE: the picks are the earliest edges that leave the parts
-pub phased : (g : Graph) (earlier : ℕ → ℕ → Bool) (best label out label′ out′ : List ℕ) (r : ℕ) → g.L ≤ 600 → Ends g → Parts label
-    → Forest g earlier (at label) (at out) → r ≡ apart g (at label) → ((a : ℕ) → a < 192 → First (Leaves (g.lo) (g.hi) (at label) a) earlier (g.L) (at best a))
-    → TakesTo 192 g best label out label′ out′ → Phased g earlier label label′ out′ r
+pub phased : (g : Graph) (earlier : ℕ → ℕ → Bool) (best label out label′ out′ : List ℕ) (r : ℕ) → g.L ≤ maxLinks → Ends g → Parts label
+    → Forest g earlier (at label) (at out) → r ≡ apart g (at label) → ((a : ℕ) → a < maxModules → First (Leaves g (at label) a) earlier (g.L) (at best a))
+    → TakesTo maxModules g best label out label′ out′ → Phased g earlier label label′ out′ r
 phased g earlier best label out label′ out′ r few ends parts f e firsts t = record {
   parts = t.parts;
   forest = t.grows .forest earlier (λ a l. first-pick g earlier (at label) a (at best a) (firsts a l)) f;

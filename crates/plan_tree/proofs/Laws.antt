@@ -8,7 +8,7 @@ use lib.ListN.{length, set}
 use lib.Seq.{getD-set-same, getD-set-other}
 use Rattle.base.specs.Cond.{by-eq}
 use Rattle.base.specs.Sum.{sum}
-use Rattle.plan_tree.specs.Columns.{at}
+use Rattle.plan_tree.specs.Lent.{at}
 
 -- FILLING: l is f below v, and one more is stored
 pub fill : (f : ℕ → ℕ) (l : List ℕ) (v x : ℕ) → v < length l → ((i : ℕ) → i < v → at l i ≡ f i) → x ≡ f v → (i : ℕ) → i < v + 1 → at (set l v x) i ≡ f i

@@ -1,11 +1,12 @@
 -- Borůvka's algorithm, as laws of two tables: lab v is the part (fragment) of node v, t k is 1 where edge k is marked.
--- Nodes are the numbers below 192; nothing here needs a connected graph.
+-- Nodes are the numbers below the limit of modules; nothing here needs a connected graph.
 use Prim.Native.Nat.{ℕ, _≤_, _<_}
 use native.Mathlib.Omega.{arith}
 use mathlib.Core.Path.{_≡_, refl, sym, ap, subst, _∙_}
 use mathlib.Core.Logic.{_≢_, inl, inr}
 use mathlib.Core.Bool.{Bool}
 use Rattle.base.specs.Cond.{by-eq}
+use Rattle.base.specs.Limits.{maxModules}
 use Rattle.graph.specs.Graph.{Graph, Joins, up, down}
 use Rattle.graph.specs.Order.{Order, InTree}
 use Rattle.graph.specs.Labels.{Labels, With, rename, rename-elim, rename-from, rename-to, labels-add, labels-same, labels-none}
@@ -13,10 +14,10 @@ use Rattle.graph.specs.Cycle.{needed}
 
 -- the ends of each edge are nodes
 abbrev pub Ends : Graph → Type 0
-Ends g = (k : ℕ) → k < g.L → (g.lo k < 192) × (g.hi k < 192)
+Ends g = (k : ℕ) → k < g.L → (g.lo k < maxModules) × (g.hi k < maxModules)
 
 abbrev pub Node : ℕ → Type 0
-Node v = v < 192
+Node v = v < maxModules
 
 abbrev pub Marked : (ℕ → ℕ) → ℕ → Type 0
 Marked t k = t k ≡ 1
@@ -31,19 +32,19 @@ pub record Forest (g : Graph) (earlier : ℕ → ℕ → Bool) (lab t : ℕ → 
   pub tree : (k : ℕ) → k < g.L → t k ≡ 1 → InTree g earlier k
   pub byte : (k : ℕ) → k < g.L → t k ≤ 1
 
-ends-node : {g : Graph} {e u v : ℕ} → Ends g → Joins g e u v → (u < 192) × (v < 192)
+ends-node : {g : Graph} {e u v : ℕ} → Ends g → Joins g e u v → (u < maxModules) × (v < maxModules)
 ends-node {g} {e} ends (up l p q) = (omega (arith, ends e l .0), omega (arith, ends e l .1))
 ends-node {g} {e} ends (down l p q) = (omega (arith, ends e l .1), omega (arith, ends e l .0))
 
 -- the same labels of the nodes
-labels-ext : {g : Graph} {S : ℕ → Type 0} {lab lab′ : ℕ → ℕ} → Ends g → ((v : ℕ) → v < 192 → lab′ v ≡ lab v) → Labels g Node S lab → Labels g Node S lab′
+labels-ext : {g : Graph} {S : ℕ → Type 0} {lab lab′ : ℕ → ℕ} → Ends g → ((v : ℕ) → v < maxModules → lab′ v ≡ lab v) → Labels g Node S lab → Labels g Node S lab′
 labels-ext ends same l = record {
   sound = λ u v du dv e. l.sound u v du dv (sym (same u du) ∙ e ∙ same v dv);
   whole = λ e u v j s. let n = ends-node ends j in same u (n .0) ∙ l.whole e u v j s ∙ sym (same v (n .1));
 }
 
 -- THE START: each node a part, no edge marked
-pub start : (g : Graph) (earlier : ℕ → ℕ → Bool) (lab t : ℕ → ℕ) → Ends g → ((v : ℕ) → v < 192 → lab v ≡ v) → ((k : ℕ) → k < g.L → t k ≡ 0)
+pub start : (g : Graph) (earlier : ℕ → ℕ → Bool) (lab t : ℕ → ℕ) → Ends g → ((v : ℕ) → v < maxModules → lab v ≡ v) → ((k : ℕ) → k < g.L → t k ≡ 0)
     → Forest g earlier lab t
 start g earlier lab t ends own clear = record {
   parts = labels-same (λ e l s. absurd s) (λ e l s. omega (arith, clear e l)) (labels-ext ends own (labels-none g Node));
@@ -51,28 +52,28 @@ start g earlier lab t ends own clear = record {
   byte = λ k l. omega (arith, clear k l);
 }
 
--- ONE JOIN: edge k is marked, and the part of its end x becomes the part of its other end y
-pub record Joined (x y k : ℕ) (lab t lab′ t′ : ℕ → ℕ) : Type 0 where
-  pub labels : (v : ℕ) → v < 192 → lab′ v ≡ rename (lab x) (lab y) (lab v)
+-- ONE JOIN: edge k is marked, and the part of its lower end becomes the part of its higher end
+pub record Joined (g : Graph) (k : ℕ) (lab t lab′ t′ : ℕ → ℕ) : Type 0 where
+  pub labels : (v : ℕ) → v < maxModules → lab′ v ≡ rename (lab (g.lo k)) (lab (g.hi k)) (lab v)
   pub marked : t′ k ≡ 1
   pub others : (j : ℕ) → k ≢ j → t′ j ≡ t j
 
 -- nodes of one part stay together
 abbrev pub Coarser : (ℕ → ℕ) → (ℕ → ℕ) → Type 0
-Coarser lab lab′ = (u v : ℕ) → u < 192 → v < 192 → lab u ≡ lab v → lab′ u ≡ lab′ v
+Coarser lab lab′ = (u v : ℕ) → u < maxModules → v < maxModules → lab u ≡ lab v → lab′ u ≡ lab′ v
 
-module _ {x y k : ℕ} {lab t lab′ t′ : ℕ → ℕ} (j : Joined x y k lab t lab′ t′) where
+module _ {g : Graph} {k : ℕ} {lab t lab′ t′ : ℕ → ℕ} (j : Joined g k lab t lab′ t′) where
   pub joined-coarser : Coarser lab lab′
-  joined-coarser u v lu lv e = j.labels u lu ∙ ap (rename (lab x) (lab y)) e ∙ sym (j.labels v lv)
+  joined-coarser u v lu lv e = j.labels u lu ∙ ap (rename (lab (g.lo k)) (lab (g.hi k))) e ∙ sym (j.labels v lv)
 
-  pub joined-inside : x < 192 → y < 192 → lab′ x ≡ lab′ y
-  joined-inside lx ly = j.labels x lx ∙ rename-from (lab x) (lab y) ∙ sym (rename-to (lab x) (lab y)) ∙ sym (j.labels y ly)
+  pub joined-inside : g.lo k < maxModules → g.hi k < maxModules → Inside g lab′ k
+  joined-inside lx ly = j.labels (g.lo k) lx ∙ rename-from (lab (g.lo k)) (lab (g.hi k)) ∙ sym (rename-to (lab (g.lo k)) (lab (g.hi k))) ∙ sym (j.labels (g.hi k) ly)
 
-  pub joined-range : y < 192 → ((v : ℕ) → v < 192 → lab v < 192) → (v : ℕ) → v < 192 → lab′ v < 192
-  joined-range ly small v l = rw (j.labels v l) (rename-elim (λ z. z < 192) (lab x) (lab y) (lab v) (λ e. small y ly) (λ n. small v l))
+  pub joined-range : g.hi k < maxModules → ((v : ℕ) → v < maxModules → lab v < maxModules) → (v : ℕ) → v < maxModules → lab′ v < maxModules
+  joined-range ly small v l = rw (j.labels v l) (rename-elim (λ z. z < maxModules) (lab (g.lo k)) (lab (g.hi k)) (lab v) (λ e. small (g.hi k) ly) (λ n. small v l))
 
 -- marking a tree edge keeps the forest
-pub joined-forest : (g : Graph) (earlier : ℕ → ℕ → Bool) (k : ℕ) {lab t lab′ t′ : ℕ → ℕ} → Joined (g.lo k) (g.hi k) k lab t lab′ t′
+pub joined-forest : (g : Graph) (earlier : ℕ → ℕ → Bool) (k : ℕ) {lab t lab′ t′ : ℕ → ℕ} → Joined g k lab t lab′ t′
     → Ends g → k < g.L → InTree g earlier k → Forest g earlier lab t → Forest g earlier lab′ t′
 joined-forest g earlier k {lab} {t} {lab′} {t′} j ends l tree f = record {
   parts = labels-ext ends (j.labels) (labels-same grown known (labels-add k (g.lo k) (g.hi k) (ends k l .0) (ends k l .1) (up l refl refl) (f.parts)));

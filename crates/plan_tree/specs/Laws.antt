@@ -11,13 +11,12 @@ use Rattle.base.specs.Loop.{answering}
 use Rattle.base.specs.Refuse.{answers-refused}
 use Rattle.base.specs.Table.{tabulated}
 use Rattle.graph.specs.Decide.{inTree-tree, tree-inTree}
-use Rattle.plan.specs.declared.Plan.{Plan}
-use Rattle.plan.specs.Links.{graphOf}
+use Rattle.plan.specs.Links.{graphOf, Plan, linksOf}
 use Rattle.plan.specs.Weights.{earlier}
 use Rattle.plan.specs.Refusal.{planRefusal}
 use Rattle.plan.specs.Accepted.{Accepted}
 use Rattle.plan_tree.specs.Forest.{Ends, Exact}
-use Rattle.plan_tree.specs.Columns.{at}
+use Rattle.plan_tree.specs.Lent.{at}
 use Rattle.plan_tree.specs.Tree.{treeLink, treeBytes, treeRefusal, centralTree}
 
 module _ (p : Plan) (out : List ℕ) where

@@ -1,6 +1,6 @@
 pub mod Forest
 pub mod Phase
-pub mod Columns
+pub mod Lent
 pub mod Tree
 pub mod Laws
 pub mod Theorems

@@ -15,8 +15,8 @@ use Rattle.graph.specs.Cut.{cut}
 use Rattle.plan_tree.specs.Forest.{Ends, Inside, Coarser}
 
 -- edge k has one end in part a, and one in another part
-abbrev pub Leaves : (ℕ → ℕ) → (ℕ → ℕ) → (ℕ → ℕ) → ℕ → ℕ → Type 0
-Leaves lo hi lab a k = (lab (lo k) ≢ lab (hi k)) × ((lab (lo k) ≡ a) ⊎ (lab (hi k) ≡ a))
+abbrev pub Leaves : Graph → (ℕ → ℕ) → ℕ → ℕ → Type 0
+Leaves g lab a k = (lab (g.lo k) ≢ lab (g.hi k)) × ((lab (g.lo k) ≡ a) ⊎ (lab (g.hi k) ≡ a))
 
 -- b is the earliest of the edges below m that are in S, or none
 pub data First (S : ℕ → Type 0) (earlier : ℕ → ℕ → Bool) (m b : ℕ) : Type 0 where
@@ -72,7 +72,7 @@ abbrev pub Pick : Graph → (ℕ → ℕ → Bool) → ℕ → Type 0
 Pick g earlier b = (b ≡ none) ⊎ ((b < g.L) × InTree g earlier b)
 
 -- THE CUT PROPERTY at work: the earliest edge that leaves a part is a tree edge
-pub first-pick : (g : Graph) (earlier : ℕ → ℕ → Bool) (lab : ℕ → ℕ) (a b : ℕ) → First (Leaves (g.lo) (g.hi) lab a) earlier (g.L) b → Pick g earlier b
+pub first-pick : (g : Graph) (earlier : ℕ → ℕ → Bool) (lab : ℕ → ℕ) (a b : ℕ) → First (Leaves g lab a) earlier (g.L) b → Pick g earlier b
 first-pick g earlier lab a b (nothing e f) = inl e
 first-pick g earlier lab a b (edge l v f) = inr (l, pick (v .1))
   where
@@ -85,7 +85,7 @@ first-pick g earlier lab a b (edge l v f) = inr (l, pick (v .1))
     outside : (c : ℕ) → in-part c ≡ false → lab c ≢ a
     outside c h e = true≢false (sym (eqb-same a) ∙ ap (λ x. eqb x a) (sym e) ∙ h)
 
-    leaves : (k c d : ℕ) → Joins g k c d → in-part c ≡ true → in-part d ≡ false → Leaves (g.lo) (g.hi) lab a k
+    leaves : (k c d : ℕ) → Joins g k c d → in-part c ≡ true → in-part d ≡ false → Leaves g lab a k
     leaves k c d (up lk p q) i n = (λ e. outside d n (sym (ap lab q) ∙ sym e ∙ ap lab p ∙ inside c i), inl (ap lab p ∙ inside c i))
     leaves k c d (down lk p q) i n = (λ e. outside d n (sym (ap lab q) ∙ e ∙ ap lab p ∙ inside c i), inr (ap lab p ∙ inside c i))
 
@@ -101,50 +101,50 @@ first-pick g earlier lab a b (edge l v f) = inr (l, pick (v .1))
 
 -- the edge that the scan of a part with a leaving edge gives leaves it
 pub first-some : (g : Graph) (earlier : ℕ → ℕ → Bool) (lab : ℕ → ℕ) (k b : ℕ) → k < g.L → lab (g.lo k) ≢ lab (g.hi k)
-    → First (Leaves (g.lo) (g.hi) lab (lab (g.lo k))) earlier (g.L) b → (b < g.L) × (lab (g.lo b) ≢ lab (g.hi b))
+    → First (Leaves g lab (lab (g.lo k))) earlier (g.L) b → (b < g.L) × (lab (g.lo b) ≢ lab (g.hi b))
 first-some g earlier lab k b l n (nothing e f) = absurd (f k l (n, inl refl))
 first-some g earlier lab k b l n (edge lb v f) = (lb, v .0)
 
 -- THE MEASURE: how many edges join different parts
 
 -- 1 for an edge between different parts
-unfoldable pub apartAt : (ℕ → ℕ) → (ℕ → ℕ) → (ℕ → ℕ) → ℕ → ℕ
-apartAt lo hi lab k = bit (not (eqb (lab (lo k)) (lab (hi k))))
+unfoldable pub apartAt : Graph → (ℕ → ℕ) → ℕ → ℕ
+apartAt g lab k = bit (not (eqb (lab (g.lo k)) (lab (g.hi k))))
 
-module _ (lo hi lab : ℕ → ℕ) where
-  pub apart-inside : (k : ℕ) → lab (lo k) ≡ lab (hi k) → apartAt lo hi lab k ≡ 0
+module _ (g : Graph) (lab : ℕ → ℕ) where
+  pub apart-inside : (k : ℕ) → lab (g.lo k) ≡ lab (g.hi k) → apartAt g lab k ≡ 0
   unfolding apartAt
-  apart-inside k i = rw (i, eqb-same (lab (hi k)))
+  apart-inside k i = rw (i, eqb-same (lab (g.hi k)))
 
-  pub apart-leaves : (k : ℕ) → lab (lo k) ≢ lab (hi k) → apartAt lo hi lab k ≡ 1
+  pub apart-leaves : (k : ℕ) → lab (g.lo k) ≢ lab (g.hi k) → apartAt g lab k ≡ 1
   unfolding apartAt
-  apart-leaves k n = rw (eqb-diff (lab (lo k)) (lab (hi k)) n)
+  apart-leaves k n = rw (eqb-diff (lab (g.lo k)) (lab (g.hi k)) n)
 
-  pub apart-le : (k : ℕ) → apartAt lo hi lab k ≤ 1
-  apart-le k = by-eq (lab (lo k)) (lab (hi k)) (λ e. omega (arith, apart-inside k e)) (λ n. omega (arith, apart-leaves k n))
+  pub apart-le : (k : ℕ) → apartAt g lab k ≤ 1
+  apart-le k = by-eq (lab (g.lo k)) (lab (g.hi k)) (λ e. omega (arith, apart-inside k e)) (λ n. omega (arith, apart-leaves k n))
 
-  pub apart-most : (m : ℕ) → sum m (apartAt lo hi lab) ≤ m
+  pub apart-most : (m : ℕ) → sum m (apartAt g lab) ≤ m
   apart-most zero = omega arith
   apart-most (suc m) = omega (arith, apart-le m, apart-most m)
 
 abbrev pub apart : Graph → (ℕ → ℕ) → ℕ
-apart g lab = sum (g.L) (apartAt (g.lo) (g.hi) lab)
+apart g lab = sum (g.L) (apartAt g lab)
 
 pub apart-none : (g : Graph) (lab : ℕ → ℕ) → apart g lab ≡ 0 → (k : ℕ) → k < g.L → Inside g lab k
 apart-none g lab z k l = by-eq (lab (g.lo k)) (lab (g.hi k)) (λ e. e)
-    (λ n. absurd (omega (arith, apart-leaves (g.lo) (g.hi) lab k n, le-sum (g.L) k (apartAt (g.lo) (g.hi) lab) l)))
+    (λ n. absurd (omega (arith, apart-leaves g lab k n, le-sum (g.L) k (apartAt g lab) l)))
 
-pub apart-some : (g : Graph) (lab : ℕ → ℕ) (m : ℕ) → sum m (apartAt (g.lo) (g.hi) lab) ≢ 0 → (k : ℕ) × (k < m) × (lab (g.lo k) ≢ lab (g.hi k))
+pub apart-some : (g : Graph) (lab : ℕ → ℕ) (m : ℕ) → sum m (apartAt g lab) ≢ 0 → (k : ℕ) × (k < m) × (lab (g.lo k) ≢ lab (g.hi k))
 apart-some g lab zero n = absurd (n refl)
 apart-some g lab (suc m) n = by-eq (lab (g.lo m)) (lab (g.hi m))
-    (λ e. let t = apart-some g lab m (λ z. n (omega (arith, apart-inside (g.lo) (g.hi) lab m e))) in (t .0, omega (arith, t .1), t .2))
+    (λ e. let t = apart-some g lab m (λ z. n (omega (arith, apart-inside g lab m e))) in (t .0, omega (arith, t .1), t .2))
     (λ d. (m, omega arith, d))
 
 -- a phase that joined the ends of one of them
 pub apart-falls : (g : Graph) (lab lab′ : ℕ → ℕ) (k : ℕ) → Ends g → Coarser lab lab′ → k < g.L → lab (g.lo k) ≢ lab (g.hi k) → Inside g lab′ k
     → apart g lab′ < apart g lab
-apart-falls g lab lab′ k ends coarser l n i = sum-lt (g.L) k (apartAt (g.lo) (g.hi) lab′) (apartAt (g.lo) (g.hi) lab) l
+apart-falls g lab lab′ k ends coarser l n i = sum-lt (g.L) k (apartAt g lab′) (apartAt g lab) l
     (λ j lj. by-eq (lab (g.lo j)) (lab (g.hi j))
-    (λ e. omega (arith, apart-inside (g.lo) (g.hi) lab′ j (coarser (g.lo j) (g.hi j) (ends j lj .0) (ends j lj .1) e)))
-    (λ d. omega (arith, apart-leaves (g.lo) (g.hi) lab j d, apart-le (g.lo) (g.hi) lab′ j)))
-    (omega (arith, apart-leaves (g.lo) (g.hi) lab k n, apart-inside (g.lo) (g.hi) lab′ k i))
+    (λ e. omega (arith, apart-inside g lab′ j (coarser (g.lo j) (g.hi j) (ends j lj .0) (ends j lj .1) e)))
+    (λ d. omega (arith, apart-leaves g lab j d, apart-le g lab′ j)))
+    (omega (arith, apart-leaves g lab k n, apart-inside g lab′ k i))

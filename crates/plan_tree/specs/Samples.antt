@@ -1,19 +1,13 @@
 -- Document 01's samples of the tree, as rows that the definitions compute.
-use Prim.Native.Nat.{ℕ, _-_}
+use Prim.Native.Nat.{ℕ}
 use mathlib.Core.Path.{_≡_, refl}
-use mathlib.Core.List.{List, [], _∷_, _++_, map}
-use lib.ListN.{length, replicate}
+use mathlib.Core.List.{List, [], _∷_, map}
 use Rattle.graph.specs.Decide.{connected}
-use Rattle.plan.specs.declared.Plan.{Plan}
-use Rattle.plan.specs.Links.{planOf}
-use Rattle.plan.specs.Weights.{costIn, earlierIn}
+use Rattle.plan.specs.Weights.{cost, earlier}
 use Rattle.plan.specs.Refusal.{ascends, inOrder, linkVerdict, linksRefusal, planRefusal}
 use Rattle.base.specs.Loop.{After}
 use Rattle.plan_tree.specs.Tree.{centralTree}
-
--- a column of 600 entries
-abbrev column : List ℕ → List ℕ
-column l = l ++ replicate (600 - length l) 0
+use Rattle.plan.specs.Links.{Plan}
 
 -- a plan, the buffer lent for it, the answer and the buffer after
 pub record Row : Type 0 where
@@ -24,14 +18,14 @@ pub record Row : Type 0 where
 
 -- "Three modules, three links, each with readings 2 and 3: tree 0-1 and 0-2."
 abbrev triangle : Plan
-triangle = planOf 3 3 (column (0 ∷ 0 ∷ 1 ∷ [])) (column (1 ∷ 2 ∷ 2 ∷ [])) (column (2 ∷ 2 ∷ 2 ∷ [])) (column (3 ∷ 3 ∷ 3 ∷ []))
+triangle = 3 ∷ 3 ∷ 0 ∷ 1 ∷ 2 ∷ 3 ∷ 0 ∷ 2 ∷ 2 ∷ 3 ∷ 1 ∷ 2 ∷ 2 ∷ 3 ∷ []
 
 -- the same with a buffer of two bytes; "two modules, no link: 19"
 unfoldable pub rows : List Row
 rows =
     record { plan = triangle; lent = 9 ∷ 9 ∷ 9 ∷ []; answer = 0; bytes = 1 ∷ 1 ∷ 0 ∷ [] }
     ∷ record { plan = triangle; lent = 9 ∷ 9 ∷ []; answer = 20; bytes = 9 ∷ 9 ∷ [] }
-    ∷ record { plan = planOf 2 0 (column []) (column []) (column []) (column []); lent = []; answer = 19; bytes = [] }
+    ∷ record { plan = 2 ∷ 0 ∷ []; lent = []; answer = 19; bytes = [] }
     ∷ []
 
 -- what the builder does, and what the row says
@@ -43,5 +37,5 @@ abbrev pub said : Row → After (List ℕ)
 said r = record { answer = r .answer; state = r .bytes }
 
 pub samples : map done rows ≡ map said rows
-unfolding rows done earlierIn costIn planRefusal linksRefusal linkVerdict inOrder ascends connected
+unfolding rows done earlier cost planRefusal linksRefusal linkVerdict inOrder ascends connected
 samples = refl

@@ -18,8 +18,7 @@ use Rattle.graph.specs.Decide.{Set, inTree-tree, tree-inTree}
 use Rattle.graph.specs.Span.{spans}
 use Rattle.graph.specs.Cycle.{spare}
 use Rattle.graph.specs.Least.{total, Spanning, tree-least, tree-least-all}
-use Rattle.plan.specs.declared.Plan.{Plan}
-use Rattle.plan.specs.Links.{low, high, graphOf}
+use Rattle.plan.specs.Links.{graphOf, Plan, modulesOf, linksOf, lowerOf, higherOf}
 use Rattle.plan.specs.Weights.{cost, earlier, earlier-cost, orderOf}
 use Rattle.plan.specs.Accepted.{accepted}
 use Rattle.plan_tree.specs.Tree.{treeLink, treeBytes, treeRefusal, centralTree}

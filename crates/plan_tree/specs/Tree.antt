@@ -9,8 +9,7 @@ use Rattle.base.specs.Loop.{After, answering}
 use Rattle.base.specs.Refuse.{orElse, first}
 use Rattle.base.specs.Table.{tabulate}
 use Rattle.graph.specs.Decide.{inTree}
-use Rattle.plan.specs.declared.Plan.{Plan}
-use Rattle.plan.specs.Links.{graphOf}
+use Rattle.plan.specs.Links.{graphOf, Plan, linksOf}
 use Rattle.plan.specs.Weights.{earlier}
 use Rattle.plan.specs.Refusal.{planRefusal}
 

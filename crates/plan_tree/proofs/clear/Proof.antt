@@ -3,7 +3,7 @@ use native.Mathlib.Omega.{arith}
 use mathlib.Core.Path.{_≡_, refl}
 use borrow.Author.Needs.{needs}
 use lib.ListN.{length, length-set}
-use Rattle.plan_tree.specs.Columns.{at}
+use Rattle.plan_tree.specs.Lent.{at}
 use Rattle.plan_tree.proofs.Laws.{fill}
 use Rattle.plan_tree.proofs.clear.Statement.{statement}
 use Rattle.plan_tree.proofs.clear.Tie as tie

@@ -1,7 +1,6 @@
 use borrow.Author.Needs.{needs}
-use lib.ListN.{length}
-use Rattle.plan.specs.Links.{edges, planOf}
-use Rattle.plan.specs.Weights.{orderOf, earlierIn}
+use Rattle.plan.specs.Links.{graphOf}
+use Rattle.plan.specs.Weights.{earlier}
 use Rattle.plan_tree.specs.Phase.{first-bound}
 use Rattle.plan_tree.proofs.Offers.{firsts-none}
 use Rattle.plan_tree.proofs.Joins.{phased}
@@ -11,12 +10,8 @@ use Rattle.plan_tree.proofs.phase.Tie as tie
 scan-requires : tie.Need-scan-requires
 scan-requires c κs =
     let s = c .before .before .before in
-    let a = s .args in (
-      s .pre .0 .few,
-      s .pre .0 .ends,
-      s .pre .0 .parts,
-      firsts-none (orderOf (planOf 0 600 (a .lower .now) (a .higher .now) (a .near .now) (a .far .now))) (a .lower .now) (a .higher .now) (a .label .now),
-    )
+    let f = s .pre .0 in
+    (f .few, f .ends, f .parts, firsts-none (s .args .plan .now) (s .args .label .now))
 
 join-all-requires : tie.Need-join-all-requires
 join-all-requires c κs =
@@ -29,8 +24,9 @@ returns c =
     let n = j .before .before .before .before in
     let s = n .before .before .before .before in
     let a = s .args in
-    phased (edges (length (a .out .now)) (a .lower .now) (a .higher .now)) (earlierIn (a .near .now) (a .far .now)) (n .scan .last .1 .1 .1 .1 .1 .1 .0) (a .label .now) (a .out .now) _ _ _
-    (s .pre .0 .few) (s .pre .0 .ends) (s .pre .0 .parts) (s .pre .1) (n .scan .ensures .0) (n .scan .ensures .1 .first) (j .join-all .ensures)
+    let f = s .pre .0 in
+    phased (graphOf (a .plan .now)) (earlier (a .plan .now)) (n .scan .last .1 .1 .0) (a .label .now) (a .out .now) _ _ _
+    (f .few) (f .ends) (f .parts) (s .pre .1) (n .scan .ensures .0) (n .scan .ensures .1 .first) (j .join-all .ensures)
 
 pub phase-spec : {M : Type 1} → statement M
 phase-spec = tie.close (tie.spec scan-requires join-all-requires (λ c. search needs) returns)

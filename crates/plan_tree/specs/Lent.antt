@@ -1,28 +1,31 @@
--- The lent columns as tables, and what the builder's functions ask of them.
+-- The lent arrays as tables, and what the builder's functions ask of them.
 use Prim.Native.Nat.{ℕ, _≤_, _<_}
 use mathlib.Core.Path.{_≡_}
 use mathlib.Core.Logic.{_≢_}
 use mathlib.Core.Bool.{Bool}
-use Rattle.base.specs.None.{none}
 use mathlib.Core.List.{List}
 use lib.ListN.{length, getD}
+use Rattle.base.specs.None.{none}
+use Rattle.base.specs.Limits.{maxModules, maxLinks}
 use Rattle.graph.specs.Graph.{Graph}
-use Rattle.plan.specs.Links.{edges}
+use Rattle.plan.specs.Links.{Plan, linksOf, graphOf}
+use Rattle.plan.specs.Weights.{earlier}
 use Rattle.plan_tree.specs.Forest.{Ends, Inside, Forest, Grows}
 use Rattle.plan_tree.specs.Phase.{Leaves, First, Pick, apart}
 
 abbrev pub at : List ℕ → ℕ → ℕ
 at l k = getD l k 0
 
--- 192 labels, each the number of a node
+-- a label for each node, each the number of a node
 pub record Parts (label : List ℕ) : Type 0 where
-  pub size : length label ≡ 192
-  pub range : (v : ℕ) → v < 192 → at label v < 192
+  pub size : length label ≡ maxModules
+  pub range : (v : ℕ) → v < maxModules → at label v < maxModules
 
--- the columns and the buffer for l edges
-pub record Fit (lower higher : List ℕ) (label out : List ℕ) : Type 0 where
-  pub few : length out ≤ 600
-  pub ends : Ends (edges (length out) lower higher)
+-- a plan whose links end at nodes, and a byte for each link
+pub record Fit (p : Plan) (label out : List ℕ) : Type 0 where
+  pub few : linksOf p ≤ maxLinks
+  pub ends : Ends (graphOf p)
+  pub size : length out ≡ linksOf p
   pub parts : Parts label
 
 -- the pick k is joined, if it is not none
@@ -34,7 +37,7 @@ pub record Takes (g : Graph) (k : ℕ) (label out label′ out′ : List ℕ) : 
 -- the picks of the parts below n are joined
 pub record TakesTo (n : ℕ) (g : Graph) (best label out label′ out′ : List ℕ) : Type 0 where
   pub parts : Parts label′
-  pub grows : Grows g (λ earlier. (a : ℕ) → a < 192 → Pick g earlier (at best a)) (at label) (at out) (at label′) (at out′)
+  pub grows : Grows g (λ earlier. (a : ℕ) → a < maxModules → Pick g earlier (at best a)) (at label) (at out) (at label′) (at out′)
   pub closes : (a : ℕ) → a < n → at best a ≢ none → Inside g (at label′) (at best a)
 
 -- one phase, which found r edges between different parts
@@ -45,6 +48,6 @@ pub record Phased (g : Graph) (earlier : ℕ → ℕ → Bool) (label label′ o
   pub fewer : r ≢ 0 → apart g (at label′) < apart g (at label)
 
 -- best has, for each part, the earliest of the first m edges that leave it
-pub record Firsts (lower higher : List ℕ) (earlier : ℕ → ℕ → Bool) (label : List ℕ) (m : ℕ) (best : List ℕ) : Type 0 where
-  pub size : length best ≡ 192
-  pub first : (a : ℕ) → a < 192 → First (Leaves (at lower) (at higher) (at label) a) earlier m (at best a)
+pub record Firsts (p : Plan) (label : List ℕ) (m : ℕ) (best : List ℕ) : Type 0 where
+  pub size : length best ≡ maxModules
+  pub first : (a : ℕ) → a < maxModules → First (Leaves (graphOf p) (at label) a) (earlier p) m (at best a)
