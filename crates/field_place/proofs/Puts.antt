@@ -6,12 +6,13 @@ use mathlib.Core.Logic.{_≢_}
 use mathlib.Core.List.{List, [], _++_, map-append}
 use lib.ListN.{length, length-append, length-map}
 use borrow.Author.Tests.{eq-eqb, ne-eqb}
-use Rattle.plan.specs.Links.{Plan}
+use Rattle.plan.specs.Links.{Plan, linksOf}
 use Rattle.node.specs.Work.{Send}
-use Rattle.node_response.specs.Response.{copiesOf}
+use Rattle.node_response.specs.declared.Response.{Response}
+use Rattle.node_response.specs.Response.{packetSends, copiesOf}
 use Rattle.field.specs.State.{wordOf, posted}
 use Rattle.field_words.specs.Laid.{Laid}
-use Rattle.field_place.specs.Posted.{Posted, Put}
+use Rattle.field_place.specs.Posted.{Posted, Put, copiesTo, sendsBy}
 use Rattle.field_place.proofs.Words.{posted-none, posted-laid, posted-length, posted-then}
 
 pub copies-told : (c : ℕ) (cs : List Send) → c ≡ 1 → copiesOf c cs ≡ cs
@@ -55,7 +56,16 @@ module _ (p : Plan) (v : ℕ) where
   }
 
 -- The three lots of a response: s its copies, then f and g.
-module _ (p : Plan) (v : ℕ) (s f g : List Send) (lent : List ℕ) (n : ℕ) (h : Laid lent n) (room : n + length (s ++ (f ++ g)) ≤ length lent) where
+module _ (p : Plan) (marks : List ℕ) (v x : ℕ) (a : Response) (lent : List ℕ) (n : ℕ) (h : Laid lent n) (room : n + length (sendsBy p marks v x a) ≤ length lent) where
+  abbrev s : List Send
+  s = copiesOf (a .copies) (copiesTo p marks v x (linksOf p))
+
+  abbrev f : List Send
+  f = packetSends (a .first)
+
+  abbrev g : List Send
+  g = packetSends (a .second)
+
   total : length (s ++ (f ++ g)) ≡ length s + (length f + length g)
   total = length-append s (f ++ g) ∙ ap (λ k. length s + k) (length-append f g)
 
@@ -76,5 +86,5 @@ module _ (p : Plan) (v : ℕ) (s f g : List Send) (lent : List ℕ) (n : ℕ) (h
       pub lots-third : k + length g ≤ length next
       lots-third = omega (arith, room, total, put-many p v d, put-many p v first, first .same, d .same)
 
-      pub lots : (after : List ℕ) (r : ℕ) → Posted next after k r (posted p v g) → Put p v (s ++ (f ++ g)) lent n after r
+      pub lots : (after : List ℕ) (r : ℕ) → Posted next after k r (posted p v g) → Put p v (sendsBy p marks v x a) lent n after r
       lots after r z = put-then p v h d (put-then p v (d .laid) first (put-of p v g next after k r lots-laid lots-third z))

@@ -7,14 +7,14 @@ post-told-requires : tie.Need-post-told-requires
 post-told-requires c κs =
     let s = c .before .before in
     let a = s .args in
-    (s .pre .0, s .pre .1, s .pre .2, lots-first (a .plan .now) (a .v) _ _ _ (a .lent .now) (a .n) (s .pre .0) (s .pre .5))
+    (s .pre .0, s .pre .1, s .pre .2, lots-first (a .plan .now) (a .marks .now) (a .v) (a .x) (a .a) (a .lent .now) (a .n) (s .pre .0) (s .pre .5))
 
 post-requires : tie.Need-post-requires
 post-requires c κs =
     let t = c .before .before .before in
     let s = t .before .before .before in
     let a = s .args in
-    (t .post-told .ensures .laid, s .pre .3, lots-second (a .plan .now) (a .v) _ _ _ (a .lent .now) (a .n) (s .pre .0) (s .pre .5) _ _ (t .post-told .ensures))
+    (t .post-told .ensures .laid, s .pre .3, lots-second (a .plan .now) (a .marks .now) (a .v) (a .x) (a .a) (a .lent .now) (a .n) (s .pre .0) (s .pre .5) _ _ (t .post-told .ensures))
 
 post-requires-2 : tie.Need-post-requires-2
 post-requires-2 c κs =
@@ -22,9 +22,9 @@ post-requires-2 c κs =
     let t = f .before .before .before .before in
     let s = t .before .before .before in
     let a = s .args in (
-      lots-laid (a .plan .now) (a .v) _ _ _ (a .lent .now) (a .n) (s .pre .0) (s .pre .5) _ _ (t .post-told .ensures) _ _ (f .post .ensures),
+      lots-laid (a .plan .now) (a .marks .now) (a .v) (a .x) (a .a) (a .lent .now) (a .n) (s .pre .0) (s .pre .5) _ _ (t .post-told .ensures) _ _ (f .post .ensures),
       s .pre .4,
-      lots-third (a .plan .now) (a .v) _ _ _ (a .lent .now) (a .n) (s .pre .0) (s .pre .5) _ _ (t .post-told .ensures) _ _ (f .post .ensures),
+      lots-third (a .plan .now) (a .marks .now) (a .v) (a .x) (a .a) (a .lent .now) (a .n) (s .pre .0) (s .pre .5) _ _ (t .post-told .ensures) _ _ (f .post .ensures),
     )
 
 returns : tie.Need-returns
@@ -34,7 +34,7 @@ returns c =
     let t = f .before .before .before .before in
     let s = t .before .before .before in
     let a = s .args in
-    lots (a .plan .now) (a .v) _ _ _ (a .lent .now) (a .n) (s .pre .0) (s .pre .5) _ _ (t .post-told .ensures) _ _ (f .post .ensures) _ _ (g .post2 .ensures)
+    lots (a .plan .now) (a .marks .now) (a .v) (a .x) (a .a) (a .lent .now) (a .n) (s .pre .0) (s .pre .5) _ _ (t .post-told .ensures) _ _ (f .post .ensures) _ _ (g .post2 .ensures)
 
 pub post-all-spec : {M : Type 1} → statement M
 post-all-spec =
