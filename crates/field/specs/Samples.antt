@@ -74,9 +74,10 @@ table =
     row (held searching asleep 0 0 1 (aTest 0 1 ∷ [])) 3 1 0 (held searching woken 0 1 2 (aConnect 1 0 ∷ aTest 0 1 ∷ []))
     -- a Test above the level of one that is awake goes to the end, and nothing else changes
     ∷ row (held searching woken 0 1 3 (aTest 0 1 ∷ aConnect 1 0 ∷ [])) 3 1 0 (held searching woken 0 1 3 (aConnect 1 0 ∷ aTest 0 1 ∷ []))
-    -- wake; hand over the first of its link, behind what waits; a service takes its word out, here with a Report of the edge
+    -- wake; hand over the first of its link, behind what waits, and one that is not the first that waits; a service takes its word out, here with a Report of the edge
     ∷ row (held asleep asleep 0 0 0 []) 1 0 0 (held woken asleep 1 0 1 (aConnect 0 0 ∷ []))
     ∷ row (held woken woken 1 1 2 (aConnect 0 0 ∷ aConnect 1 0 ∷ [])) 2 0 0 (held woken woken 1 1 2 (aConnect 1 0 ∷ aConnect 0 1 ∷ []))
+    ∷ row (held woken woken 1 1 2 (aConnect 0 0 ∷ aConnect 1 0 ∷ [])) 2 1 0 (held woken woken 1 1 2 (aConnect 0 0 ∷ aConnect 1 1 ∷ []))
     ∷ row (held (1 ∷ 1 ∷ 0 ∷ none ∷ none ∷ 0 ∷ 0 ∷ 0 ∷ 0 ∷ []) woken 0 0 3 (anAccept 1 1 ∷ aConnect 1 0 ∷ [])) 3 0 0
     (held (2 ∷ 1 ∷ 0 ∷ 0 ∷ 0 ∷ none ∷ 0 ∷ 0 ∷ 0 ∷ []) woken 0 0 4 (aConnect 1 0 ∷ packed 6 0 0 0 ∷ []))
     -- refusals, in their order

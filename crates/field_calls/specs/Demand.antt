@@ -2,7 +2,7 @@
 use Prim.Native.Nat.{ℕ, _+_, _≤_, _<_}
 use mathlib.Core.Path.{_≡_}
 use mathlib.Core.Logic.{_≢_, _⊎_, _↔_}
-use mathlib.Core.List.{List, []}
+use mathlib.Core.List.{List, [], map}
 use lib.ListN.{length}
 use Rattle.base.specs.Pool.{All}
 use Rattle.base.specs.Loop.{Ran}
@@ -14,7 +14,7 @@ use Rattle.field.specs.Edges.{ceilingOf}
 use Rattle.field.specs.State.{State, nodeAt, markAt}
 use Rattle.field.specs.Held.{Held, stateOf, setUp}
 use Rattle.field_calls.specs.Call.{Call, one, run, rounds, after, answers, runRounds}
-use Rattle.field_calls.specs.Trail.{trail, messagesSent, consumed, wokenIn}
+use Rattle.field_calls.specs.Trail.{Message, carriedBy, timesIn, trail, sentIn, messagesSent, consumedIn, wokenIn}
 
 -- "A link is a tree link exactly if no other way between its ends, over the plan's links, uses only earlier links."
 abbrev pub TreeLink : Plan → ℕ → Type 0
@@ -59,8 +59,11 @@ pub record Claim (p : Plan) (start : Held) (calls : List Call) : Type 0 where
   pub branches : (v k : ℕ) → markAt p (stateOf (after calls start)) v k ≡ BRANCH → TreeLink p k
   -- "the sent count equals the number of messages sent"
   pub exact : stateOf (after calls start) .sent ≡ messagesSent p (trail calls start)
-  -- ("A message waits, in one word, from its send until a service that does not put it back.": what waits and what was consumed is what was sent)
-  pub waiting : length (stateOf (after calls start) .words) + consumed p (trail calls start) ≡ stateOf (after calls start) .sent
+  -- ("A message waits, in one word, from its send until a service that does not put it back.": each, by its directed link, header byte and
+  -- carried number, was sent as often as it was consumed and waits ..
+  pub messages : (m : Message) → timesIn m (sentIn p (trail calls start)) ≡ timesIn m (consumedIn p (trail calls start)) + timesIn m (map carriedBy (stateOf (after calls start) .words))
+  -- .. and what waits and what was consumed is as many as were sent)
+  pub waiting : length (stateOf (after calls start) .words) + length (consumedIn p (trail calls start)) ≡ stateOf (after calls start) .sent
   -- "and is at most the ceiling, 5 × N × ⌊log2 N⌋ + 2 × L;"
   pub ceiling : stateOf (after calls start) .sent ≤ ceilingOf p
   -- "and nothing in the list was refused by 31, 32 or 33."

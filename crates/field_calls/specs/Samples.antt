@@ -1,14 +1,14 @@
 -- Small runs, computed: the reporting program's two modules, document 01's sleeper that serves a Test, and refusals.
 use Prim.Native.Nat.{ℕ}
 use mathlib.Core.Path.{_≡_, refl}
-use mathlib.Core.List.{List, [], _∷_, map}
-use lib.ListN.{take}
-use Rattle.base.specs.None.{none, beforeBy}
+use mathlib.Core.List.{List, [], _∷_, map, flatMap}
+use lib.ListN.{length, take}
+use Rattle.base.specs.None.{none}
 use Rattle.format_word.specs.Word.{packed}
 use Rattle.field.specs.State.{nodeAt}
 use Rattle.field.specs.Held.{Held, stateOf, setUp}
 use Rattle.field_calls.specs.Call.{Call, one, run, rounds, does, after}
-use Rattle.field_calls.specs.Trail.{trail, messagesSent, wokenIn}
+use Rattle.field_calls.specs.Trail.{Message, trail, sentIn, consumedIn, wokenIn}
 use Rattle.base.specs.Cond as base1
 use Rattle.base.specs.Keep as base2
 use Rattle.base.specs.Log as base3
@@ -21,7 +21,6 @@ use Rattle.format_message.specs.Listed as message2
 use Rattle.plan.specs.Refusal as plan1
 use Rattle.plan.specs.Weights as plan2
 use Rattle.plan.specs.Links.{Plan}
-use Rattle.field.specs.Edges.{isOwn, marksIn, endOf}
 use Rattle.node.specs.Rules as node1
 use Rattle.node.specs.Work as node2
 use Rattle.field.specs.Edges as field0
@@ -60,12 +59,13 @@ tested =
       words = aTest ∷ 0 ∷ 0 ∷ 0 ∷ 0 ∷ 0 ∷ 0 ∷ 0 ∷ 0 ∷ 0 ∷ 0 ∷ 0 ∷ [];
     }
 
--- what calls show: done and refusal of each; then sent, messages sent, modules woken, marks, halted, and the words that wait
+-- what calls show: done and refusal of each; then sent, the messages sent and consumed, modules woken, marks, halted, and the words that wait
 pub record Shown : Type 0 where
   pub done : List ℕ
   pub refusals : List ℕ
   pub sent : ℕ
-  pub sends : ℕ
+  pub sends : List Message
+  pub consumed : List Message
   pub woken : List ℕ
   pub marks : List ℕ
   pub halted : List ℕ
@@ -92,32 +92,50 @@ shown cs h =
       done = dones cs h;
       refusals = refusals cs h;
       sent = l .field .sent;
-      sends = messagesSent (h .field .plan) t;
+      sends = sentIn (h .field .plan) t;
+      consumed = consumedIn (h .field .plan) t;
       woken = wokenIn (h .field .plan) t;
       marks = take 2 (l .field .marks);
       halted = nodeAt (stateOf l) 0 .halted ∷ nodeAt (stateOf l) 1 .halted ∷ [];
       words = stateOf l .words;
     }
 
-abbrev row : Held → List Call → List ℕ → List ℕ → ℕ → List ℕ → List ℕ → List ℕ → List ℕ → Row
-row h cs done refused sent woken marks halted words =
+abbrev row : Held → List Call → List ℕ → List ℕ → List Message → List Message → List ℕ → List ℕ → List ℕ → List ℕ → Row
+row h cs done refused sends consumed woken marks halted words =
     record {
       start = h;
       calls = cs;
-      want = record { done = done; refusals = refused; sent = sent; sends = sent; woken = woken; marks = marks; halted = halted; words = words };
+      want = record {
+        done = done;
+        refusals = refused;
+        sent = length sends;
+        sends = sends;
+        consumed = consumed;
+        woken = woken;
+        marks = marks;
+        halted = halted;
+        words = words;
+      };
     }
+
+abbrev aMessage : ℕ → ℕ → ℕ → Message
+aMessage link header carried = record { link = link; header = header; carried = carried }
+
+-- the messages of the two modules: Connect and Connect, Initiate and Initiate, Report and Report
+abbrev six : List Message
+six = aMessage 0 1 none ∷ aMessage 1 1 none ∷ aMessage 1 74 0 ∷ aMessage 0 74 0 ∷ aMessage 0 6 none ∷ aMessage 1 6 none ∷ []
 
 abbrev table : List Row
 table =
     -- the reporting program: 6 messages, 4 rounds; both ends Branch, both halted
-    row begun (one 1 0 ∷ rounds 20 ∷ []) (1 ∷ 4 ∷ []) (0 ∷ 0 ∷ []) 6 (0 ∷ 1 ∷ []) (1 ∷ 1 ∷ []) (1 ∷ 1 ∷ []) []
+    row begun (one 1 0 ∷ rounds 20 ∷ []) (1 ∷ 4 ∷ []) (0 ∷ 0 ∷ []) six six (0 ∷ 1 ∷ []) (1 ∷ 1 ∷ []) (1 ∷ 1 ∷ []) []
     -- the limit ends a run of rounds; a run at rest does none
-    ∷ row begun (one 1 0 ∷ rounds 1 ∷ []) (1 ∷ 1 ∷ []) (0 ∷ 0 ∷ []) 3 (0 ∷ 1 ∷ []) (1 ∷ 1 ∷ []) (0 ∷ 0 ∷ []) (packed 1 none 1 0 ∷ packed 74 0 1 0 ∷ [])
-    ∷ row begun (rounds 9 ∷ []) (0 ∷ []) (0 ∷ []) 0 [] (0 ∷ 0 ∷ []) (0 ∷ 0 ∷ []) []
+    ∷ row begun (one 1 0 ∷ rounds 1 ∷ []) (1 ∷ 1 ∷ []) (0 ∷ 0 ∷ []) (take 3 six) (take 1 six) (0 ∷ 1 ∷ []) (1 ∷ 1 ∷ []) (0 ∷ 0 ∷ []) (packed 1 none 1 0 ∷ packed 74 0 1 0 ∷ [])
+    ∷ row begun (rounds 9 ∷ []) (0 ∷ []) (0 ∷ []) [] [] [] (0 ∷ 0 ∷ []) (0 ∷ 0 ∷ []) []
     -- refusals of steps given alone, and of a run: the steps before the refused one stand
-    ∷ row begun (one 1 2 ∷ one 2 2 ∷ one 2 0 ∷ one 3 1 ∷ one 4 0 ∷ []) (0 ∷ 0 ∷ 0 ∷ 0 ∷ 0 ∷ []) (41 ∷ 42 ∷ 44 ∷ 45 ∷ 54 ∷ []) 0 [] (0 ∷ 0 ∷ []) (0 ∷ 0 ∷ []) []
-    ∷ row begun (run (1 ∷ 0 ∷ 9 ∷ 1 ∷ 0 ∷ 0 ∷ 2 ∷ 0 ∷ 0 ∷ 1 ∷ 0 ∷ 0 ∷ []) ∷ []) (2 ∷ []) (43 ∷ []) 1 (0 ∷ []) (1 ∷ 0 ∷ []) (0 ∷ 0 ∷ []) (packed 1 none 0 1 ∷ [])
-    ∷ row begun (run [] ∷ run (2 ∷ 0 ∷ 0 ∷ []) ∷ run (1 ∷ 0 ∷ 2 ∷ 1 ∷ 0 ∷ []) ∷ run (1 ∷ 0 ∷ 3 ∷ 9 ∷ 0 ∷ 0 ∷ []) ∷ run (1 ∷ 0 ∷ 0 ∷ []) ∷ []) (0 ∷ 0 ∷ 0 ∷ 0 ∷ 0 ∷ []) (51 ∷ 52 ∷ 53 ∷ 54 ∷ 0 ∷ []) 0 [] (0 ∷ 0 ∷ []) (0 ∷ 0 ∷ []) []
+    ∷ row begun (one 1 2 ∷ one 2 2 ∷ one 2 0 ∷ one 3 1 ∷ one 4 0 ∷ []) (0 ∷ 0 ∷ 0 ∷ 0 ∷ 0 ∷ []) (41 ∷ 42 ∷ 44 ∷ 45 ∷ 54 ∷ []) [] [] [] (0 ∷ 0 ∷ []) (0 ∷ 0 ∷ []) []
+    ∷ row begun (run (1 ∷ 0 ∷ 9 ∷ 1 ∷ 0 ∷ 0 ∷ 2 ∷ 0 ∷ 0 ∷ 1 ∷ 0 ∷ 0 ∷ []) ∷ []) (2 ∷ []) (43 ∷ []) (take 1 six) [] (0 ∷ []) (1 ∷ 0 ∷ []) (0 ∷ 0 ∷ []) (packed 1 none 0 1 ∷ [])
+    ∷ row begun (run [] ∷ run (2 ∷ 0 ∷ 0 ∷ []) ∷ run (1 ∷ 0 ∷ 2 ∷ 1 ∷ 0 ∷ []) ∷ run (1 ∷ 0 ∷ 3 ∷ 9 ∷ 0 ∷ 0 ∷ []) ∷ run (1 ∷ 0 ∷ 0 ∷ []) ∷ []) (0 ∷ 0 ∷ 0 ∷ 0 ∷ 0 ∷ []) (51 ∷ 52 ∷ 53 ∷ 54 ∷ 0 ∷ []) [] [] [] (0 ∷ 0 ∷ []) (0 ∷ 0 ∷ []) []
     ∷ []
 
 -- "Serving a Test of level 1 at a sleeper: it wakes, sends Connect, the Test goes to the end."
@@ -130,7 +148,8 @@ sleeper =
         done = 1 ∷ [];
         refusals = 0 ∷ [];
         sent = 2;
-        sends = 1;
+        sends = aMessage 1 1 none ∷ [];
+        consumed = [];
         woken = 1 ∷ [];
         marks = 0 ∷ 1 ∷ [];
         halted = 0 ∷ 0 ∷ [];
@@ -145,5 +164,5 @@ abbrev wants : List Row → List Shown
 wants l = map (λ r. r .want) l
 
 pub samples : gots (sleeper ∷ table) ≡ wants (sleeper ∷ table)
-unfolding dones refusals base1.upd base2.place base3.log2-to base3.log2 base4.then base4.loop base4.runs base4.loopTrace base4.runsTrace base5.every graph1.label graph1.joined graph1.connected message1.partsOf message1.msgOf message2.bare message2.listedAs message2.listed plan1.ascends plan1.inOrder plan1.linkVerdict plan1.linksRefusal plan1.planRefusal base7.beforeBy plan2.cost plan2.earlier node1.wakeOn node1.awake node1.doReport node1.testOn node1.changeRoot node1.countUp node1.absorb node1.coreEnd node1.onConnect node1.seek node1.onInitiate node1.onTest node1.childReport node1.coreReport node1.onReport node1.unlessAsleep node1.respondTo node2.earliest node2.number node2.onEach field0.isOwn field0.endOf field0.marksIn field1.newMarks field2.settle field2.wake field2.hand field2.backOf field2.serve field2.step field3.allOf field3.waitingIn field3.wordFits field3.nodeFits field3.fits field4.valid field4.freshCells field4.setUp field4.stepAlone calls1.scheduleRefusal base2.many calls2.handTurn calls2.serveTurn calls2.round calls3.runBytes calls3.runRounds calls3.does calls3.after calls3.answers calls4.ifTaken calls4.handTurnSteps calls4.serveTurnSteps calls4.roundSteps calls4.stepsOf calls4.trail calls4.sendsOf calls4.wakesOne calls4.wokenIn
+unfolding dones refusals base1.upd base2.place base3.log2-to base3.log2 base4.then base4.loop base4.runs base4.loopTrace base4.runsTrace base5.every graph1.label graph1.joined graph1.connected message1.partsOf message1.msgOf message2.bare message2.listedAs message2.listed plan1.ascends plan1.inOrder plan1.linkVerdict plan1.linksRefusal plan1.planRefusal base7.beforeBy plan2.cost plan2.earlier node1.wakeOn node1.awake node1.doReport node1.testOn node1.changeRoot node1.countUp node1.absorb node1.coreEnd node1.onConnect node1.seek node1.onInitiate node1.onTest node1.childReport node1.coreReport node1.onReport node1.unlessAsleep node1.respondTo node2.earliest node2.number node2.onEach field0.isOwn field0.endOf field0.marksIn field1.newMarks field2.settle field2.wake field2.hand field2.backOf field2.serve field2.step field3.allOf field3.waitingIn field3.wordFits field3.nodeFits field3.fits field4.valid field4.freshCells field4.setUp field4.stepAlone calls1.scheduleRefusal base2.many calls2.handTurn calls2.serveTurn calls2.round calls3.runBytes calls3.runRounds calls3.does calls3.after calls3.answers calls4.ifTaken calls4.handTurnSteps calls4.serveTurnSteps calls4.roundSteps calls4.stepsOf calls4.trail flatMap calls4.sendsAt calls4.consumedAt calls4.wakesOne calls4.wokenIn
 samples = refl

@@ -1,21 +1,22 @@
 -- The steps that a list of calls takes, each with the state it was taken in; the messages sent and consumed and the modules woken in them.
 use Prim.Native.Nat.{ℕ, _*_}
 use mathlib.Core.Bool.{Bool, cond, not, _&&_, _||_}
-use mathlib.Core.List.{List, [], _∷_, _++_}
+use mathlib.Core.List.{List, [], _∷_, _++_, map, flatMap}
 use lib.ListN.{length, getD}
 use lib.Dec.{eqb}
 use Rattle.base.specs.Cond.{bit}
 use Rattle.base.specs.Loop.{loopTrace, runsTrace}
 use Rattle.base.specs.Pool.{sumL}
-use Rattle.format_message.specs.Header.{kindAt}
-use Rattle.format_word.specs.Word.{headerIn}
-use Rattle.plan.specs.Links.{Plan, modulesOf, linksOf}
-use Rattle.node.specs.Work.{ASLEEP, BACK}
+use Rattle.format_message.specs.Header.{kindAt, headerOf, carriedOf}
+use Rattle.format_word.specs.Word.{headerIn, carriedIn, linkIn}
+use Rattle.node.specs.Work.{Send, ASLEEP, BACK}
 use Rattle.field.specs.State.{State, nodeAt}
 use Rattle.field.specs.Step.{place, inAir, inQueue, wakeWork, serveWork, hand, serve, step}
 use Rattle.field.specs.Held.{Held, stateOf, valid}
 use Rattle.field_calls.specs.Schedule.{scheduleRefusal, stepsIn, kindOf, numberOf, stepAt, never}
 use Rattle.base.specs.Keep.{many}
+use Rattle.plan.specs.Links.{Plan, modulesOf, linksOf}
+use Rattle.field.specs.Edges.{endOf}
 use Rattle.field_calls.specs.Rounds.{handTurn, handPhase, serveTurn, round, atRest}
 use Rattle.field_calls.specs.Call.{Call, one, run, rounds, does}
 
@@ -60,23 +61,48 @@ trail (c ∷ cs) h = cond (valid h) (stepsOf (h .field .plan) c (stateOf h)) [] 
 abbrev pub servedWord : Plan → ℕ → State → ℕ
 servedWord p v s = getD (s .words) (place (inQueue p v) (s .words)) 0
 
+-- a message: the directed link that it goes by, its header byte and its carried number
+pub record Message : Type 0 where
+  pub link : ℕ
+  pub header : ℕ
+  pub carried : ℕ
+
+-- what module v sends; what a word carries, handed over or not
+abbrev pub sentBy : Plan → ℕ → Send → Message
+sentBy p v x = record { link = endOf p v (x .edge); header = headerOf (x .msg); carried = carriedOf (x .msg) }
+
+abbrev pub carriedBy : ℕ → Message
+carriedBy w = record { link = linkIn w; header = headerIn w; carried = carriedIn w }
+
+abbrev pub sameMessage : Message → Message → Bool
+sameMessage m n = eqb (m .link) (n .link) && eqb (m .header) (n .header) && eqb (m .carried) (n .carried)
+
+-- how often m is among them
+abbrev pub timesIn : Message → List Message → ℕ
+timesIn m l = sumL (λ n. bit (sameMessage m n)) l
+
+-- the sends of the response to a step
+unfoldable pub sendsAt : Plan → Taken → List Send
+sendsAt p t =
+    cond (eqb (t .kind) 1) (wakeWork p (t .number) (t .at) .sends)
+    (cond (eqb (t .kind) 3) (serveWork p (t .number) (servedWord p (t .number) (t .at)) (t .at) .sends) [])
+
 -- "Messages sent are the sends of the responses to the steps taken, in runs too; a put-back is no send."
-unfoldable pub sendsOf : Plan → Taken → ℕ
-sendsOf p t =
-    cond (eqb (t .kind) 1) (length (wakeWork p (t .number) (t .at) .sends))
-    (cond (eqb (t .kind) 3) (length (serveWork p (t .number) (servedWord p (t .number) (t .at)) (t .at) .sends)) 0)
+abbrev pub sentIn : Plan → List Taken → List Message
+sentIn p l = flatMap (λ t. map (sentBy p (t .number)) (sendsAt p t)) l
 
 abbrev pub messagesSent : Plan → List Taken → ℕ
-messagesSent p l = sumL (sendsOf p) l
+messagesSent p l = length (sentIn p l)
 
--- 1 for "a service that does not put it back"
-unfoldable pub consumes : Plan → Taken → ℕ
-consumes p t =
-    bit (eqb (t .kind) 3 && not (eqb (serveWork p (t .number) (servedWord p (t .number) (t .at)) (t .at) .answer) BACK))
+-- the word that a step consumes: the one taken by "a service that does not put it back", else none
+unfoldable pub consumedAt : Plan → Taken → List ℕ
+consumedAt p t =
+    let x = servedWord p (t .number) (t .at) in
+    cond (eqb (t .kind) 3 && not (eqb (serveWork p (t .number) x (t .at) .answer) BACK)) (x ∷ []) []
 
--- how many messages were consumed
-abbrev pub consumed : Plan → List Taken → ℕ
-consumed p l = sumL (consumes p) l
+-- the messages consumed
+abbrev pub consumedIn : Plan → List Taken → List Message
+consumedIn p l = map carriedBy (flatMap (consumedAt p) l)
 
 -- "A module is woken by a wake step that is taken, or by serving a Connect or Test asleep."
 abbrev pub connectOrTest : ℕ → Bool

@@ -23,12 +23,12 @@ use Rattle.field.specs.Step.{step}
 use Rattle.field.specs.Valid.{zeroAfter}
 use Rattle.field.specs.Held.{Held, stateOf, valid, freshCells, fresh-length, fresh, setUp}
 use Rattle.field_calls.specs.Call.{Call, does, after}
-use Rattle.field_calls.specs.Trail.{Taken, stepsOf, trail, ifTaken, consumed}
+use Rattle.field_calls.specs.Trail.{Taken, stepsOf, trail, ifTaken}
 use Rattle.field_laws.specs.Lists.{NodeOk, ok-fresh}
 use Rattle.field_laws.specs.Fits.{Fits, facts-fits}
 use Rattle.field_laws.specs.Keeps.{Sound, step-keeps}
 use Rattle.field_laws.specs.Trace.{onState, call-tells}
-use Rattle.field_laws.specs.Counts.{Counted, counted-waiting, counted-none, counted-more, step-counts}
+use Rattle.field_laws.specs.Counts.{Counted, counted-none, counted-more, step-counts}
 use Rattle.field_laws.specs.Laid.{waiting-zeros, zeros-all, Live, live-plan, live-sound, does-live, state-of-does, plan-of-does}
 
 -- ---- setup
@@ -123,19 +123,8 @@ module _ (p : Plan) (R : State → List Taken → State → Type 0) (none : (x :
       (list-tells cs h′ (does-live h i c) (plan-of-does h i c ∙ e))
 
 -- THE LAW of the counts, for every list of calls
-pub list-counts : (cs : List Call) (h : Held) → Live h → Counted (h .field .plan) (stateOf h) (trail cs h) (stateOf (after cs h))
-list-counts cs h i =
-    let p = h .field .plan in
-    list-tells p (Counted p) (counted-none p) (counted-more p) (step-counts p) cs h i refl
-
--- THE LAW of what waits, for every list of calls from a setup: "A message waits, in one word, from its send until a service that does not put it
--- back", so those that wait and those that were consumed are those that were sent
-pub waiting-sent : (p : Plan) (lent : List ℕ) → setUp p lent .answer ≡ 0 → (cs : List Call)
-    → length (stateOf (after cs (setUp p lent .state)) .words) + consumed p (trail cs (setUp p lent .state)) ≡ stateOf (after cs (setUp p lent .state)) .sent
-waiting-sent p lent z cs =
-    let s = started p lent z in
-    subst (λ h. length (stateOf (after cs h) .words) + consumed p (trail cs h) ≡ stateOf (after cs h) .sent) (sym (s .is))
-    (counted-waiting (list-counts cs _ (begun-live p lent (s .plan) (s .room))) (ap length (waiting-zeros (length lent))))
+pub list-counts : (p : Plan) (cs : List Call) (h : Held) → Live h → h .field .plan ≡ p → Counted p (stateOf h) (trail cs h) (stateOf (after cs h))
+list-counts p cs h i e = list-tells p (Counted p) (counted-none p) (counted-more p) (step-counts p) cs h i e
 
 -- an invariant of the steps from sound states
 module _ (p : Plan) (P : State → Type 0) (keeps : (kind number : ℕ) (s : State) → Sound p s → P s → P (step p kind number s .state)) where

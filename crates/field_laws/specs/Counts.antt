@@ -1,16 +1,16 @@
 -- "the sent count is exact": it grows by the sends of each step that is taken, and by nothing else. "A message waits, in one word, from its send
--- until a service that does not put it back": so waiting is sent less those services. A put-back is no send.
+-- until a service that does not put it back": the words that wait are those of the sends, without those that such services took.
 use Prim.Native.Nat.{ℕ, _+_}
 use native.Mathlib.Omega.{arith}
-use mathlib.Core.Path.{_≡_, refl, sym, ap, subst}
+use mathlib.Core.Path.{_≡_, refl, sym, ap, subst, _∙_}
 use mathlib.Core.Bool.{not, cond}
-use mathlib.Core.List.{List, [], _∷_, _++_}
-use lib.ListN.{length, length-append}
+use mathlib.Core.List.{List, [], _∷_, _++_, append-assoc, map, flatMap}
+use lib.ListN.{length, length-append, length-map}
 use lib.Dec.{eqb}
-use Rattle.base.specs.Cond.{bit, eqb-diff}
+use Rattle.base.specs.Cond.{eqb-diff}
 use Rattle.base.specs.Loop.{After}
 use Rattle.base.specs.LoopLaws.{by-test}
-use Rattle.base.specs.Pool.{sumL-app}
+use Rattle.base.specs.Pool.{sumL, sumL-app, sumL-out}
 use Rattle.base.specs.Keep.{first-out}
 use Rattle.format_word.specs.Word.{handOver}
 use Rattle.plan.specs.Links.{Plan}
@@ -18,77 +18,110 @@ use Rattle.node.specs.Work.{Work, BACK}
 use Rattle.field.specs.State.{State, posted}
 use Rattle.field.specs.Step.{wakeWork, serveWork, backOf, step}
 use Rattle.field_calls.specs.Call.{Call}
-use Rattle.field_calls.specs.Trail.{Taken, ifTaken, stepsOf, sendsOf, messagesSent, consumes, consumed}
+use Rattle.field_calls.specs.Trail.{Taken, ifTaken, stepsOf, sentBy, sendsAt, sentIn, messagesSent, consumedAt}
 use Rattle.field_laws.specs.Cases.{refusal-some, Outcome, took, kept, Step, wake-step, hand-step, serve-step, steps}
-use Rattle.field_laws.specs.Sends.{length-posted}
-use Rattle.field_laws.specs.Keeps.{out-length}
 use Rattle.field_laws.specs.Trace.{onState, call-tells}
+
+pub flat-app : {A B : Type 0} (f : A → List B) (l m : List A) → flatMap f (l ++ m) ≡ flatMap f l ++ flatMap f m
+unfolding flatMap
+flat-app f [] m = refl
+flat-app f (x ∷ l) m = ap (λ r. f x ++ r) (flat-app f l m) ∙ sym (append-assoc (f x) (flatMap f l) (flatMap f m))
+
+abbrev pub stepTaken : ℕ → ℕ → State → Taken
+stepTaken kind number s = record { kind = kind; number = number; at = s }
+
+-- the words of what the steps sent, and those that they consumed
+abbrev pub postedAt : Plan → Taken → List ℕ
+postedAt p t = posted p (t .number) (sendsAt p t)
+
+abbrev pub sentWords : Plan → List Taken → List ℕ
+sentWords p l = flatMap (postedAt p) l
+
+abbrev pub consumedWords : Plan → List Taken → List ℕ
+consumedWords p l = flatMap (consumedAt p) l
 
 -- from x the steps l were taken and left y
 pub record Counted (p : Plan) (x : State) (l : List Taken) (y : State) : Type 0 where
   pub sent : y .sent ≡ x .sent + messagesSent p l
-  pub waiting : length (y .words) + consumed p l ≡ length (x .words) + messagesSent p l
+  -- by any weight of words that a hand-over keeps: 1 gives their number, a test how many pass it
+  pub words : (f : ℕ → ℕ) → ((w : ℕ) → f (handOver w) ≡ f w) → sumL f (y .words) + sumL f (consumedWords p l) ≡ sumL f (x .words) + sumL f (sentWords p l)
 
 module _ (p : Plan) where
   pub counted-none : (x : State) → Counted p x [] x
-  counted-none x = record { sent = omega arith; waiting = omega arith }
+  unfolding flatMap
+  counted-none x = record { sent = omega arith; words = λ f k. omega arith }
 
   pub counted-more : (x y z : State) (l m : List Taken) → Counted p x l y → Counted p y m z → Counted p x (l ++ m) z
   counted-more x y z l m a b = record {
-    sent = omega (arith, a .sent, b .sent, sumL-app (sendsOf p) l m);
-    waiting = omega (arith, a .waiting, b .waiting, sumL-app (sendsOf p) l m, sumL-app (consumes p) l m);
+    sent =
+        omega (
+          arith,
+          a .sent,
+          b .sent,
+          ap length (flat-app (λ t. map (sentBy p (t .number)) (sendsAt p t)) l m) ∙ length-append (sentIn p l) (sentIn p m),
+        );
+    words = λ f k.
+        omega (
+          arith,
+          a .words f k,
+          b .words f k,
+          ap (sumL f) (flat-app (postedAt p) l m) ∙ sumL-app f (sentWords p l) (sentWords p m),
+          ap (sumL f) (flat-app (consumedAt p) l m) ∙ sumL-app f (consumedWords p l) (consumedWords p m),
+        );
   }
 
-  abbrev one-step : ℕ → ℕ → State → Taken
-  one-step kind number s = record { kind = kind; number = number; at = s }
+  -- one step: it adds the words of its sends, and takes the word that it consumes
+  counted-one : (x y : State) (t : Taken) → y .sent ≡ x .sent + length (sendsAt p t)
+      → ((f : ℕ → ℕ) → ((w : ℕ) → f (handOver w) ≡ f w) → sumL f (y .words) + sumL f (consumedAt p t) ≡ sumL f (x .words) + sumL f (postedAt p t))
+      → Counted p x (t ∷ []) y
+  unfolding flatMap
+  counted-one x y t n h = record {
+    sent = omega (arith, n, length-append (map (sentBy p (t .number)) (sendsAt p t)) [], length-map (sendsAt p t) (sentBy p (t .number)));
+    words = λ f k. omega (arith, h f k, sumL-app f (consumedAt p t) [], sumL-app f (postedAt p t) []);
+  }
 
-  back-length : (w : Work) (x : ℕ) → length (backOf w x) + bit (not (eqb (w .answer) BACK)) ≡ 1
+  -- a word is put back or consumed
+  back-or-gone : (f : ℕ → ℕ) (w : Work) (x : ℕ) → sumL f (backOf w x) + sumL f (cond (not (eqb (w .answer) BACK)) (x ∷ []) []) ≡ f x
   unfolding backOf
-  back-length w x = by-test (eqb (w .answer) BACK) (λ b. length (cond b (x ∷ []) []) + bit (not b) ≡ 1) refl refl
+  back-or-gone f w x = by-test (eqb (w .answer) BACK) (λ b. sumL f (cond b (x ∷ []) []) + sumL f (cond (not b) (x ∷ []) []) ≡ f x) (omega arith) (omega arith)
 
   -- THE LAW for one step
-  took-counts : (s : State) (kind number : ℕ) (s′ : State) → Step p s kind number s′ → Counted p s (one-step kind number s ∷ []) s′
-  unfolding sendsOf consumes
+  took-counts : (s : State) (kind number : ℕ) (s′ : State) → Step p s kind number s′ → Counted p s (stepTaken kind number s ∷ []) s′
+  unfolding sendsAt consumedAt
   took-counts s _ _ s′ (wake-step {v} h) =
-      let w = wakeWork p v s in
-      rw (h .responds .is)
-      (record {
-        sent = omega arith;
-        waiting = omega (arith, length-append (s .words ++ posted p v (w .sends)) [], length-append (s .words) (posted p v (w .sends)), length-posted p v (w .sends));
-      })
-  took-counts s _ _ s′ (hand-step h) = rw (h .is)
-      (record { sent = omega arith; waiting = omega (arith, length-append (h .rest) (handOver (h .word) ∷ []), out-length (first-out (h .first))) })
+      let new = posted p v (wakeWork p v s .sends) in
+      rw (h .responds .is) (counted-one s _ (stepTaken 1 v s) refl (λ f k. omega (arith, sumL-app f (s .words ++ new) [], sumL-app f (s .words) new)))
+  took-counts s _ _ s′ (hand-step {d} h) = rw (h .is)
+      (counted-one s _ (stepTaken 2 d s) (omega arith)
+      (λ f k. omega (arith, sumL-app f (h .rest) (handOver (h .word) ∷ []), sumL-out f (first-out (h .first)), k (h .word))))
   took-counts s _ _ s′ (serve-step {v} h) =
       let w = serveWork p v (h .word) s in
-      let q : sendsOf p (one-step 3 v s) ≡ length (w .sends) = ap (λ x. length (serveWork p v x s .sends)) (sym (h .at)) in
-      let c : consumes p (one-step 3 v s) ≡ bit (not (eqb (w .answer) BACK)) = ap (λ x. bit (not (eqb (serveWork p v x s .answer) BACK))) (sym (h .at)) in
-      subst (Counted p s (one-step 3 v s ∷ [])) (sym (h .responds .is))
-      (record {
-        sent = omega (arith, q);
-        waiting = omega (
-          arith,
-          q,
-          c,
-          length-append (h .rest ++ posted p v (w .sends)) (backOf w (h .word)),
-          length-append (h .rest) (posted p v (w .sends)),
-          length-posted p v (w .sends),
-          out-length (first-out (h .first)),
-          back-length w (h .word),
-        );
-      })
+      let t = stepTaken 3 v s in
+      let new = posted p v (w .sends) in
+      let q : sendsAt p t ≡ w .sends = ap (λ x. serveWork p v x s .sends) (sym (h .at)) in
+      let c : consumedAt p t ≡ cond (not (eqb (w .answer) BACK)) (h .word ∷ []) [] =
+      ap (λ x. cond (not (eqb (serveWork p v x s .answer) BACK)) (x ∷ []) []) (sym (h .at)) in
+      subst (Counted p s (t ∷ [])) (sym (h .responds .is))
+      (counted-one s _ t (ap (λ l. s .sent + length l) (sym q))
+      (λ f k.
+      omega (
+        arith,
+        ap (sumL f) c,
+        ap (λ l. sumL f (posted p v l)) q,
+        sumL-app f (h .rest ++ new) (backOf w (h .word)),
+        sumL-app f (h .rest) new,
+        sumL-out f (first-out (h .first)),
+        back-or-gone f w (h .word),
+      )))
 
   pub step-counts : (kind number : ℕ) (s : State) → Counted p s (ifTaken p kind number s) (step p kind number s .state)
   unfolding ifTaken
   step-counts kind number s = go (steps p s kind number)
     where
-      go : {a : After State} → Outcome s (Step p s kind number) a → Counted p s (cond (eqb (a .answer) 0) (one-step kind number s ∷ []) []) (a .state)
+      go : {a : After State} → Outcome s (Step p s kind number) a → Counted p s (cond (eqb (a .answer) 0) (stepTaken kind number s ∷ []) []) (a .state)
       go (took {s′} h) = took-counts s kind number s′ h
       go (kept r h) = rw (eqb-diff r 0 (refusal-some r h)) (counted-none s)
 
   -- THE LAW for every call
   pub call-counts : (c : Call) (s : State) → Counted p s (stepsOf p c s) (onState p c s .state)
   call-counts c s = call-tells p (Counted p) counted-none counted-more step-counts c s
-
--- where as many wait as were sent, it stays so but for what is consumed
-pub counted-waiting : {p : Plan} {x y : State} {l : List Taken} → Counted p x l y → length (x .words) ≡ x .sent → length (y .words) + consumed p l ≡ y .sent
-counted-waiting c e = omega (arith, c .sent, c .waiting, e)

@@ -13,24 +13,23 @@ use Rattle.base.specs.None.{none}
 use Rattle.base.specs.Test.{every, every-all, all-every}
 use Rattle.base.specs.Pool.{All, nil, con, All-map}
 use Rattle.format_message.specs.Msg.{Msg, connect, initiate, test, accept, reject, report, change}
-use Rattle.format_message.specs.Header.{partsOf, headerOf, carriedOf, levelAt}
+use Rattle.format_message.specs.Header.{partsOf, carriedOf, levelAt}
 use Rattle.format_message.specs.Listed.{Listed, listed}
 use Rattle.format_message.specs.Byte.{parts-of-byte}
-use Rattle.format_message.specs.Means.{Means, means, in-bits, header-lt}
+use Rattle.format_message.specs.Means.{Means, means, in-bits}
 use Rattle.format_word.specs.Word.{headerIn, carriedIn, linkIn, laidOut, shaped, handOver}
-use Rattle.format_word.specs.Laws.{unpacked, over, over-laid-out, packs-laid-out}
+use Rattle.format_word.specs.Laws.{over, over-laid-out, packs-laid-out}
 use Rattle.node.specs.declared.Node.{Node}
 use Rattle.node.specs.Work.{Own, Send, FOUND, REJECTED}
 use Rattle.field.specs.Edges as O
-use Rattle.field.specs.Edges.{isOwn, ownOf, limitOf, ceilingOf}
+use Rattle.field.specs.Edges.{isOwn, ownOf, limitOf, ceilingOf, endOf}
 use Rattle.field.specs.State.{State, nodeAt, msgIn, wordOf, posted}
 use Rattle.field.specs.Valid.{allOf, linkOrNone, ownOrNone, carriedFits, linkFits, levelFits, wordFits, valuesListed, levelWithin, countWithin, identityFits, nodeFits, markFits, fits}
 use Rattle.plan.specs.Accepted.{Accepted}
 use Rattle.plan.specs.Ceiling.{level-small}
 use Rattle.plan.specs.Links.{Plan, modulesOf, linksOf}
-use Rattle.field.specs.laws.Edges.{end-small}
 use Rattle.field_laws.specs.Places.{own-below, over-below}
-use Rattle.field_laws.specs.Sends.{Packs}
+use Rattle.field_laws.specs.Sends.{Packs, over-16, word-parts}
 use Rattle.field_laws.specs.Lists.{LinkOrNone, OwnOrNone, NodeOk, MsgOk, SendOk}
 
 pub record Fits (p : Plan) (s : State) : Type 0 where
@@ -232,10 +231,9 @@ module _ (p : Plan) (a : Accepted p) (v : ℕ) (x : Send) (h : SendOk (ownOf p v
       let m = x .msg in
       let d = O.endOf p v (x .edge) in
       let b = in-bits m (send-packs .listed) in
-      let small : d < 65536 = omega (arith, end-small p v (x .edge) (send-packs .small)) in
-      let u = unpacked (headerOf m) (carriedOf m) d 0 (omega (arith, header-lt m (send-packs .listed))) (b .carried) small (omega arith) in
+      let u = word-parts p v x send-packs in
       let q = parts-of-byte (partsOf m .kind) (partsOf m .level) (partsOf m .find) (b .kind) (b .level) (b .find) .1 in
-      all-four _ _ _ _ (packs-laid-out m d false (send-packs .listed) small)
+      all-four _ _ _ _ (packs-laid-out m d false (send-packs .listed) (over-16 p v x send-packs))
       (ap (linkOrNone p) (u .carried) ∙ none-link p v (carriedOf m) (carried-within (ownOf p v) (limitOf p) m (h .msg)))
       (ap (λ y. ltb y (2 * linksOf p)) (u .link) ∙ lt-ltb d (2 * linksOf p) (over-below p v (x .edge) (h .own)))
       (ap (λ y. leb (levelAt y) (limitOf p)) (u .header) ∙ ap (λ y. leb y (limitOf p)) q ∙ le-leb (partsOf m .level) (limitOf p) (level-within (ownOf p v) (limitOf p) m (h .msg)))

@@ -10,4 +10,5 @@ pub mod Trace
 pub mod Counts
 pub mod Laid
 pub mod After
+pub mod Messages
 pub mod Replay

@@ -1,23 +1,26 @@
 -- All sends of a response at once, in the words and in the channels.
-use Prim.Native.Nat.{ℕ, suc, _+_, _<_}
+use Prim.Native.Nat.{ℕ, suc, _<_}
 use native.Mathlib.Omega.{arith}
-use mathlib.Core.Path.{_≡_, refl, sym, ap, _∙_}
+use mathlib.Core.Path.{_≡_, refl, sym, ap, ap₂, _∙_}
 use mathlib.Core.Logic.{_≢_}
 use mathlib.Core.Bool.{true, false, cond}
-use mathlib.Core.List.{List, [], _∷_, _++_, append-assoc, append-nil}
+use mathlib.Core.List.{List, [], _∷_, _++_, append-assoc, append-nil, map}
 use lib.ListN.{length}
 use lib.Dec.{eqb}
 use Rattle.base.specs.Cond.{eqb-cases, eqb-same, eqb-diff}
 use Rattle.base.specs.Pool.{All, nil, con}
 use Rattle.format_message.specs.Msg.{Msg}
+use Rattle.format_message.specs.Header.{headerOf, carriedOf}
 use Rattle.format_message.specs.Listed.{Listed}
+use Rattle.format_message.specs.Means.{in-bits, header-lt}
 use Rattle.format_word.specs.Word.{Waiting, linkIn, handedIn}
-use Rattle.format_word.specs.Laws.{waiting-back}
+use Rattle.format_word.specs.Laws.{Unpacked, unpacked, waiting-back}
 use Rattle.plan.specs.Links.{Plan}
 use Rattle.field.specs.laws.Edges.{end-small}
 use Rattle.node.specs.Work.{Send}
 use Rattle.field.specs.Edges.{isOwn, from, endOf}
 use Rattle.field.specs.State.{msgIn, wordOf, posted}
+use Rattle.field_calls.specs.Trail.{Message, sentBy, carriedBy}
 use Rattle.field_laws.specs.Chan.{chan, chan-skip, chan-down}
 use Rattle.field_laws.specs.Places.{from-over}
 
@@ -26,6 +29,9 @@ pub record Packs (x : Send) : Type 0 where
   pub listed : Listed (x .msg)
   pub small : x .edge < 600
 
+pub same-message : {d e g h b c : ℕ} → d ≡ e → g ≡ h → b ≡ c → _≡_ {A = Message} (record { link = d; header = g; carried = b }) (record { link = e; header = h; carried = c })
+same-message i j k = cc
+
 module _ (p : Plan) (v : ℕ) where
   -- what a send's word says
   pub record Reads (x : Send) : Type 0 where
@@ -33,10 +39,22 @@ module _ (p : Plan) (v : ℕ) where
     pub link : linkIn (wordOf p v x) ≡ endOf p v (x .edge)
     pub handed : handedIn (wordOf p v x) ≡ false
 
+  pub over-16 : (x : Send) → Packs x → endOf p v (x .edge) < 65536
+  over-16 x h = omega (arith, end-small p v (x .edge) (h .small))
+
   pub reads : (x : Send) → Packs x → Reads x
   reads x h =
-      let e = waiting-back (x .msg) (endOf p v (x .edge)) false (h .listed) (omega (arith, end-small p v (x .edge) (h .small))) in
+      let e = waiting-back (x .msg) (endOf p v (x .edge)) false (h .listed) (over-16 x h) in
       record { msg = ap (λ (w : Waiting). w .msg) e; link = ap (λ (w : Waiting). w .link) e; handed = ap (λ (w : Waiting). w .handed) e }
+
+  -- the same by the word's parts
+  pub word-parts : (x : Send) → Packs x → Unpacked (headerOf (x .msg)) (carriedOf (x .msg)) (endOf p v (x .edge)) 0 (wordOf p v x)
+  word-parts x h = unpacked _ _ _ 0 (omega (arith, header-lt (x .msg) (h .listed))) (in-bits (x .msg) (h .listed) .carried) (over-16 x h) (omega arith)
+
+  -- so the words carry what v sends
+  pub posted-carry : {l : List Send} → All Packs l → map carriedBy (posted p v l) ≡ map (sentBy p v) l
+  posted-carry nil = refl
+  posted-carry (con {x} h t) = let u = word-parts x h in ap₂ _∷_ (same-message (u .link) (u .header) (u .carried)) (posted-carry t)
 
   -- the messages of these sends that go by directed link d
   unfoldable pub onto : ℕ → List Send → List Msg

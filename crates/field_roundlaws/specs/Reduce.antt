@@ -22,14 +22,13 @@ use Rattle.field.specs.Held.{Held, stateOf, fresh}
 use Rattle.field_calls.specs.Schedule.{scheduleRefusal, scheduleRun, lengthFits, kindListed, stepsIn, kindOf, numberOf, stepAt, never}
 use Rattle.field_calls.specs.Rounds.{roundsRun}
 use Rattle.field_calls.specs.Call.{Call, one, run, rounds, does, runRounds, after, answers}
-use Rattle.field_calls.specs.Trail.{trail}
 use Rattle.field_calls.specs.Demand.{TreeLink, Allowed, Agreed, Settles, Claim, Demand3}
 use Rattle.field_laws.specs.Cases.{Outcome, took, kept, steps}
 use Rattle.field_laws.specs.Keeps.{Sound, step-keeps}
 use Rattle.field_laws.specs.Trace.{onState, call-keeps}
-use Rattle.field_laws.specs.Counts.{Counted, counted-waiting}
-use Rattle.field_laws.specs.Laid.{Live, live-sound, does-live, does-state, state-of-does, plan-of-does, answer-of-does}
+use Rattle.field_laws.specs.Laid.{waiting-zeros, Live, live-sound, does-live, does-state, state-of-does, plan-of-does, answer-of-does}
 use Rattle.field_laws.specs.After.{started, begun-live, after-live, after-plan, list-counts, list-keeps}
+use Rattle.field_laws.specs.Messages.{times-conserved, number-conserved}
 use Rattle.field_roundlaws.specs.Progress.{Blocked}
 use Rattle.field_roundlaws.specs.Calm.{Calm}
 use Rattle.field_roundlaws.specs.Rest.{rested}
@@ -140,20 +139,21 @@ module _ (p : Plan) (a : Accepted p) (Good : State → Type 0) (proto : Protocol
         within = subst (λ n. n ≤ ceilingOf p + modulesOf p) (sym (ap (λ (x : Ran Held). x .done) (does-state h i (rounds limit)) ∙ ap (λ (x : Ran State). x .done) q)) (r .within);
       }
 
-  -- all of it, for a list of calls on a live field that is good and has sent nothing
-  claim : (h : Held) → Live h → h .field .plan ≡ p → Good (stateOf h) → stateOf h .sent ≡ 0 → (cs : List Call) → Claim p h cs
-  claim h i e g z cs =
+  -- all of it, for a list of calls on a live field that is good, has sent nothing and has nothing waiting
+  claim : (h : Held) → Live h → h .field .plan ≡ p → Good (stateOf h) → stateOf h .sent ≡ 0 → stateOf h .words ≡ [] → (cs : List Call) → Claim p h cs
+  claim h i e g z none cs =
       let h′ = after cs h in
       let i′ = after-live cs h i in
       let e′ : h′ .field .plan ≡ p = after-plan cs h i ∙ e in
       let g′ = list-keeps p Good (proto .keeps) cs h i e g in
       let s′ = sound-held h′ i′ e′ in
-      let c = subst (λ q. Counted q (stateOf h) (trail cs h) (stateOf h′)) e (list-counts cs h i) in
+      let c = list-counts p cs h i e in
       let w = list-wakes p a cs h i e in
       record {
         branches = proto .branches (stateOf h′) s′ g′;
         exact = c .sent ∙ omega (arith, z);
-        waiting = counted-waiting c (omega (arith, z, sound-held h i e .fits .waiting));
+        messages = times-conserved p a cs h i e none;
+        waiting = omega (arith, c .sent, z, number-conserved p a cs h i e none);
         ceiling = s′ .fits .ceiling;
         refusals = allowed cs h i e g;
         agreed = λ n r. let k = one-of n (w .woken) in proto .agreed (stateOf h′) s′ g′ (k .0) (k .1) r;
@@ -166,4 +166,4 @@ demand3-from proto p lent z cs =
     let s = started p lent z in
     let a = accepted p (s .plan) in
     let g = proto p a in
-    subst (λ h. Claim p h cs) (sym (s .is)) (claim p a (g .0) (g .1) _ (begun-live p lent (s .plan) (s .room)) refl (g .1 .start lent) refl cs)
+    subst (λ h. Claim p h cs) (sym (s .is)) (claim p a (g .0) (g .1) _ (begun-live p lent (s .plan) (s .room)) refl (g .1 .start lent) refl (waiting-zeros (length lent)) cs)
