@@ -20,7 +20,7 @@ use Rattle.node.specs.Work.{Work, ASLEEP, BACK, REFUSED}
 use Rattle.node.specs.Rules.{respond, wakes}
 use Rattle.field.specs.Edges.{ownOf, linkOf, from, limitOf, ceilingOf, marksIn}
 use Rattle.field.specs.State.{State, nodeAt, msgIn, placed}
-use Rattle.field.specs.Step.{inAir, inQueue, settle, wakeWork, wake, hand, serveWork, backOf, serve, step}
+use Rattle.field.specs.Step.{inAir, inQueue, carryOut, wakeWork, wake, hand, serveWork, backOf, serve, step}
 use Rattle.field_laws.specs.Chan.{queue-parts}
 use Rattle.field_laws.specs.Lists.{WorkOk}
 use Rattle.field_laws.specs.Fits.{word-link, word-shaped}
@@ -54,28 +54,28 @@ module _ (p : Plan) (a : Accepted p) (s : State) (i : Sound p s) (g : Good p a s
   done s′ h = record { good = h; no32 = λ e. omega arith; no33 = λ e. omega arith }
 
   -- a response that is not refused, for whose messages there is room
-  settled : (v : ℕ) (w : Work) (words back : List ℕ) → w .answer ≢ REFUSED → s .sent + length (w .sends) ≤ ceilingOf p
-      → Good p a (placed p v w s words back) → Fine p a (settle p v w s words back)
-  unfolding settle
-  settled v w words back n l h = rw (ne-eqb (w .answer) REFUSED n, le-ltb (ceilingOf p) (s .sent + length (w .sends)) l) (done _ h)
+  carried-out : (v : ℕ) (w : Work) (words back : List ℕ) → w .answer ≢ REFUSED → s .sent + length (w .sends) ≤ ceilingOf p
+      → Good p a (placed p v w s words back) → Fine p a (carryOut p v w s words back)
+  unfolding carryOut
+  carried-out v w words back n l h = rw (ne-eqb (w .answer) REFUSED n, le-ltb (ceilingOf p) (s .sent + length (w .sends)) l) (done _ h)
 
   -- ---- wake
 
-  woken : (v : ℕ) → v < modulesOf p → nodeAt s v .status ≡ ASLEEP → Fine p a (settle p v (wakeWork p v s) s (s .words) [])
+  woken : (v : ℕ) → v < modulesOf p → nodeAt s v .status ≡ ASLEEP → Fine p a (carryOut p v (wakeWork p v s) s (s .words) [])
   woken v l z =
       let w = wakeWork p v s in
       let f : R.After (net p a) (view p s) v 0 (s .sent) w =
       subst (λ r. R.After (net p a) r v 0 (s .sent) w) (g.is)
       (subst (R.After (net p a) (real g.at) v 0 (s .sent)) (rule-is p a s g v (λ o m. wakes o (nodeAt s v) m))
       (wake-after (g.reach) (g.idle) (node-shown p a s g v l) l (st-is (node-shown p a s g v l) ∙ z))) in
-      settled v w (s .words) [] (λ e. omega (arith, f.answer)) (after-fits f)
+      carried-out v w (s .words) [] (λ e. omega (arith, f.answer)) (after-fits f)
       (good-after p a s g f (placed p v w s (s .words) []) refl (view-woken p a v w (wake-ok p a s i v l) (bare p a s g f) l s (i .sized)))
 
   wake-fine : (v : ℕ) → Fine p a (wake p v s)
   unfolding wake
   wake-fine v = bool-cases (leb (modulesOf p) v)
       (λ b. rw b (other 41 (omega arith)))
-      (λ b. rw b (eqb-cases (nodeAt s v .status) ASLEEP (λ t. Fine p a (cond (not t) (refused 43 s) (settle p v (wakeWork p v s) s (s .words) [])))
+      (λ b. rw b (eqb-cases (nodeAt s v .status) ASLEEP (λ t. Fine p a (cond (not t) (refused 43 s) (carryOut p v (wakeWork p v s) s (s .words) [])))
       (λ e. woken v (leb-false _ _ b) e)
       (λ n. other 43 (omega arith))))
 
@@ -138,20 +138,20 @@ module _ (p : Plan) (a : Accepted p) (s : State) (i : Sound p s) (g : Good p a s
     unfolding backOf
     back-one e = rw (eq-eqb (w .answer) BACK e) refl
 
-    consumed : R.After (net p a) (toPop u k (chans p r u k) (view p s)) v 0 (s .sent) w → Fine p a (settle p v w s r (backOf w x))
+    consumed : R.After (net p a) (toPop u k (chans p r u k) (view p s)) v 0 (s .sent) w → Fine p a (carryOut p v w s r (backOf w x))
     consumed f =
-        subst (λ b. Fine p a (settle p v w s r b)) (sym (back-none (λ e. omega (arith, f.answer))))
-        (settled v w r [] (λ e. omega (arith, f.answer)) (after-fits f)
+        subst (λ b. Fine p a (carryOut p v w s r b)) (sym (back-none (λ e. omega (arith, f.answer))))
+        (carried-out v w r [] (λ e. omega (arith, f.answer)) (after-fits f)
         (good-after p a s g f (placed p v w s r []) refl (view-taken p a v w ok (bare p a s g f) l s (i .sized) x r o fits)))
 
     put-back : R.After (net p a) (toPop u k (ahead p v x r (w .sends) ++ (msgIn x ∷ behind p v x r (w .sends))) (view p s)) v 1 (s .sent) w
-        → Fine p a (settle p v w s r (backOf w x))
+        → Fine p a (carryOut p v w s r (backOf w x))
     put-back f =
-        subst (λ b. Fine p a (settle p v w s r b)) (sym (back-one (f.answer)))
-        (settled v w r (x ∷ []) (λ e. omega (arith, f.answer)) (after-fits f)
+        subst (λ b. Fine p a (carryOut p v w s r b)) (sym (back-one (f.answer)))
+        (carried-out v w r (x ∷ []) (λ e. omega (arith, f.answer)) (after-fits f)
         (good-after p a s g f (placed p v w s r (x ∷ [])) refl (view-back p a v w ok (bare p a s g f) l s (i .sized) x r o fits)))
 
-    served : Fine p a (settle p v w s r (backOf w x))
+    served : Fine p a (carryOut p v w s r (backOf w x))
     served = ⊎-elim
         (λ f. consumed (told 0 (chans p r u k) f))
         (λ t. put-back (told 1 _ (t .1 (ahead p v x r (w .sends)) (behind p v x r (w .sends)) (rest-cut p a v w ok x (s .words) r o fits))))

@@ -29,10 +29,10 @@ absent q l = leb (length l) (place q l)
 abbrev pub without : ℕ → List ℕ → List ℕ
 without i l = take i l ++ drop (suc i) l
 
--- Module v's response w is settled: refused by 32 or 33, or placed.
+-- Module v's response w is carried out: refused by 32 or 33, or placed.
 -- "32 ..; 33 sent would pass M": all sends of the response are counted
-unfoldable pub settle : Plan → ℕ → Work → State → List ℕ → List ℕ → After State
-settle p v w s words back =
+unfoldable pub carryOut : Plan → ℕ → Work → State → List ℕ → List ℕ → After State
+carryOut p v w s words back =
     cond (eqb (w .answer) REFUSED) (refused 32 s)
     (cond (ltb (ceilingOf p) (s .sent + length (w .sends))) (refused 33 s)
     (taken (placed p v w s words back)))
@@ -45,7 +45,7 @@ unfoldable pub wake : Plan → ℕ → State → After State
 wake p v s =
     cond (leb (modulesOf p) v) (refused 41 s)
     (cond (not (eqb (nodeAt s v .status) ASLEEP)) (refused 43 s)
-    (settle p v (wakeWork p v s) s (s .words) []))
+    (carryOut p v (wakeWork p v s) s (s .words) []))
 
 -- "A hand-over takes the first word of its directed link with bit 40 clear, sets it and moves it to the end."
 abbrev pub moved : ℕ → State → State
@@ -71,7 +71,7 @@ abbrev pub serveAt : Plan → ℕ → ℕ → State → After State
 serveAt p v i s =
     let x = getD (s .words) i 0 in
     let w = serveWork p v x s in
-    settle p v w s (without i (s .words)) (backOf w x)
+    carryOut p v w s (without i (s .words)) (backOf w x)
 
 -- "41 module not below N; .. 45 empty queue"
 unfoldable pub serve : Plan → ℕ → State → After State

@@ -1,3 +1,5 @@
 pub mod Words
 pub mod Degrees
 pub mod Outcomes
+pub mod Admitted
+pub mod Ready

@@ -3,11 +3,13 @@ mod items;
 
 use base::MAX_MODULES;
 use field::Cells;
+use field::Field;
 use field::Marks;
 use node::REJECTED;
 use plan::Plan;
 ghost use Prim.Native.Nat.{ℕ, _*_, _<_, _≤_};
 ghost use mathlib.Core.Path.{_≡_};
+ghost use mathlib.Core.Bool.{true};
 ghost use lib.ListN.{length, getD};
 ghost use lib.Dec.{eqb, leb};
 ghost use Rattle.base.specs.Test.{every};
@@ -19,6 +21,7 @@ ghost use Rattle.node.specs.Work.{REJECTED, degree};
 ghost use Rattle.field.specs.State.{nodeIn};
 ghost use Rattle.field.specs.Valid.{allOf, waitingIn, wordFits, nodeFits, fits};
 ghost use Rattle.field_check.specs.Checked.{checkOf, heldIn, stateIn};
+ghost use Rattle.field_check.specs.Ready.{Ready};
 
 // How many links each module has.
 type Degrees = [u16; MAX_MODULES as usize];
@@ -171,4 +174,23 @@ pub fn check<'a>(
     }
     let ok = state_fits(plan, cells, marks, sent, &lent[..n]);
     Checked { ok: ok, waiting: n }
+}
+
+// 31, "before all else", of a field that a host supplies: whether it passes, so that steps may follow, and how many words wait.
+pub fn admit(f: Field, lent: &[u64]) -> Checked
+    ensures { λ r. ⌜ (r ≡ checkOf (record { field = f; words = now (lent .entry) }))
+        × (r .ok ≡ true → Ready (f .plan) (f .cells) (f .marks) (now (lent .entry)) (r .waiting) (f .sent)) ⌝ }
+{
+    check(&f.plan, &f.cells, &f.marks, f.sent, lent)
+}
+
+// Field f with these cells, marks and sent count: put together again after its steps.
+pub fn rebuilt(f: Field, cells: Cells, marks: Marks, sent: u32) -> Field
+    ensures { λ r. ⌜ r ≡ record { plan = f .plan; cells = cells; marks = marks; sent = sent } ⌝ }
+{
+    let mut g = f;
+    g.cells = cells;
+    g.marks = marks;
+    g.sent = sent;
+    g
 }

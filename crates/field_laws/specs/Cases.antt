@@ -16,7 +16,7 @@ use Rattle.plan.specs.Links.{Plan, modulesOf, linksOf}
 use Rattle.node.specs.Work.{Work, ASLEEP, REFUSED}
 use Rattle.field.specs.Edges.{ceilingOf}
 use Rattle.field.specs.State.{State, nodeAt, placed}
-use Rattle.field.specs.Step.{inAir, inQueue, without, settle, wakeWork, wake, hand, serveWork, backOf, serve, step}
+use Rattle.field.specs.Step.{inAir, inQueue, without, carryOut, wakeWork, wake, hand, serveWork, backOf, serve, step}
 
 -- a response that was placed
 pub record Placed (p : Plan) (v : ℕ) (w : Work) (s : State) (words back : List ℕ) (s′ : State) : Type 0 where
@@ -62,17 +62,17 @@ pub data Outcome (s : State) (Took : State → Type 0) : After State → Type 0 
   kept : (r : ℕ) → Refusal r → Outcome s Took (refused r s)
 
 module _ (p : Plan) (v : ℕ) (w : Work) (s : State) (words back : List ℕ) where
-  pub settled : Outcome s (Placed p v w s words back) (settle p v w s words back)
-  unfolding settle
-  settled = eqb-cases (w .answer) REFUSED (λ b. Outcome s (Placed p v w s words back) (cond b (refused 32 s) (cond (ltb (ceilingOf p) (s .sent + length (w .sends))) (refused 33 s) (taken (placed p v w s words back)))))
+  pub carried-out : Outcome s (Placed p v w s words back) (carryOut p v w s words back)
+  unfolding carryOut
+  carried-out = eqb-cases (w .answer) REFUSED (λ b. Outcome s (Placed p v w s words back) (cond b (refused 32 s) (cond (ltb (ceilingOf p) (s .sent + length (w .sends))) (refused 33 s) (taken (placed p v w s words back)))))
       (λ e. kept 32 (inl refl))
       (λ n. ltb-cases (ceilingOf p) (s .sent + length (w .sends)) (λ b. Outcome s (Placed p v w s words back) (cond b (refused 33 s) (taken (placed p v w s words back))))
       (λ l. kept 33 (inr (inl refl)))
       (λ l. took (record { fine = n; room = l; is = refl })))
 
-  settled-answer : (settle p v w s words back .answer ≡ 0) ⊎ (settle p v w s words back .answer ≡ 32) ⊎ (settle p v w s words back .answer ≡ 33)
-  unfolding settle
-  settled-answer = bool-cases (eqb (w .answer) REFUSED) (λ e. rw e (inr (inl refl)))
+  carried-out-answer : (carryOut p v w s words back .answer ≡ 0) ⊎ (carryOut p v w s words back .answer ≡ 32) ⊎ (carryOut p v w s words back .answer ≡ 33)
+  unfolding carryOut
+  carried-out-answer = bool-cases (eqb (w .answer) REFUSED) (λ e. rw e (inr (inl refl)))
       (λ e. rw e (bool-cases (ltb (ceilingOf p) (s .sent + length (w .sends))) (λ b. rw b (inr (inr refl))) (λ b. rw b (inl refl))))
 
 -- the same outcome, told with more facts
@@ -85,8 +85,8 @@ module _ (p : Plan) (s : State) where
   unfolding wake
   wakes v = bool-cases (leb (modulesOf p) v)
       (λ b. rw b (kept 41 (usual 41 (omega arith) (omega arith))))
-      (λ b. rw b (eqb-cases (nodeAt s v .status) ASLEEP (λ t. Outcome s (Woke p v s) (cond (not t) (refused 43 s) (settle p v (wakeWork p v s) s (s .words) [])))
-      (λ e. outcome-map (λ s′ h. record { within = leb-false _ _ b; asleep = e; responds = h }) (settled p v (wakeWork p v s) s (s .words) []))
+      (λ b. rw b (eqb-cases (nodeAt s v .status) ASLEEP (λ t. Outcome s (Woke p v s) (cond (not t) (refused 43 s) (carryOut p v (wakeWork p v s) s (s .words) [])))
+      (λ e. outcome-map (λ s′ h. record { within = leb-false _ _ b; asleep = e; responds = h }) (carried-out p v (wakeWork p v s) s (s .words) []))
       (λ n. kept 43 (usual 43 (omega arith) (omega arith)))))
 
   pub hands : (d : ℕ) → Outcome s (Handed p d s) (hand p d s)
@@ -115,7 +115,7 @@ module _ (p : Plan) (s : State) where
         at = refl;
         responds = h;
       })
-      (settled p v w s (without i (s .words)) (backOf w x))))))
+      (carried-out p v w s (without i (s .words)) (backOf w x))))))
 
   -- a step of any kind
   pub data Step : ℕ → ℕ → State → Type 0 where
@@ -153,7 +153,7 @@ module _ (p : Plan) (s : State) where
       (let i = place (inQueue p v) (s .words) in
       let x = getD (s .words) i 0 in
       let w = serveWork p v x s in
-      fine (settled-answer p v w s (without i (s .words)) (backOf w x)))
+      fine (carried-out-answer p v w s (without i (s .words)) (backOf w x)))
     where
       fine : {r : ℕ} → (r ≡ 0) ⊎ (r ≡ 32) ⊎ (r ≡ 33) → r ≢ 32 → r ≢ 33 → r ≡ 0
       fine (inl e) a b = e

@@ -26,7 +26,7 @@ use Rattle.node.specs.Work.{before, earliest, number}
 use Rattle.node_edges.specs.Own.{isOwn, endIn, marksIn, marked, looked, counted}
 use Rattle.field.specs.Held.{Held, layout, stepAlone, valid}
 use Rattle.field.specs.State.{newMarks}
-use Rattle.field.specs.Step.{settle, backOf, serve, step}
+use Rattle.field.specs.Step.{carryOut, backOf, serve, step}
 use Rattle.field.specs.Valid.{allOf, waitingIn, wordFits, nodeFits, fits}
 
 -- what the definitions compute, and what document 01 says
@@ -118,6 +118,6 @@ unfolding
     treeBytes treeRefusal centralTree
     wakeOn awake onTest unlessAsleep respondTo before earliest number
     isOwn endIn marksIn marked looked counted
-    newMarks settle backOf serve step
+    newMarks carryOut backOf serve step
     allOf waitingIn wordFits nodeFits fits valid stepAlone
 starred = refl

@@ -8,6 +8,8 @@ use lib.ListN.{length}
 use lib.Dec.{eqb}
 use borrow.Author.Tests.{leb-true}
 use Rattle.plan.specs.Refusal.{planRefusal}
+use Rattle.base.specs.Limits.{maxEnds}
+use Rattle.plan.specs.Links.{planSize}
 use Rattle.field.specs.declared.Field.{Field}
 use Rattle.field.specs.Edges.{ceilingOf}
 use Rattle.field.specs.State.{CELLS}
@@ -16,18 +18,17 @@ use Rattle.field.specs.Held.{Held, layout, valid}
 use Rattle.field.specs.Held as H
 use Rattle.field_laws.specs.Keeps.{Sound}
 use Rattle.field_laws.specs.Laid.{Live, live-plan, live-sound, held-same}
 use Rattle.field_check.specs.declared.Checked.{Checked}
 use Rattle.field_check.specs.Checked.{checkOf}
 use Rattle.field_check.proofs.Words.{within}
-use Rattle.field_serve.specs.Lent.{Ready}
-use Rattle.field_admit.specs.Admitted.{waits, starts}
+use Rattle.field_check.specs.Ready.{Ready}
+use Rattle.field_check.proofs.Admitted.{waits, starts}
 
--- the arrays of a field hold 192 modules and 600 links
+-- the arrays of a field have room for every plan
 pub record Full (f : Field) : Type 0 where
-  pub lower : length (f .plan .lower) ≡ 600
-  pub higher : length (f .plan .higher) ≡ 600
+  pub plan : length (f .plan) ≡ planSize
   pub cells : length (f .cells) ≡ CELLS
-  pub marks : length (f .marks) ≡ 1200
+  pub marks : length (f .marks) ≡ maxEnds
 
 module _ (f : Field) (lent : List ℕ) (c : Checked) (full : Full f) (e : c ≡ checkOf (record { field = f; words = lent })) (ok : c .ok ≡ true) where
   abbrev h : Held
@@ -49,7 +50,7 @@ module _ (f : Field) (lent : List ℕ) (c : Checked) (full : Full f) (e : c ≡ 
   pub ready : Ready (f .plan) (f .cells) (f .marks) lent (c .waiting) (f .sent)
   ready = record {
     plan = live-plan h live;
-    columns = (full .lower, full .higher);
+    whole = full .plan;
     laid = record {
       within = within lent (c .waiting) (ap (λ (x : Checked). x .waiting) e);
       zeros = sym (ap (layout (length lent)) (waits f lent c e) ∙ ap (λ (x : Held). x .words) (held-same h live));

@@ -8,11 +8,11 @@ use borrow.Author.Tests.{not-true, not-false}
 use Rattle.field.specs.declared.Field.{Field}
 use Rattle.field.specs.Held.{Held, layout, heldOf, valid}
 use Rattle.field.specs.Held as H
 use Rattle.field_check.specs.declared.Checked.{Checked}
 use Rattle.field_check.specs.Checked.{checkOf}
 use Rattle.field_check.proofs.Words.{front}
 use Rattle.field_words.specs.Laid.{Laid}
-use Rattle.field_words.specs.Hands.{stateOf}
+use Rattle.field_words.specs.Hands.{lentState}
 
 module _ (f : Field) (lent : List ℕ) (c : Checked) (e : c ≡ checkOf (record { field = f; words = lent })) where
   abbrev h : Held
@@ -27,12 +27,12 @@ module _ (f : Field) (lent : List ℕ) (c : Checked) (e : c ≡ checkOf (record 
   pub waits : take (c .waiting) lent ≡ H.stateOf h .words
   waits = front lent (c .waiting) (ap (λ (x : Checked). x .waiting) e)
 
-  pub starts : stateOf (f .cells) (f .marks) lent (c .waiting) (f .sent) ≡ H.stateOf h
+  pub starts : lentState (f .cells) (f .marks) lent (c .waiting) (f .sent) ≡ H.stateOf h
   starts = ap (λ (w : List ℕ). record { cells = f .cells; marks = f .marks; words = w; sent = f .sent }) waits
 
 -- what the arrays hold, as what the host holds
 pub again : (f : Field) (lent cells marks words : List ℕ) (n sent : ℕ) → Laid words n → length words ≡ length lent
     → _≡_ {A = Held} (record { field = record { plan = f .plan; cells = cells; marks = marks; sent = sent }; words = words })
-    (heldOf (record { field = f; words = lent }) (stateOf cells marks words n sent))
+    (heldOf (record { field = f; words = lent }) (lentState cells marks words n sent))
 again f lent cells marks words n sent l k =
     ap (λ (w : List ℕ). record { field = record { plan = f .plan; cells = cells; marks = marks; sent = sent }; words = w }) (l .zeros ∙ ap (λ (m : ℕ). layout m (take n words)) k)
