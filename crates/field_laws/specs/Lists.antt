@@ -13,7 +13,7 @@ use Rattle.base.specs.Pool.{All, nil, All-app, All-one}
 use Rattle.format_message.specs.Msg.{Msg, none, connect, initiate, test, accept, reject, report, change}
 use Rattle.node.specs.declared.Node.{Node}
 use Rattle.node.specs.Work.{Own, Work, Send, ASLEEP, FIND, FOUND, BASIC, BRANCH, REJECTED, before, putBack, refused, send, setMark, withNode, setStatus, setBest, setTest, setCount, setHalted, earliest, number, onEach, anyEdge, basic, branches, degree}
-use Rattle.node.specs.Rules.{woken, wakeOn, wakeup, awake, doReport, testOn, doTest, changeRoot, countUp, joined, absorb, coreEnd, onConnect, copied, told, seek, onInitiate, strike, onTest, better, onAccept, childReport, coreReport, onReport, unlessAsleep, respondTo}
+use Rattle.node.specs.Rules.{woken, wakeOn, wakeup, awake, doReport, testOn, doTest, changeRoot, countUp, joinOver, absorb, coreEnd, onConnect, copied, told, seek, onInitiate, strike, onTest, better, onAccept, childReport, coreReport, onReport, unlessAsleep, respondTo}
 
 -- a link number or none; an own link or none
 abbrev pub LinkOrNone : Own → ℕ → Type 0
@@ -197,18 +197,18 @@ module _ (o : Own) (limit : ℕ) where
   -- ---- the responses, on an own edge j
 
   module _ (j : ℕ) (mine : o.own j ≡ true) (below : j < o.edges) where
-    ok-joined : (find : ℕ) (w : Work) → find < 2 → w .node .level ≢ 0 → WorkOk o limit w → WorkOk o limit (joined j find w)
-    ok-joined find w f z i = ok-send j _ _ mine (omega arith, i .node .level, link-is _ (i .node .identity) (i .node .named z), f) (ok-mark j BRANCH w (omega arith) i)
+    ok-join : (find : ℕ) (w : Work) → find < 2 → w .node .level ≢ 0 → WorkOk o limit w → WorkOk o limit (joinOver j find w)
+    ok-join find w f z i = ok-send j _ _ mine (omega arith, i .node .level, link-is _ (i .node .identity) (i .node .named z), f) (ok-mark j BRANCH w (omega arith) i)
 
     ok-connect : (l : ℕ) (w : Work) → WorkOk o limit w → WorkOk o limit (onConnect o limit l j w)
     unfolding onConnect absorb countUp coreEnd
     ok-connect l w i = ltb-cases l (w .node .level) (λ b. WorkOk o limit (cond b (absorb o j w) (cond (eqb (w .mark j) BASIC) (putBack w) (coreEnd limit j w))))
         (λ h. let z : w .node .level ≢ 0 = λ e. omega arith in
         ok-cond (eqb (w .node .status) FIND) _ _
-        (ltb-cases (degree o) (w .node .count + 1) (λ b. WorkOk o limit (cond b (refused (joined j 1 w)) (withNode (setCount (w .node .count + 1) (w .node)) (joined j 1 w))))
-        (λ x. ok-refused _ (ok-joined 1 w (omega arith) z i))
-        (λ x. ok-node _ _ (ok-count _ (w .node) x (i .node)) (ok-joined 1 w (omega arith) z i)))
-        (ok-joined 0 w (omega arith) z i))
+        (ltb-cases (degree o) (w .node .count + 1) (λ b. WorkOk o limit (cond b (refused (joinOver j 1 w)) (withNode (setCount (w .node .count + 1) (w .node)) (joinOver j 1 w))))
+        (λ x. ok-refused _ (ok-join 1 w (omega arith) z i))
+        (λ x. ok-node _ _ (ok-count _ (w .node) x (i .node)) (ok-join 1 w (omega arith) z i)))
+        (ok-join 0 w (omega arith) z i))
         (λ h. ok-cond (eqb (w .mark j) BASIC) _ _ (ok-back w i)
         (bool-cases (leb limit (w .node .level))
         (λ b. rw b (ok-refused w i))

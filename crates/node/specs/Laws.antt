@@ -8,7 +8,7 @@ use borrow.Author.Tests.{eq-eqb, ne-eqb, lt-ltb, le-ltb, le-leb, lt-leb}
 use Rattle.format_message.specs.Msg.{Msg, none, connect, initiate, test, accept, reject, report, change}
 use Rattle.node.specs.declared.Node.{Node}
 use Rattle.node.specs.Work.{Own, Work, ASLEEP, FIND, FOUND, BASIC, BRANCH, before, putBack, refused, send, setMark, withNode, setStatus, setTest, setCount, setHalted, number, branches, degree}
-use Rattle.node.specs.Rules.{woken, wakeOn, wakeup, awake, doReport, testOn, doTest, changeRoot, countUp, joined, absorb, coreEnd, onConnect, told, seek, onInitiate, strike, onTest, better, childReport, coreReport, onReport, unlessAsleep}
+use Rattle.node.specs.Rules.{woken, wakeOn, wakeup, awake, doReport, testOn, doTest, changeRoot, countUp, joinOver, absorb, coreEnd, onConnect, told, seek, onInitiate, strike, onTest, better, childReport, coreReport, onReport, unlessAsleep}
 
 -- (2) wakeup on its earliest edge m
 module _ (m : ℕ) (w : Work) where
@@ -89,11 +89,11 @@ module _ (o : Own) (c : ℕ) (w : Work) where
   count-rises h = simp (le-ltb _ _ h)
 
 module _ (o : Own) (j : ℕ) (w : Work) where
-  pub absorb-find : w .node .status ≡ FIND → absorb o j w ≡ countUp o (w .node .count + 1) (joined j 1 w)
+  pub absorb-find : w .node .status ≡ FIND → absorb o j w ≡ countUp o (w .node .count + 1) (joinOver j 1 w)
   unfolding absorb
   absorb-find h = simp (eq-eqb _ _ h)
 
-  pub absorb-found : w .node .status ≢ FIND → absorb o j w ≡ joined j 0 w
+  pub absorb-found : w .node .status ≢ FIND → absorb o j w ≡ joinOver j 0 w
   unfolding absorb
   absorb-found h = simp (ne-eqb _ _ h)
 

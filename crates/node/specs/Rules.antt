@@ -71,12 +71,12 @@ countUp o c w = cond (ltb (degree o) c) (refused w) (withNode (setCount c (w .no
 -- (3) Connect(L) on edge j, L < LN
 --       begin SE(j) ← Branch; send Initiate(LN, FN, SN) on edge j; if SN = Find then find-count ← find-count + 1 end
 -- "Raising find-count for a Connect absorbed while Found" is a trap.
-abbrev pub joined : ℕ → ℕ → Work → Work
-joined j find w = send j (initiate (w .node .level) (w .node .identity) find) (setMark j BRANCH w)
+abbrev pub joinOver : ℕ → ℕ → Work → Work
+joinOver j find w = send j (initiate (w .node .level) (w .node .identity) find) (setMark j BRANCH w)
 
 unfoldable pub absorb : Own → ℕ → Work → Work
 absorb o j w =
-    cond (eqb (w .node .status) FIND) (countUp o (w .node .count + 1) (joined j 1 w)) (joined j 0 w)
+    cond (eqb (w .node .status) FIND) (countUp o (w .node .count + 1) (joinOver j 1 w)) (joinOver j 0 w)
 
 --       else send Initiate(LN + 1, w(j), Find) on edge j
 -- 32: "an Initiate would exceed ⌊log2 N⌋": limit

@@ -7,7 +7,7 @@ use lib.Dec.{eqb, ltb}
 use Rattle.format_message.specs.Msg.{Msg, connect, initiate, test, accept, reject, report, change, none}
 use Rattle.node.specs.declared.Node.{Node}
 use Rattle.node.specs.Work.{Own, Send, Work, values, nodeBy, REFUSED}
-use Rattle.node.specs.Values.{listed}
+use Rattle.node.specs.Values.{tabled}
 use Rattle.node.specs.Rules.{respond}
 
 -- what a response gives: answer, the node's values, the marks by edge number, the sends as (edge, kind, level, carried, find)
@@ -29,8 +29,8 @@ pub record Row : Type 0 where
   pub msg : Msg
   pub want : Outcome
 
-abbrev pub ownOf : List ℕ → List ℕ → Own
-ownOf own ws =
+abbrev pub sampleOwn : List ℕ → List ℕ → Own
+sampleOwn own ws =
     record {
       edges = length own;
       own = λ k. eqb (getD own k 0) 1;
@@ -58,12 +58,12 @@ abbrev pub outcome : ℕ → Work → Outcome
 outcome n w =
     cond (eqb (w .answer) REFUSED)
     (record { answer = REFUSED; node = []; marks = []; sends = [] })
-    (record { answer = w .answer; node = values (w .node); marks = listed (w .mark) 0 n; sends = sendsOf (w .sends) })
+    (record { answer = w .answer; node = values (w .node); marks = tabled (w .mark) 0 n; sends = sendsOf (w .sends) })
 
 abbrev pub got : Row → Outcome
 got r =
     outcome (length (r .own))
-    (respond (ownOf (r .own) (r .weights)) (r .limit) (r .msg) (r .edge) (nodeOf (r .node)) (λ k. getD (r .marks) k 0))
+    (respond (sampleOwn (r .own) (r .weights)) (r .limit) (r .msg) (r .edge) (nodeOf (r .node)) (λ k. getD (r .marks) k 0))
 
 abbrev pub gots : List Row → List Outcome
 gots [] = []

@@ -4,6 +4,7 @@ use Prim.Native.Nat.{ℕ, zero, suc, _+_}
 use mathlib.Core.Bool.{Bool, true, false, not, cond, _&&_}
 use mathlib.Core.List.{List, [], _∷_, _++_}
 use lib.Dec.{eqb}
+use lib.ListN.{getD, set}
 use Rattle.base.specs.Cond.{bit, upd}
 use Rattle.base.specs.None.{beforeBy}
 use Rattle.format_message.specs.Msg.{Msg, none}
@@ -103,78 +104,47 @@ setMark k c w = record { answer = w .answer; node = w .node; mark = upd (w .mark
 abbrev pub withNode : Node → Work → Work
 withNode n w = record { answer = w .answer; node = n; mark = w .mark; sends = w .sends }
 
+-- value number j ← x
+abbrev pub setValue : ℕ → ℕ → Node → Node
+setValue j x n = nodeBy (λ i. getD (set (values n) j x) i 0)
+
+-- the numbers of the values that are set alone
+abbrev pub statusAt : ℕ
+statusAt = 0
+
+abbrev pub weightAt : ℕ
+weightAt = 3
+
+abbrev pub bestAt : ℕ
+bestAt = 4
+
+abbrev pub testAt : ℕ
+testAt = 5
+
+abbrev pub countAt : ℕ
+countAt = 7
+
+abbrev pub haltedAt : ℕ
+haltedAt = 8
+
+-- SN ← x
 abbrev pub setStatus : ℕ → Node → Node
-setStatus x n =
-    record {
-      status = x;
-      level = n .level;
-      identity = n .identity;
-      weight = n .weight;
-      best = n .best;
-      test = n .test;
-      branch = n .branch;
-      count = n .count;
-      halted = n .halted;
-    }
+setStatus = setValue statusAt
 
 -- best-edge ← e, best-wt ← x
 abbrev pub setBest : ℕ → ℕ → Node → Node
-setBest e x n =
-    record {
-      status = n .status;
-      level = n .level;
-      identity = n .identity;
-      weight = x;
-      best = e;
-      test = n .test;
-      branch = n .branch;
-      count = n .count;
-      halted = n .halted;
-    }
+setBest e x n = setValue bestAt e (setValue weightAt x n)
 
 -- test-edge ← x
 abbrev pub setTest : ℕ → Node → Node
-setTest x n =
-    record {
-      status = n .status;
-      level = n .level;
-      identity = n .identity;
-      weight = n .weight;
-      best = n .best;
-      test = x;
-      branch = n .branch;
-      count = n .count;
-      halted = n .halted;
-    }
+setTest = setValue testAt
 
 -- find-count ← x
 abbrev pub setCount : ℕ → Node → Node
-setCount x n =
-    record {
-      status = n .status;
-      level = n .level;
-      identity = n .identity;
-      weight = n .weight;
-      best = n .best;
-      test = n .test;
-      branch = n .branch;
-      count = x;
-      halted = n .halted;
-    }
+setCount = setValue countAt
 
 abbrev pub setHalted : ℕ → Node → Node
-setHalted x n =
-    record {
-      status = n .status;
-      level = n .level;
-      identity = n .identity;
-      weight = n .weight;
-      best = n .best;
-      test = n .test;
-      branch = n .branch;
-      count = n .count;
-      halted = x;
-    }
+setHalted = setValue haltedAt
 
 -- Of the own edges that pass test f, those numbered below n. A loop that has looked at edges 0 to n - 1 holds the value at n.
 

@@ -6,10 +6,10 @@ use mathlib.Core.Bool.{Bool, true, false, not, _&&_, _||_, false≢true}
 use lib.Dec.{eqb}
 use borrow.Author.Tests.{ltb-true, eqb-true, eq-eqb, ne-eqb, not-true}
 use Rattle.base.specs.Cond.{bool-cases}
+use Rattle.base.specs.Limits.{maxLinks}
 use Rattle.format_message.specs.Msg.{none, initiate}
 use Rattle.format_message.specs.Header.{msgOf}
 use Rattle.format_message.specs.Listed.{listedAs, isLink}
-use Rattle.base.specs.Limits.{maxLinks}
 use Rattle.node.specs.declared.Node.{Node}
 use Rattle.node.specs.Work.{Own, Work, ASLEEP, refused}
 use Rattle.node.specs.Rules.{awake, onConnect, onInitiate, onTest, onAccept, onReject, onReport, changeRoot, unlessAsleep, respondTo}
@@ -31,20 +31,20 @@ one-of true b h = inl refl
 one-of false b h = inr h
 
 module _ (level carried find : ℕ) where
-  pub test-level : listedAs 3 level carried find ≡ true → 0 < level
+  pub listed-level : listedAs 3 level carried find ≡ true → 0 < level
   unfolding listedAs
-  test-level h = ltb-true 0 level (left-of _ _ (left-of _ _ h))
+  listed-level h = ltb-true 0 level (left-of _ _ (left-of _ _ h))
 
-  pub report-weight : listedAs 6 level carried find ≡ true → (carried < maxLinks) ⊎ (carried ≡ none)
+  pub listed-weight : listedAs 6 level carried find ≡ true → (carried < maxLinks) ⊎ (carried ≡ none)
   unfolding listedAs
-  report-weight h = link (one-of (isLink carried) (eqb carried none) (right-of (eqb level 0 && eqb find 0) _ h))
+  listed-weight h = link (one-of (isLink carried) (eqb carried none) (right-of (eqb level 0 && eqb find 0) _ h))
     where
       link : (isLink carried ≡ true) ⊎ (eqb carried none ≡ true) → (carried < maxLinks) ⊎ (carried ≡ none)
       link (inl e) = inl (ltb-true carried maxLinks e)
       link (inr e) = inr (eqb-true carried none e)
 
-pub fresh : {a : Response} {n : Node} → a ≡ begun n → Fresh a
-fresh e = record { edge = ap (λ x. x .edge) e; copies = ap (λ x. x .copies) e; first = ap (λ x. x .first .edge) e; second = ap (λ x. x .second .edge) e }
+pub begun-fresh : {a : Response} {n : Node} → a ≡ begun n → Fresh a
+begun-fresh e = record { edge = ap (λ x. x .edge) e; copies = ap (λ x. x .copies) e; first = ap (λ x. x .first .edge) e; second = ap (λ x. x .second .edge) e }
 
 -- a sleeper refuses all but Connect and Test
 module _ (kind status : ℕ) where

@@ -15,7 +15,7 @@ use Rattle.node.specs.Laws.{initiate-find, seek-refused, seek-tests}
 use Rattle.node_edges.specs.Laws.{marked-none}
 use Rattle.node_response.specs.declared.Response.{Response}
 use Rattle.node_response.specs.Response.{workOf, Does}
-use Rattle.node_response.specs.Laws.{then, told-as, tells-all, sets-node}
+use Rattle.node_response.specs.Laws.{does-then, told-as, tells-all, sets-node}
 
 -- "for all i ≠ j such that SE(i) = Branch": the message on each, by rising edge number
 abbrev pub copiesIn : Own → ℕ → Msg → (ℕ → ℕ) → List Send
@@ -35,7 +35,7 @@ module _ (o : Own) (m : ℕ → ℕ) (a : Response) (clean : a .edge ≡ none) w
         → Does m (copiesIn o j (initiate l f find) m) (told o l f find j) a
         (record { answer = a .answer; node = informedAs status l f j (a .node); edge = a .edge; mark = a .mark; copies = 1; first = a .first; second = a .second })
     does-tell status e =
-        told-as (then (tells-all m _ _ (λ h. omega (arith, c)) x y) (sets-node m _ a (informedAs status l f j (a .node))))
+        told-as (does-then (tells-all m _ _ (λ h. omega (arith, c)) x y) (sets-node m _ a (informedAs status l f j (a .node))))
         (rw (marked-none m (a .edge) (a .mark) 0 clean, e))
 
     pub tell-found : find ≢ 1

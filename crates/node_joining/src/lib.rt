@@ -20,14 +20,14 @@ ghost use Rattle.format_message.specs.Msg.{initiate};
 ghost use Rattle.plan.specs.Links.{linksOf};
 ghost use Rattle.field.specs.Edges.{isOwn, ownOf, marksIn, limitOf};
 ghost use Rattle.node.specs.Work.{Send};
-ghost use Rattle.node.specs.Rules.{joined, absorb, coreEnd, onConnect, onInitiate};
+ghost use Rattle.node.specs.Rules.{joinOver, absorb, coreEnd, onConnect, onInitiate};
 ghost use Rattle.node_response.specs.Response.{Does};
 ghost use Rattle.node_joining.specs.Copies.{copiesIn};
 
 // Edge j becomes a branch and its other end is told, with the Find bit.
 fn join(j: u16, find: u8, a: Response) -> Response
     requires { ⌜ (j ≢ none) × (a .edge ≡ none) × (a .second .edge ≡ none) ⌝ }
-    ensures { λ r. ⌜ ((m : ℕ → ℕ) (cs : List Send) → Does m cs (joined j find) a r) ⌝ }
+    ensures { λ r. ⌜ ((m : ℕ → ℕ) (cs : List Send) → Does m cs (joinOver j find) a r) ⌝ }
 {
     let mut b = a;
     b.edge = j;

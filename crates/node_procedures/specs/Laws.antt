@@ -6,9 +6,9 @@ use Rattle.node.specs.Work.{Work}
 use Rattle.node.specs.Rules.{testOn, wakeOn}
 
 -- the other case
-pub other {ℓ κ} : {A : Type ℓ} {B : Type κ} → A ⊎ B → ¬ A → B
-other (inl a) n = absurd (n a)
-other (inr b) n = b
+pub other-case {ℓ κ} : {A : Type ℓ} {B : Type κ} → A ⊎ B → ¬ A → B
+other-case (inl a) n = absurd (n a)
+other-case (inr b) n = b
 
 -- a procedure on the edge that was found
 pub test-same : {k l : ℕ} (w : Work) → k ≡ l → testOn k w ≡ testOn l w

@@ -107,8 +107,8 @@ module _ (m : ℕ → ℕ) (cs : List Send) (a : Response) where
 
 -- one part after another
 module _ {m : ℕ → ℕ} {cs : List Send} {f g : Work → Work} {a b r : Response} where
-  pub then : Does m cs g b r → Does m cs f a b → Does m cs (λ w. g (f w)) a r
-  then q p = record { work = q .work ∙ ap g (p .work); formed = λ x. q .formed (p .formed x) }
+  pub does-then : Does m cs g b r → Does m cs f a b → Does m cs (λ w. g (f w)) a r
+  does-then q p = record { work = q .work ∙ ap g (p .work); formed = λ x. q .formed (p .formed x) }
 
 -- the same part, told otherwise
 module _ {m : ℕ → ℕ} {cs : List Send} {f g : Work → Work} {a r : Response} where
@@ -117,8 +117,8 @@ module _ {m : ℕ → ℕ} {cs : List Send} {f g : Work → Work} {a r : Respons
 
 -- nothing was done
 module _ (m : ℕ → ℕ) (cs : List Send) (a : Response) where
-  pub stays : (f : Work → Work) → f (workOf m cs a) ≡ workOf m cs a → Does m cs f a a
-  stays f e = record { work = sym e; formed = λ g. g }
+  pub does-nothing : (f : Work → Work) → f (workOf m cs a) ≡ workOf m cs a → Does m cs f a a
+  does-nothing f e = record { work = sym e; formed = λ g. g }
 
 -- the start
 module _ (m : ℕ → ℕ) (n : Node) where
@@ -132,5 +132,5 @@ module _ (m : ℕ → ℕ) (n : Node) where
 
 -- the end: a response from its start on
 module _ {m : ℕ → ℕ} {cs : List Send} {f : Work → Work} {a r : Response} {n : Node} where
-  pub done : a ≡ begun n → Does m cs f a r → (workOf m cs r ≡ f (start n m)) × Formed r
-  done e d = (d .work ∙ ap f (ap (workOf m cs) e ∙ begun-work m n cs), d .formed (rw e (begun-formed m n)))
+  pub from-begun : a ≡ begun n → Does m cs f a r → (workOf m cs r ≡ f (start n m)) × Formed r
+  from-begun e d = (d .work ∙ ap f (ap (workOf m cs) e ∙ begun-work m n cs), d .formed (rw e (begun-formed m n)))

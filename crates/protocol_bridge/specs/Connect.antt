@@ -11,7 +11,7 @@ use Rattle.base.specs.Log.{log2}
 use Rattle.format_message.specs.Msg.{Msg, connect, initiate}
 use Rattle.node.specs.Work.{Work, BRANCH, putBack, withNode, setMark, setCount, degree}
 use Rattle.node.specs.Work as W
-use Rattle.node.specs.Rules.{joined, countUp, onConnect}
+use Rattle.node.specs.Rules.{joinOver, countUp, onConnect}
 use Rattle.node.specs.Rules as N
 use Rattle.node.specs.Laws.{count-rises, absorb-find, absorb-found, core-answers, connect-absorbed, connect-waits, connect-core}
 use Rattle.protocol.specs.Prelude.{Network, State, Step, Blocked, pop-head, pop, absorbed}
@@ -36,7 +36,7 @@ module _ {p : Network} (keeps : Keeps p) {s : State} {r : Real} {u v k l : ℕ} 
       let c = s.fc v + 1 in
       let m = initiate (s.lev v) (s.id v) 1 in
       let fits : c ≤ degree o = omega (arith, count-le p v (keeps _ _ step sv.inv), upd-same s.fc v c) in
-      same (absorb-find o k w (sym (st-is sv.at) ∙ f) ∙ (ap (λ n. countUp o (n + 1) (joined k 1 w)) (sym (fc-is sv.at)) ∙ (count-rises o c (joined k 1 w) fits
+      same (absorb-find o k w (sym (st-is sv.at) ∙ f) ∙ (ap (λ n. countUp o (n + 1) (joinOver k 1 w)) (sym (fc-is sv.at)) ∙ (count-rises o c (joinOver k 1 w) fits
       ∙ ap₂ (λ n f. withNode (setCount c (w .node)) (W.send k (initiate n f 1) (setMark k BRANCH w))) (sym (lev-is sv.at)) (sym (id-is sv.at)))))
       (last step (one-more w k m) sv.idle sv.fresh (at-count (at-mark (at-send sv.at k m) k BRANCH) c))
 

@@ -1,17 +1,17 @@
 use borrow.Author.Needs.{needs}
 use mathlib.Core.List.{[]}
-use Rattle.node_response.specs.Laws.{done}
-use Rattle.node_dispatch.specs.Laws.{fresh}
+use Rattle.node_response.specs.Laws.{from-begun}
+use Rattle.node_dispatch.specs.Laws.{begun-fresh}
 use Rattle.node_dispatch.proofs.wakeup.Statement.{statement}
 use Rattle.node_dispatch.proofs.wakeup.Tie as tie
 
 wake-requires : tie.Need-wake-requires
 wake-requires c κs =
-    let f = fresh (c .begin .ensures) in
+    let f = begun-fresh (c .begin .ensures) in
     (c .before .pre, f .edge, f .first, f .second)
 
 returns : tie.Need-returns
-returns c = (λ cs. done (c .before .begin .ensures) (c .wake .ensures .0 _ cs) .0, done (c .before .begin .ensures) (c .wake .ensures .0 (λ k. 0) []) .1)
+returns c = (λ cs. from-begun (c .before .begin .ensures) (c .wake .ensures .0 _ cs) .0, from-begun (c .before .begin .ensures) (c .wake .ensures .0 (λ k. 0) []) .1)
 
 pub wakeup-spec : {M : Type 1} → statement M
 wakeup-spec = tie.close (tie.spec (λ c κs. search needs) wake-requires returns)

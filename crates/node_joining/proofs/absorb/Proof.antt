@@ -1,8 +1,8 @@
 use borrow.Author.Needs.{needs}
 use mathlib.Core.Path.{sym, _∙_}
 use native.Mathlib.Omega.{arith}
-use Rattle.node_response.specs.Laws.{told-as, then, sets-node}
 use Rattle.node.specs.Laws.{absorb-find, absorb-found, count-refused, count-rises}
+use Rattle.node_response.specs.Laws.{told-as, does-then, sets-node}
 use Rattle.node_joining.proofs.absorb.Statement.{statement}
 use Rattle.node_joining.proofs.absorb.Tie as tie
 
@@ -13,14 +13,14 @@ returns-2 : tie.Need-returns-2
 returns-2 c =
     let t = c .before .before in
     let d = t .before .before in
-    λ m cs. told-as (then (c .refuse .ensures m cs) (c .before .join2 .ensures m cs))
+    λ m cs. told-as (does-then (c .refuse .ensures m cs) (c .before .join2 .ensures m cs))
     (sym (absorb-find _ _ _ (d .before .if1 .left) ∙ count-refused _ _ _ (omega (arith, t .if2 .taken, d .degree .ensures .0))))
 
 returns-3 : tie.Need-returns-3
 returns-3 c =
     let t = c .before .before .before in
     let d = t .before .before in
-    λ m cs. told-as (then (c .join3 .ensures m cs) (sets-node m cs _ _))
+    λ m cs. told-as (does-then (c .join3 .ensures m cs) (sets-node m cs _ _))
     (sym (absorb-find _ _ _ (d .before .if1 .left) ∙ count-rises _ _ _ (omega (arith, t .if2 .left, d .degree .ensures .0))))
 
 pub absorb-spec : {M : Type 1} → statement M

@@ -1,8 +1,8 @@
 use borrow.Author.Needs.{needs}
 use mathlib.Core.Path.{sym, _∙_}
 use native.Mathlib.Omega.{arith}
-use Rattle.node_response.specs.Laws.{told-as, then, sets-node}
 use Rattle.node.specs.Laws.{initiate-found}
+use Rattle.node_response.specs.Laws.{told-as, does-then, sets-node}
 use Rattle.node_joining.specs.Copies.{tell-find, tell-found, initiate-refused, initiate-searches}
 use Rattle.node_joining.proofs.on_initiate.Statement.{statement}
 use Rattle.node_joining.proofs.on_initiate.Tie as tie
@@ -19,7 +19,7 @@ returns-2 c =
     let b = w2 .before in
     let e = b .before .before in
     let p = e .before .before .pre in
-    told-as (then (c .refuse .ensures _ _) (tell-find _ _ _ (p .1) _ _ _ _ (p .2) (p .3) (p .4) (e .if1 .left)))
+    told-as (does-then (c .refuse .ensures _ _) (tell-find _ _ _ (p .1) _ _ _ _ (p .2) (p .3) (p .4) (e .if1 .left)))
     (sym (initiate-refused _ _ _ _ _ _ _ _ _ _ _ (p .1) (e .if1 .left) (b .branches .ensures .0) (w3 .wide3 .ensures .0 ∙ w3 .before .degree .ensures .0)
     (omega (arith, w2 .wide2 .ensures .0, b .before .wide .ensures .0)) (c .before .if2 .taken)))
 
@@ -31,7 +31,7 @@ returns-3 c =
     let b = w2 .before in
     let e = b .before .before in
     let p = e .before .before .pre in
-    told-as (then (c .do-test .ensures _) (then (sets-node _ _ _ _) (tell-find _ _ _ (p .1) _ _ _ _ (p .2) (p .3) (p .4) (e .if1 .left))))
+    told-as (does-then (c .do-test .ensures _) (does-then (sets-node _ _ _ _) (tell-find _ _ _ (p .1) _ _ _ _ (p .2) (p .3) (p .4) (e .if1 .left))))
     (sym (initiate-searches _ _ _ _ _ _ _ _ _ _ _ (p .1) (e .if1 .left) (b .branches .ensures .0) (w3 .wide3 .ensures .0 ∙ w3 .before .degree .ensures .0)
     (omega (arith, w2 .wide2 .ensures .0, b .before .wide .ensures .0)) (t .if2 .left)))
 

@@ -1,16 +1,16 @@
 use borrow.Author.Needs.{needs}
 use mathlib.Core.Path.{sym}
-use Rattle.node_response.specs.Laws.{stays, told-as, then, sets-node}
 use Rattle.node.specs.Laws.{report-counts, report-tests, report-refused, report-sends}
 use Rattle.node.specs.Rules.{doReport}
+use Rattle.node_response.specs.Laws.{does-nothing, told-as, does-then, sets-node}
 use Rattle.node_procedures.proofs.do_report.Statement.{statement}
 use Rattle.node_procedures.proofs.do_report.Tie as tie
 
 returns : tie.Need-returns
-returns c = λ m cs. stays m cs _ doReport (report-counts _ (c .if1 .taken))
+returns c = λ m cs. does-nothing m cs _ doReport (report-counts _ (c .if1 .taken))
 
 returns-2 : tie.Need-returns-2
-returns-2 c = λ m cs. stays m cs _ doReport (report-tests _ (c .if2 .taken))
+returns-2 c = λ m cs. does-nothing m cs _ doReport (report-tests _ (c .if2 .taken))
 
 returns-3 : tie.Need-returns-3
 returns-3 c =
@@ -24,7 +24,7 @@ returns-4 c =
     let e3 = e4 .before in
     let e1 = e3 .before .before .before in
     λ m cs. told-as
-    (then (c .say .ensures m cs .does _ _ (c .before .a-report .ensures) (e4 .if3 .left)) (sets-node m cs _ _))
+    (does-then (c .say .ensures m cs .does _ _ (c .before .a-report .ensures) (e4 .if3 .left)) (sets-node m cs _ _))
     (sym (report-sends _ (e1 .if1 .left) (e3 .before .if2 .left) (e4 .if3 .left)))
 
 pub do-report-spec : {M : Type 1} → statement M

@@ -2,10 +2,10 @@ use Prim.Native.Nat.{ℕ}
 use borrow.Author.Needs.{needs}
 use mathlib.Core.List.{[]}
 use mathlib.Core.Path.{refl, sym, ap}
-use Rattle.node_response.specs.Laws.{told-as, then, sets-node, marks-edge}
 use Rattle.format_message.specs.Msg.{connect}
 use Rattle.node.specs.Laws.{wake-alone, wake-edge}
 use Rattle.node.specs.Work.{Work}
+use Rattle.node_response.specs.Laws.{told-as, does-then, sets-node, marks-edge}
 use Rattle.node_procedures.proofs.wake_on.Statement.{statement}
 use Rattle.node_procedures.proofs.wake_on.Tie as tie
 
@@ -17,7 +17,7 @@ returns-2 c =
     let e1 = c .before .before in
     let p = e1 .before .pre in
     let zeros : ℕ → ℕ = λ k. 0 in (
-      λ m cs. told-as (then (c .say .ensures m cs .does _ _ (c .before .a-connect .ensures) (e1 .if1 .left)) (then (marks-edge m cs _ _ _ (p .0) (e1 .if1 .left)) (sets-node m cs _ _)))
+      λ m cs. told-as (does-then (c .say .ensures m cs .does _ _ (c .before .a-connect .ensures) (e1 .if1 .left)) (does-then (marks-edge m cs _ _ _ (p .0) (e1 .if1 .left)) (sets-node m cs _ _)))
           (sym (wake-edge _ _ (e1 .if1 .left))),
       c .say .ensures zeros [] .room (p .1),
       ap (λ (w : Work). w .node .level) (c .say .ensures zeros [] .does (e1 .before .args .k) (connect 0) (c .before .a-connect .ensures) (e1 .if1 .left) .work),

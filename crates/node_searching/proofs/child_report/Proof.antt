@@ -1,9 +1,9 @@
 use borrow.Author.Needs.{needs}
 use mathlib.Core.Path.{sym, _∙_}
-use Rattle.node_response.specs.Response.{workOf}
-use Rattle.node_response.specs.Laws.{told-as, then, sets-node}
-use Rattle.node_searching.specs.Laws.{report-with}
 use Rattle.node.specs.Laws.{child-refused, child-reports}
+use Rattle.node_response.specs.Response.{workOf}
+use Rattle.node_response.specs.Laws.{told-as, does-then, sets-node}
+use Rattle.node_searching.specs.Laws.{report-with}
 use Rattle.node_searching.proofs.child_report.Statement.{statement}
 use Rattle.node_searching.proofs.child_report.Tie as tie
 
@@ -12,7 +12,7 @@ returns c = λ v m cs. told-as (c .refuse .ensures m cs) (sym (child-refused _ _
 
 returns-2 : tie.Need-returns-2
 returns-2 c =
-    λ v m cs. told-as (then (c .do-report .ensures m cs) (sets-node m cs _ _))
+    λ v m cs. told-as (does-then (c .do-report .ensures m cs) (sets-node m cs _ _))
     (report-with _ _ (workOf m cs (c .before .before .before .before .before .before .args .a)) (c .before .better .ensures) ∙ sym (child-reports _ _ _ _ (c .before .before .before .before .if1 .left)))
 
 pub child-report-spec : {M : Type 1} → statement M

@@ -2,12 +2,12 @@ use borrow.Author.Needs.{needs}
 use mathlib.Core.Logic.{⊎-elim}
 use mathlib.Core.Path.{sym, ap, _∙_}
 use native.Mathlib.Omega.{arith}
-use Rattle.node_response.specs.Laws.{told-as, then}
-use Rattle.node_response.specs.declared.Packet.{Packet}
+use Rattle.field.specs.laws.Edges.{own-below}
 use Rattle.node.specs.Laws.{test-waits, test-accepted, test-crossed, test-rejected}
+use Rattle.node_response.specs.Laws.{told-as, does-then}
+use Rattle.node_response.specs.declared.Packet.{Packet}
 use Rattle.node_searching.proofs.on_test.Statement.{statement}
 use Rattle.node_searching.proofs.on_test.Tie as tie
-use Rattle.field.specs.laws.Edges.{own-below}
 
 returns : tie.Need-returns
 returns c = λ cs. told-as (c .back .ensures _ cs) (sym (test-waits _ _ _ _ _ (c .before .if1 .taken)))
@@ -36,7 +36,7 @@ returns-3 : tie.Need-returns-3
 returns-3 c =
     let t = c .before in
     let s = t .before .before in
-    λ cs. told-as (then (c .do-test .ensures cs) (s .strike .ensures .0 cs))
+    λ cs. told-as (does-then (c .do-test .ensures cs) (s .strike .ensures .0 cs))
     (sym (test-crossed _ _ _ _ _ (s .before .before .before .before .if1 .left) (s .before .if2 .left) (t .if3 .taken)))
 
 say-requires-2 : tie.Need-say-requires-2
@@ -50,7 +50,7 @@ returns-4 c =
     let s = t .before .before in
     let e = s .before .before .before .before in
     let p = e .before .before .before .pre in
-    λ cs. told-as (then (c .say2 .ensures _ cs .does _ _ (c .before .a-reject .ensures) (λ h. omega (arith, own-below _ _ _ (p .1)))) (s .strike .ensures .0 cs))
+    λ cs. told-as (does-then (c .say2 .ensures _ cs .does _ _ (c .before .a-reject .ensures) (λ h. omega (arith, own-below _ _ _ (p .1)))) (s .strike .ensures .0 cs))
     (sym (test-rejected _ _ _ _ _ (e .if1 .left) (s .before .if2 .left) (t .if3 .left)))
 
 pub on-test-spec : {M : Type 1} → statement M

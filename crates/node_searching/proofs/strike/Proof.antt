@@ -4,12 +4,12 @@ use lib.Dec.{eqb}
 use mathlib.Core.Bool.{cond}
 use mathlib.Core.Path.{refl, ap, _∙_}
 use native.Mathlib.Omega.{arith}
-use Rattle.node_response.specs.Laws.{told-as, marks-edge}
+use Rattle.field.specs.laws.Edges.{own-below}
 use Rattle.node.specs.Work.{BASIC, REJECTED}
+use Rattle.node_response.specs.Laws.{told-as, marks-edge}
 use Rattle.node_searching.specs.Laws.{strike-with}
 use Rattle.node_searching.proofs.strike.Statement.{statement}
 use Rattle.node_searching.proofs.strike.Tie as tie
-use Rattle.field.specs.laws.Edges.{own-below}
 
 mark-of-requires : tie.Need-mark-of-requires
 mark-of-requires c κs = omega (arith, own-below _ _ _ (c .pre .1))
