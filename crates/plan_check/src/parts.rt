@@ -1,7 +1,7 @@
 // Whether the links join all modules: labels of parts, merged link by link.
 use plan::Plan;
 use plan_labels::LABELS;
-use plan_labels::Labels;
+use plan_labels::PartLabels;
 ghost use mathlib.Core.Path.{_≡_};
 ghost use Prim.Native.Nat.{ℕ, _<_, _≤_};
 ghost use lib.ListN.{getD};
@@ -12,7 +12,7 @@ ghost use Rattle.graph.specs.Decide.{connected};
 ghost use Rattle.plan.specs.Links.{modulesOf, linksOf, lowerOf, higherOf, graphOf};
 
 // Whether the first n labels are that of module 0.
-fn one_part(parts: &Labels, n: usize) -> bool
+fn one_part(parts: &PartLabels, n: usize) -> bool
     requires { ⌜ n ≤ maxModules ⌝ }
     ensures { λ r. ⌜ r ≡ every n (λ v. eqb (getD (now (parts .entry)) 0 0) (getD (now (parts .entry)) v 0)) ⌝ }
 {

@@ -1,4 +1,3 @@
 pub mod Head
-pub mod Columns
 pub mod Answers
 pub mod Stores

@@ -1,57 +1,54 @@
 -- What the stores of the writer leave.
-use Prim.Native.Nat.{ℕ, suc, _+_, _*_, _≤_, _<_}
+use Prim.Native.Nat.{ℕ, zero, suc, _+_, _*_, _≤_, _<_}
 use native.Mathlib.Omega.{arith}
-use native.Mathlib.Numerals.{add-one, unary-clauses}
+use native.Mathlib.Numerals.{add-one}
 use mathlib.Core.Path.{_≡_, refl, sym, ap, _∙_}
 use mathlib.Core.Logic.{_≢_}
-use borrow.Author.Tests.{lt-ltb, le-ltb, ne-eqb}
 use mathlib.Core.List.{List, [], _∷_, _++_}
-use lib.ListN.{length, set, drop}
+use lib.ListN.{length, getD, set, drop}
 use lib.Seq.{sets, sets-eq}
+use borrow.Author.Tests.{lt-ltb, le-ltb, ne-eqb}
+use Rattle.base.specs.Limits.{maxLinks}
 use Rattle.base.specs.Loop.{After, taken, answering}
 use Rattle.base.specs.Refuse.{answers-refused}
+use Rattle.base.specs.Table.{tabulate, length-tabulate}
 use Rattle.format_int16.specs.Int16.{put16}
 use Rattle.plan.specs.Accepted.{accepted}
+use Rattle.plan.specs.Links.{Plan, linksOf}
 use Rattle.plan.specs.Refusal.{planRefusal}
-use Rattle.plan.specs.declared.Plan.{Plan}
-use Rattle.plan_file.specs.Layout.{linkNumbers, linksNumbers, bytesOf, encode}
+use Rattle.plan_file.specs.Layout.{planNumbers, bytesOf, encode}
 use Rattle.plan_file.specs.Writing.{size, writeRefusal, writePlan}
-use Rattle.plan_file.specs.Lengths.{bytesOf-append, length-bytesOf, length-links, length-encode}
-
--- four integers, one after the other
-pub four : (s : List ℕ) (i : ℕ) {s₁ s₂ s₃ s₄ : List ℕ} (a b c d : ℕ) → s₁ ≡ put16 s i a → s₂ ≡ put16 s₁ (i + 2) b → s₃ ≡ put16 s₂ (i + 4) c → s₄ ≡ put16 s₃ (i + 6) d
-    → s₄ ≡ sets s i (bytesOf (a ∷ b ∷ c ∷ d ∷ []))
-unfolding bytesOf
-four s i a b c d e f g h = h ∙ rw (g, f, e) (simp unary-clauses)
-
--- the head
-pub front : (s : List ℕ) {s₁ s₂ s₃ : List ℕ} (a b c : ℕ) → s₁ ≡ put16 (set s 0 1) 1 a → s₂ ≡ put16 s₁ 3 b → s₃ ≡ put16 s₂ 5 c → s₃ ≡ sets s 0 (1 ∷ bytesOf (a ∷ b ∷ c ∷ []))
-unfolding bytesOf
-front s a b c e f g = g ∙ rw (f, e)
+use Rattle.plan_file.specs.Lengths.{bytesOf-append, length-bytesOf, length-encode}
 
 sets-append : (s : List ℕ) (i : ℕ) (xs ys : List ℕ) → sets s i (xs ++ ys) ≡ sets (sets s i xs) (i + length xs) ys
 sets-append s i [] ys = ap (λ n. sets s n ys) (let e : i ≡ i + 0 = omega arith in e)
 sets-append s i (x ∷ xs) ys = sets-append (set s i x) (suc i) xs ys ∙ ap (λ n. sets (sets (set s i x) (suc i) xs) n ys) (let e : suc i + length xs ≡ i + suc (length xs) = omega arith in e)
 
--- no link yet, one link more, all of them
-module _ (p : Plan) (s : List ℕ) where
-  pub put-start : s ≡ sets s 7 (bytesOf (linksNumbers p 0))
-  unfolding linksNumbers bytesOf
+tabulate-next : (n : ℕ) (f : ℕ → ℕ) → tabulate (suc n) f ≡ tabulate n f ++ (f n ∷ [])
+unfolding tabulate
+tabulate-next zero f = refl
+tabulate-next (suc n) f = ap (λ xs. f zero ∷ xs) (tabulate-next n (λ i. f (suc i)))
+
+-- no number yet, one more, all of them
+module _ (f : ℕ → ℕ) (s : List ℕ) where
+  pub put-start : s ≡ sets s 3 (bytesOf (tabulate 0 f))
+  unfolding tabulate bytesOf
   put-start = refl
 
-  pub put-turn : (t : List ℕ) (k : ℕ) → t ≡ sets s 7 (bytesOf (linksNumbers p k)) → sets t (7 + 8 * k) (bytesOf (linkNumbers p k)) ≡ sets s 7 (bytesOf (linksNumbers p (k + 1)))
-  unfolding linksNumbers
-  put-turn t k e = let links = linksNumbers p k in rw (e, add-one, bytesOf-append links (linkNumbers p k))
-      (sym (sets-append s 7 (bytesOf links) (bytesOf (linkNumbers p k))
-      ∙ ap (λ n. sets (sets s 7 (bytesOf links)) n (bytesOf (linkNumbers p k))) (let l : 7 + length (bytesOf links) ≡ 7 + 8 * k = omega (arith, length-bytesOf links, length-links p k) in l)))
+  pub put-turn : (t : List ℕ) (i : ℕ) → t ≡ sets s 3 (bytesOf (tabulate i f)) → put16 t (3 + 2 * i) (f i) ≡ sets s 3 (bytesOf (tabulate (i + 1) f))
+  unfolding bytesOf
+  put-turn t i e = let xs = bytesOf (tabulate i f) in rw (add-one (3 + 2 * i), add-one i, tabulate-next i f, bytesOf-append (tabulate i f) (f i ∷ []), e)
+      (sym (sets-append s 3 xs (bytesOf (f i ∷ []))
+      ∙ ap (λ n. sets (sets s 3 xs) n (bytesOf (f i ∷ []))) (let l : 3 + length xs ≡ 3 + 2 * i = omega (arith, length-bytesOf (tabulate i f), length-tabulate i f) in l)))
 
-  pub put-end : (t u : List ℕ) → t ≡ sets s 0 (1 ∷ bytesOf ((4 + 8 * p .links) ∷ p .modules ∷ p .links ∷ [])) → u ≡ sets t 7 (bytesOf (linksNumbers p (p .links))) → u ≡ sets s 0 (encode p)
-  unfolding encode bytesOf
-  put-end t u e f = f ∙ rw e (sym (sets-append s 0 (1 ∷ bytesOf ((4 + 8 * p .links) ∷ p .modules ∷ p .links ∷ [])) (bytesOf (linksNumbers p (p .links)))))
+pub put-end : (p : Plan) (s : List ℕ) (l : ℕ) {t u : List ℕ} → l ≡ linksOf p → t ≡ put16 (set s 0 1) 1 (4 + 8 * l)
+    → u ≡ sets t 3 (bytesOf (tabulate (planNumbers (linksOf p)) (λ i. getD p i 0))) → u ≡ sets s 0 (encode p)
+unfolding encode bytesOf
+put-end p s l q e f = f ∙ rw (e, q)
 
 -- THE OUTCOMES
 
-pub w-links : (p : Plan) (r : ℕ) → r ≡ planRefusal p → r ≡ 0 → p .links ≤ 600
+pub w-links : (p : Plan) (r : ℕ) → r ≡ planRefusal p → r ≡ 0 → linksOf p ≤ maxLinks
 w-links p r e z = accepted p (sym e ∙ z) .linksOk
 
 module _ (p : Plan) (s : List ℕ) (r : ℕ) (e : r ≡ planRefusal p) where

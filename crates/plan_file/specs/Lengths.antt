@@ -1,11 +1,12 @@
 -- How long the bytes of a plan are.
-use Prim.Native.Nat.{ℕ, zero, suc, _+_, _*_}
+use Prim.Native.Nat.{ℕ, _+_, _*_}
 use native.Mathlib.Omega.{arith}
 use mathlib.Core.Path.{_≡_, refl}
 use mathlib.Core.List.{List, [], _∷_, _++_}
-use lib.ListN.{length, length-append}
-use Rattle.plan.specs.declared.Plan.{Plan}
-use Rattle.plan_file.specs.Layout.{linksNumbers, bytesOf, encode}
+use lib.ListN.{length, getD}
+use Rattle.base.specs.Table.{length-tabulate}
+use Rattle.plan.specs.Links.{Plan, linksOf}
+use Rattle.plan_file.specs.Layout.{planNumbers, bytesOf, encode}
 
 pub bytesOf-append : (xs ys : List ℕ) → bytesOf (xs ++ ys) ≡ bytesOf xs ++ bytesOf ys
 unfolding bytesOf
@@ -17,11 +18,6 @@ unfolding bytesOf
 length-bytesOf [] = refl
 length-bytesOf (x ∷ xs) = rw (length-bytesOf xs) (omega arith)
 
-pub length-links : (p : Plan) (n : ℕ) → length (linksNumbers p n) ≡ 4 * n
-unfolding linksNumbers
-length-links p zero = refl
-length-links p (suc n) = simp length-append (omega (arith, length-links p n))
-
-pub length-encode : (p : Plan) → length (encode p) ≡ 7 + 8 * p .links
+pub length-encode : (p : Plan) → length (encode p) ≡ 7 + 8 * linksOf p
 unfolding encode
-length-encode p = simp length-bytesOf (omega (arith, length-links p (p .links)))
+length-encode p = simp length-bytesOf (omega (arith, length-tabulate (planNumbers (linksOf p)) (λ i. getD p i 0)))

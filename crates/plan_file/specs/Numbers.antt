@@ -41,3 +41,8 @@ pub bytes-of : (xs : List ℕ) → All (λ x. x < 65536) xs → Bytes (bytesOf x
 unfolding bytesOf
 bytes-of [] nil = nil
 bytes-of (x ∷ xs) (con l h) = con {x = x / 256} (omega arith) (con {x = x % 256} (omega arith) (bytes-of xs h))
+
+pub All-tabulate : {P : ℕ → Type 0} (n : ℕ) (f : ℕ → ℕ) → ((i : ℕ) → i < n → P (f i)) → All P (tabulate n f)
+unfolding tabulate
+All-tabulate zero f h = nil
+All-tabulate (suc n) f h = con (h zero (omega arith)) (All-tabulate n (λ i. f (suc i)) (λ i l. h (suc i) (omega arith)))

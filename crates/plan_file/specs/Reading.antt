@@ -7,7 +7,7 @@ use lib.Dec.{eqb, ltb}
 use lib.ListN.{length, getD}
 use Rattle.base.specs.Refuse.{orElse, first}
 use Rattle.plan.specs.Refusal.{countsRefusal, planRefusal}
-use Rattle.plan.specs.Links.{planOf}
+use Rattle.plan.specs.Links.{Plan}
 use Rattle.plan_file.specs.declared.Outcome.{Outcome}
 use Rattle.plan_file.specs.Layout.{number, decode, blank}
 
@@ -28,7 +28,7 @@ readRefusal s = first (headRefusal s) (planRefusal (decode s))
 unfoldable pub readPlan : List ℕ → Outcome
 readPlan s = cond (eqb (readRefusal s) 0) (record { refusal = 0; plan = decode s }) (record { refusal = readRefusal s; plan = blank })
 
--- the check's answer with the columns it leaves: those of the plan that is taken
-pub record Loaded (s : List ℕ) (answer : ℕ) (lower higher near far : List ℕ) : Type 0 where
+-- the check's answer, with the plan that it leaves where the bytes are taken
+pub record Loaded (s : List ℕ) (answer : ℕ) (plan : Plan) : Type 0 where
   pub right : answer ≡ readRefusal s
-  pub loaded : answer ≡ 0 → planOf (number s 1) (number s 2) lower higher near far ≡ decode s
+  pub loaded : answer ≡ 0 → plan ≡ decode s

@@ -1,90 +1,73 @@
 -- Written and read, read and written: each gives back what went in. The reader takes exactly the written plans.
 use Prim.Native.Nat.{ℕ, zero, suc, _+_, _*_, _/_, _%_, _-_, _≤_, _<_}
 use native.Mathlib.Omega.{arith}
-use native.Mathlib.Nat.{not-suc-le-zero}
-use mathlib.Core.Path.{_≡_, refl, sym, ap, subst, ap₂, _∙_}
+use mathlib.Core.Path.{_≡_, refl, sym, ap, ap₂, _∙_}
 use mathlib.Core.Bool.{Bool, cond}
 use mathlib.Core.List.{List, [], _∷_, _++_}
-use lib.ListN.{length, getD, take, drop, List·getD-append}
-use lib.Seq.{getD-append-add, take-append-seam}
+use lib.ListN.{length, getD, take, drop}
+use lib.Seq.{take-append-seam}
 use borrow.Author.Tests.{le-ltb}
 use Rattle.base.specs.Cond.{eqb-cases}
+use Rattle.base.specs.Limits.{maxLinks}
 use Rattle.base.specs.Loop.{After, taken}
 use Rattle.base.specs.Refuse.{fine-first, first-fine, answers-taken}
-use Rattle.base.specs.Pool.{All, nil, con, All-app}
-use Rattle.base.specs.Search.{lt-suc-cases}
-use Rattle.base.specs.Table.{tabulate, tabulated, tabulate-ext, getD-tabulate, upto, upto-in, upto-same}
-use Rattle.plan.specs.declared.Plan.{Plan}
+use Rattle.base.specs.Pool.{con}
+use Rattle.base.specs.Table.{tabulate, length-tabulate, tabulate-ext, getD-tabulate, upto, upto-in, upto-same}
+use Rattle.plan.specs.Links.{Plan, linksOf}
 use Rattle.plan.specs.Refusal.{planRefusal}
-use Rattle.plan.specs.Accepted.{Accepted, LinkOk, accepted}
+use Rattle.plan.specs.Accepted.{Accepted, accepted}
 use Rattle.plan.specs.Same.{Same, same-taken}
 use Rattle.plan_file.specs.declared.Outcome.{Outcome}
-use Rattle.plan_file.specs.Layout.{linkNumbers, linksNumbers, bytesOf, encode, number, column, decode, trim, trimmed, blank}
-use Rattle.plan_file.specs.Lengths.{length-links, length-encode}
+use Rattle.plan_file.specs.Layout.{planNumbers, bytesOf, encode, number, padded, decode, trimmed, blank}
+use Rattle.plan_file.specs.Lengths.{length-encode}
 use Rattle.plan_file.specs.Reading.{headRefusal, readRefusal, readPlan}
 use Rattle.plan_file.specs.Writing.{size, writeRefusal, writePlan}
 use Rattle.plan_file.specs.Head.{HeadOk, head-ok, ok-head}
-use Rattle.plan_file.specs.Numbers.{Bytes, number-of, bytes-numbers, bytes-of}
+use Rattle.plan_file.specs.Numbers.{Bytes, number-of, bytes-numbers, bytes-of, All-tabulate}
 
--- number j of link k
-links-at : (p : Plan) (n k j : ℕ) → k < n → j < 4 → getD (linksNumbers p n) (4 * k + j) 0 ≡ getD (linkNumbers p k) j 0
-unfolding linksNumbers
-links-at p zero k j l m = absurd (not-suc-le-zero l)
-links-at p (suc n) k j l m = lt-suc-cases k n l
-    (λ e. subst (λ i. getD (linksNumbers p n ++ linkNumbers p n) (4 * i + j) 0 ≡ getD (linkNumbers p i) j 0) (sym e)
-    (ap (λ i. getD (linksNumbers p n ++ linkNumbers p n) (i + j) 0) (sym (length-links p n)) ∙ getD-append-add (linksNumbers p n) (linkNumbers p n) j 0))
-    (λ h. List·getD-append (linksNumbers p n) (linkNumbers p n) 0 (4 * k + j) (omega (arith, length-links p n)) ∙ links-at p n k j h m)
+-- number i of a plan value that is padded
+padded-at : (n : ℕ) (f : ℕ → ℕ) (i : ℕ) → i < n → n ≤ planNumbers maxLinks → getD (padded n f) i 0 ≡ f i
+unfolding padded
+padded-at n f i l m = getD-tabulate (planNumbers maxLinks) (upto n f (λ j. 0)) i (omega arith) ∙ upto-in n f (λ j. 0) i l
 
 -- WRITTEN, THEN READ
 
 module _ (p : Plan) where
-  number-encode : (i : ℕ) → i < 3 + 4 * p .links → number (encode p) i ≡ getD ((4 + 8 * p .links) ∷ p .modules ∷ p .links ∷ linksNumbers p (p .links)) i 0
+  abbrev ownNumbers : List ℕ
+  ownNumbers = tabulate (planNumbers (linksOf p)) (λ i. getD p i 0)
+
+  number-encode : (i : ℕ) → i < planNumbers (linksOf p) → number (encode p) (suc i) ≡ getD p i 0
   unfolding encode
-  number-encode i l = number-of 1 ((4 + 8 * p .links) ∷ p .modules ∷ p .links ∷ linksNumbers p (p .links)) i (omega (arith, length-links p (p .links)))
-
-  link-encode : (k j : ℕ) → k < p .links → j < 4 → number (encode p) (3 + 4 * k + j) ≡ getD (linkNumbers p k) j 0
-  link-encode k j l m = number-encode (3 + 4 * k + j) (omega arith)
-      ∙ ap (λ i. getD ((4 + 8 * p .links) ∷ p .modules ∷ p .links ∷ linksNumbers p (p .links)) i 0) (let e : 3 + 4 * k + j ≡ suc (suc (suc (4 * k + j))) = omega arith in e)
-      ∙ links-at p (p .links) k j l m
-
-  column-encode : (j : ℕ) (c : List ℕ) → j < 4 → ((k : ℕ) → getD (linkNumbers p k) j 0 ≡ getD c k 0) → column (encode p) (p .links) j ≡ trim (p .links) c
-  unfolding column trim
-  column-encode j c m h = tabulate-ext 600 (upto (p .links) (λ k. number (encode p) (3 + 4 * k + j)) (λ k. 0)) (upto (p .links) (λ k. getD c k 0) (λ k. 0))
-      (λ i l. upto-same (p .links) (λ k. number (encode p) (3 + 4 * k + j)) (λ k. getD c k 0) (λ k. 0) (λ k lk. link-encode k j lk m ∙ h k) i)
+  number-encode i l = number-of 1 ((4 + 8 * linksOf p) ∷ ownNumbers) (suc i) (omega (arith, length-tabulate (planNumbers (linksOf p)) (λ i. getD p i 0)))
+      ∙ getD-tabulate (planNumbers (linksOf p)) (λ i. getD p i 0) i l
 
   decode-encode : decode (encode p) ≡ trimmed p
-  unfolding decode trimmed
-  decode-encode = rw (
-    number-encode 1 (omega arith),
-    number-encode 2 (omega arith),
-    column-encode 0 (p .lower) (omega arith) (λ k. refl),
-    column-encode 1 (p .higher) (omega arith) (λ k. refl),
-    column-encode 2 (p .near) (omega arith) (λ k. refl),
-    column-encode 3 (p .far) (omega arith) (λ k. refl),
-  )
+  unfolding decode trimmed padded
+  decode-encode = rw (number-encode 1 (omega arith))
+      (tabulate-ext (planNumbers maxLinks) _ _ (λ i l. upto-same (planNumbers (linksOf p)) (λ i. number (encode p) (suc i)) (λ i. getD p i 0) (λ i. 0) number-encode i))
 
-  -- its entries below L are the plan's
-  pub trimmed-same : p .links ≤ 600 → Same p (trimmed p)
-  unfolding trimmed trim
+  -- its numbers below L are the plan's
+  pub trimmed-same : linksOf p ≤ maxLinks → Same p (trimmed p)
+  unfolding trimmed
   trimmed-same h = record {
-    modules = refl;
-    links = refl;
-    lows = λ k l. sym (entry (p .lower) k l);
-    highs = λ k l. sym (entry (p .higher) k l);
-    nears = λ k l. sym (entry (p .near) k l);
-    fars = λ k l. sym (entry (p .far) k l);
+    modules = entry 0 (omega arith);
+    links = entry 1 (omega arith);
+    lows = λ k l. entry (2 + 4 * k) (omega arith);
+    highs = λ k l. entry (3 + 4 * k) (omega arith);
+    nears = λ k l. entry (4 + 4 * k) (omega arith);
+    fars = λ k l. entry (5 + 4 * k) (omega arith);
   }
     where
-      entry : (c : List ℕ) (k : ℕ) → k < p .links → getD (trim (p .links) c) k 0 ≡ getD c k 0
-      entry c k l = getD-tabulate 600 (upto (p .links) (λ i. getD c i 0) (λ i. 0)) k (omega arith) ∙ upto-in (p .links) (λ i. getD c i 0) (λ i. 0) k l
+      entry : (i : ℕ) → i < planNumbers (linksOf p) → getD p i 0 ≡ getD (trimmed p) i 0
+      entry i l = sym (padded-at (planNumbers (linksOf p)) (λ j. getD p j 0) i l (omega arith))
 
   encode-head : Accepted p → HeadOk (encode p)
   unfolding encode bytesOf
   encode-head a = record {
     version = refl;
-    len = number-encode 0 (omega arith) ∙ rw (number-encode 2 (omega arith));
-    size = length-encode p ∙ rw (number-encode 2 (omega arith));
-    counts = rw (number-encode 1 (omega arith), number-encode 2 (omega arith)) (record { someone = a .someone; modulesOk = a .modulesOk; linksOk = a .linksOk });
+    len = number-of 1 ((4 + 8 * linksOf p) ∷ ownNumbers) 0 (omega arith) ∙ rw (number-encode 1 (omega arith));
+    size = length-encode p ∙ rw (number-encode 1 (omega arith));
+    counts = rw (number-encode 0 (omega arith), number-encode 1 (omega arith)) (record { someone = a .someone; modulesOk = a .modulesOk; linksOk = a .linksOk });
   }
 
   pub written-taken : planRefusal p ≡ 0 → readRefusal (encode p) ≡ 0
@@ -110,21 +93,24 @@ module _ (p : Plan) where
   pub left-read : (t : List ℕ) → writePlan p t .answer ≡ 0 → readPlan (take (size p) (writePlan p t .state)) ≡ record { refusal = 0; plan = trimmed p }
   left-read t e = ap readPlan (front t e) ∙ written-read (write-answered t e .0)
 
-  links-fit : (n : ℕ) → ((k : ℕ) → k < n → LinkOk p k) → p .modules ≤ 192 → All (λ x. x < 65536) (linksNumbers p n)
-  unfolding linksNumbers
-  links-fit zero h m = nil
-  links-fit (suc n) h m =
-      let o = h n (omega arith) in
-      All-app (links-fit n (λ k l. h k (omega arith)) m)
-      (con (omega (arith, o .ordered, o .inside)) (con (omega (arith, o .inside)) (con (omega (arith, o .nearOk)) (con (omega (arith, o .farOk)) nil))))
+  -- an accepted plan's numbers are of 16 bits
+  numbers-fit : Accepted p → (i : ℕ) → i < planNumbers (linksOf p) → getD p i 0 < 65536
+  numbers-fit a zero l = omega (arith, a .modulesOk)
+  numbers-fit a (suc zero) l = omega (arith, a .linksOk)
+  numbers-fit a (suc (suc i)) l = link (suc (suc i)) (i / 4) (i % 4) (omega arith) (omega arith) (omega arith)
+    where
+      link : (i k j : ℕ) → k < linksOf p → j < 4 → i ≡ 2 + 4 * k + j → getD p i 0 < 65536
+      link i k zero l m e = let o = a .each k l in rw (let q : i ≡ 2 + 4 * k = omega arith in q) (omega (arith, o .ordered, o .inside, a .modulesOk))
+      link i k (suc zero) l m e = let o = a .each k l in rw (let q : i ≡ 3 + 4 * k = omega arith in q) (omega (arith, o .inside, a .modulesOk))
+      link i k (suc (suc zero)) l m e = let o = a .each k l in rw (let q : i ≡ 4 + 4 * k = omega arith in q) (omega (arith, o .nearOk))
+      link i k (suc (suc (suc zero))) l m e = let o = a .each k l in rw (let q : i ≡ 5 + 4 * k = omega arith in q) (omega (arith, o .farOk))
+      link i k (suc (suc (suc (suc j)))) l m e = absurd (omega arith)
 
   -- what is written is bytes
   pub written-bytes : Accepted p → Bytes (encode p)
   unfolding encode
-  written-bytes a =
-      con {x = 1} (omega arith)
-      (bytes-of ((4 + 8 * p .links) ∷ p .modules ∷ p .links ∷ linksNumbers p (p .links))
-      (con {x = 4 + 8 * p .links} (omega (arith, a .linksOk)) (con (omega (arith, a .modulesOk)) (con (omega (arith, a .linksOk)) (links-fit (p .links) (a .each) (a .modulesOk))))))
+  written-bytes a = con {x = 1} (omega arith) (bytes-of ((4 + 8 * linksOf p) ∷ ownNumbers)
+      (con {x = 4 + 8 * linksOf p} (omega (arith, a .linksOk)) (All-tabulate (planNumbers (linksOf p)) (λ i. getD p i 0) (numbers-fit a))))
 
 -- READ, THEN WRITTEN
 
@@ -137,50 +123,30 @@ module _ (s : List ℕ) (z : readRefusal s ≡ 0) where
   unfolding readRefusal
   read-accepted = fine-first (headRefusal s) z .1
 
-  -- number j of link k of what was read
-  entry : (k j : ℕ) → k < number s 2 → getD (column s (number s 2) j) k 0 ≡ number s (3 + 4 * k + j)
-  unfolding column
-  entry k j l =
-      let f : ℕ → ℕ = λ i. number s (3 + 4 * i + j) in
-      getD-tabulate 600 (upto (number s 2) f (λ i. 0)) k (omega (arith, read-head .counts .linksOk)) ∙ upto-in (number s 2) f (λ i. 0) k l
-
-  link-decode : (k j : ℕ) → k < number s 2 → j < 4 → getD (linkNumbers (decode s) k) j 0 ≡ number s (3 + 4 * k + j)
+  number-decode : (i : ℕ) → i < planNumbers (number s 2) → getD (decode s) i 0 ≡ number s (suc i)
   unfolding decode
-  link-decode k zero l m = entry k 0 l
-  link-decode k (suc zero) l m = entry k 1 l
-  link-decode k (suc (suc zero)) l m = entry k 2 l
-  link-decode k (suc (suc (suc zero))) l m = entry k 3 l
-  link-decode k (suc (suc (suc (suc j)))) l m = absurd (omega arith)
+  number-decode i l = padded-at (planNumbers (number s 2)) (λ j. number s (suc j)) i l (omega (arith, read-head .counts .linksOk))
 
-  numbers-decode : (4 + 8 * number s 2) ∷ number s 1 ∷ number s 2 ∷ linksNumbers (decode s) (number s 2) ≡ tabulate (3 + 4 * number s 2) (number s)
-  numbers-decode = tabulated (3 + 4 * number s 2) (number s) ((4 + 8 * number s 2) ∷ number s 1 ∷ number s 2 ∷ linksNumbers (decode s) (number s 2)) (omega (arith, length-links (decode s) (number s 2))) at
-    where
-      at : (i : ℕ) → i < 3 + 4 * number s 2 → getD ((4 + 8 * number s 2) ∷ number s 1 ∷ number s 2 ∷ linksNumbers (decode s) (number s 2)) i 0 ≡ number s i
-      at zero l = sym (read-head .len)
-      at (suc zero) l = refl
-      at (suc (suc zero)) l = refl
-      at (suc (suc (suc i))) l =
-          let split : i ≡ 4 * (i / 4) + i % 4 = omega arith in
-          ap (λ n. getD (linksNumbers (decode s) (number s 2)) n 0) split
-          ∙ links-at (decode s) (number s 2) (i / 4) (i % 4) (omega arith) (omega arith)
-          ∙ link-decode (i / 4) (i % 4) (omega arith) (omega arith)
-          ∙ ap (number s) (let e : 3 + 4 * (i / 4) + i % 4 ≡ suc (suc (suc i)) = omega arith in e)
+  numbers-decode : (4 + 8 * linksOf (decode s)) ∷ tabulate (planNumbers (linksOf (decode s))) (λ i. getD (decode s) i 0) ≡ tabulate (suc (planNumbers (number s 2))) (number s)
+  unfolding tabulate
+  numbers-decode = rw (number-decode 1 (omega arith))
+      (ap₂ (λ x xs. x ∷ xs) (sym (read-head .len)) (tabulate-ext (planNumbers (number s 2)) (λ i. getD (decode s) i 0) (λ i. number s (suc i)) number-decode))
 
   -- "bytes that are taken and written again are the same bytes"
   pub read-written : Bytes s → encode (decode s) ≡ s
-  unfolding encode decode
+  unfolding encode
   read-written b = ap (λ xs. 1 ∷ bytesOf xs) numbers-decode ∙ again s (read-head .version) (read-head .size) b
     where
-      again : (t : List ℕ) → getD t 0 0 ≡ 1 → length t ≡ 7 + 8 * number s 2 → Bytes t → _≡_ {A = List ℕ} (1 ∷ bytesOf (tabulate (3 + 4 * number s 2) (number t))) t
+      again : (t : List ℕ) → getD t 0 0 ≡ 1 → length t ≡ 7 + 8 * number s 2 → Bytes t → _≡_ {A = List ℕ} (1 ∷ bytesOf (tabulate (suc (planNumbers (number s 2))) (number t))) t
       again [] v e h = absurd (omega arith)
-      again (x ∷ t) v e (con q h) = rw (bytes-numbers x t (3 + 4 * number s 2) (omega arith) h, v)
+      again (x ∷ t) v e (con q h) = rw (bytes-numbers x t (suc (planNumbers (number s 2))) (omega arith) h, v)
 
   -- so the writer puts them back at the front of any buffer that they fit
   pub written-again : Bytes s → (t : List ℕ) → length s ≤ length t → writePlan (decode s) t ≡ taken (s ++ drop (length s) t)
   unfolding writePlan writeRefusal
   written-again b t l =
       let e = read-written b in
-      let n : 7 + 8 * (decode s) .links ≡ length s = sym (length-encode (decode s)) ∙ ap length e in
+      let n : size (decode s) ≡ length s = sym (length-encode (decode s)) ∙ ap length e in
       rw (read-accepted, n, le-ltb (length t) (length s) l, e)
 
 -- what the reader takes is accepted

@@ -5,13 +5,13 @@ use lib.Dec.{ltb}
 use lib.ListN.{length, drop}
 use Rattle.base.specs.Loop.{After, answering}
 use Rattle.base.specs.Refuse.{orElse, first}
-use Rattle.plan.specs.declared.Plan.{Plan}
+use Rattle.plan.specs.Links.{Plan, linksOf}
 use Rattle.plan.specs.Refusal.{planRefusal}
 use Rattle.plan_file.specs.Layout.{encode}
 
 -- how many bytes a plan has
 abbrev pub size : Plan → ℕ
-size p = 7 + 8 * p .links
+size p = 7 + 8 * linksOf p
 
 -- "The plan writer refuses a plan value by 14 to 19 likewise, then 22 if its buffer is too short"
 unfoldable pub writeRefusal : Plan → List ℕ → ℕ

@@ -14,10 +14,10 @@ ghost use Rattle.plan.specs.Links.{linksOf, lowerOf, higherOf, graphOf};
 
 pub const LABELS: usize = MAX_MODULES as usize;
 
-pub type Labels = [u8; LABELS];
+pub type PartLabels = [u8; LABELS];
 
 // Each node is a part of its own.
-pub fn number(parts: &mut Labels)
+pub fn number(parts: &mut PartLabels)
     requires { ⌜ length (now parts) ≡ maxModules ⌝ }
     ensures { λ _. ⌜ now (parts .exit) ≡ tabulate maxModules (λ v. v) ⌝ }
 {
@@ -36,7 +36,7 @@ fn renamed(from: u8, to: u8, x: u8) -> u8
 }
 
 // Part `from` becomes part of `to`.
-pub fn relabel(parts: &mut Labels, from: u8, to: u8)
+pub fn relabel(parts: &mut PartLabels, from: u8, to: u8)
     requires { ⌜ length (now parts) ≡ maxModules ⌝ }
     ensures { λ _. ⌜ now (parts .exit) ≡ tabulate maxModules (λ v. rename from to (getD (now (parts .entry)) v 0)) ⌝ }
 {
@@ -48,7 +48,7 @@ pub fn relabel(parts: &mut Labels, from: u8, to: u8)
 }
 
 // The same, where `from` and `to` are often one part already.
-pub fn join(parts: &mut Labels, from: u8, to: u8)
+pub fn join(parts: &mut PartLabels, from: u8, to: u8)
     requires { ⌜ length (now parts) ≡ maxModules ⌝ }
     ensures { λ _. ⌜ now (parts .exit) ≡ tabulate maxModules (λ v. rename from to (getD (now (parts .entry)) v 0)) ⌝ }
 {
@@ -58,7 +58,7 @@ pub fn join(parts: &mut Labels, from: u8, to: u8)
 }
 
 // The labels of the parts that a plan's links join.
-pub fn merge(plan: &Plan, parts: &mut Labels)
+pub fn merge(plan: &Plan, parts: &mut PartLabels)
     requires { ⌜ (length (now parts) ≡ maxModules) × (linksOf (now plan) ≤ maxLinks)
         × ((k : ℕ) → k < linksOf (now plan) → (lowerOf (now plan) k < maxModules) × (higherOf (now plan) k < maxModules)) ⌝ }
     ensures { λ _. ⌜ now (parts .exit) ≡ tabulate maxModules (label (graphOf (now (plan .entry))) (λ _. true) (linksOf (now (plan .entry)))) ⌝ }

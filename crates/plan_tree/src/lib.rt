@@ -3,7 +3,7 @@
 use base::NONE;
 use plan::Plan;
 use plan_labels::LABELS;
-use plan_labels::Labels;
+use plan_labels::PartLabels;
 ghost use mathlib.Core.Path.{_≡_};
 ghost use mathlib.Core.Logic.{_⊎_};
 ghost use Prim.Native.Nat.{ℕ, _+_, _<_, _≤_};
@@ -48,7 +48,7 @@ fn offer(plan: &Plan, best: &mut Picks, a: usize, k: u16)
 }
 
 // Edge k is offered to the parts of its ends, if they differ. Answers 1 if they do, else 0.
-fn scan_edge(plan: &Plan, label: &Labels, best: &mut Picks, k: usize) -> u16
+fn scan_edge(plan: &Plan, label: &PartLabels, best: &mut Picks, k: usize) -> u16
     requires { ⌜ (k < maxLinks) × (lowerOf (now plan) k < maxModules) × (higherOf (now plan) k < maxModules) × Parts (now label)
         × Firsts (now plan) (now label) k (now best) ⌝ }
     ensures { λ r. ⌜ (r ≡ apartAt (graphOf (now (plan .entry))) (at (now (label .entry))) k)
@@ -66,7 +66,7 @@ fn scan_edge(plan: &Plan, label: &Labels, best: &mut Picks, k: usize) -> u16
 }
 
 // The earliest edge that leaves each part, into best. Answers how many edges join different parts.
-fn scan(plan: &Plan, label: &Labels, best: &mut Picks) -> u16
+fn scan(plan: &Plan, label: &PartLabels, best: &mut Picks) -> u16
     requires { ⌜ (linksOf (now plan) ≤ maxLinks) × Ends (graphOf (now plan)) × Parts (now label) × Firsts (now plan) (now label) 0 (now best) ⌝ }
     ensures { λ r. ⌜ (r ≡ apart (graphOf (now (plan .entry))) (at (now (label .entry))))
         × Firsts (now (plan .entry)) (now (label .entry)) (linksOf (now (plan .entry))) (now (best .exit)) ⌝ }
@@ -82,7 +82,7 @@ fn scan(plan: &Plan, label: &Labels, best: &mut Picks) -> u16
 }
 
 // Edge k is marked, and the part at its lower end becomes part of that at its higher end.
-fn join(plan: &Plan, label: &mut Labels, out: &mut [u8], k: usize)
+fn join(plan: &Plan, label: &mut PartLabels, out: &mut [u8], k: usize)
     requires { ⌜ Fit (now plan) (now label) (now out) × (k < linksOf (now plan)) ⌝ }
     ensures { λ _. ⌜ Joined (graphOf (now (plan .entry))) k (at (now (label .entry))) (at (now (out .entry))) (at (now (label .exit))) (at (now (out .exit)))
         × (length (now (label .exit)) ≡ maxModules) ⌝ }
@@ -94,7 +94,7 @@ fn join(plan: &Plan, label: &mut Labels, out: &mut [u8], k: usize)
 }
 
 // Edge k is joined, unless it is none.
-fn join_pick(plan: &Plan, label: &mut Labels, out: &mut [u8], k: u16)
+fn join_pick(plan: &Plan, label: &mut PartLabels, out: &mut [u8], k: u16)
     requires { ⌜ Fit (now plan) (now label) (now out) × ((k ≡ none) ⊎ (k < linksOf (now plan))) ⌝ }
     ensures { λ _. ⌜ Takes (graphOf (now (plan .entry))) k (now (label .entry)) (now (out .entry)) (now (label .exit)) (now (out .exit)) ⌝ }
 {
@@ -105,7 +105,7 @@ fn join_pick(plan: &Plan, label: &mut Labels, out: &mut [u8], k: u16)
 }
 
 // Each part's pick is joined.
-fn join_all<'a>(plan: &'a Plan, best: &'a Picks, label: &mut Labels, out: &mut [u8])
+fn join_all<'a>(plan: &'a Plan, best: &'a Picks, label: &mut PartLabels, out: &mut [u8])
     requires { ⌜ Fit (now plan) (now label) (now out) × ((a : ℕ) → a < maxModules → (at (now best) a ≡ none) ⊎ (at (now best) a < linksOf (now plan))) ⌝ }
     ensures { λ _. ⌜ TakesTo maxModules (graphOf (now (plan .entry))) (now (best .entry)) (now (label .entry)) (now (out .entry)) (now (label .exit)) (now (out .exit)) ⌝ }
 {
@@ -117,7 +117,7 @@ fn join_all<'a>(plan: &'a Plan, best: &'a Picks, label: &mut Labels, out: &mut [
 }
 
 // One phase. Answers how many edges joined different parts before it.
-fn phase(plan: &Plan, label: &mut Labels, out: &mut [u8]) -> u16
+fn phase(plan: &Plan, label: &mut PartLabels, out: &mut [u8]) -> u16
     requires { ⌜ Fit (now plan) (now label) (now out) × Forest (graphOf (now plan)) (earlier (now plan)) (at (now label)) (at (now out)) ⌝ }
     ensures { λ r. ⌜ Phased (graphOf (now (plan .entry))) (earlier (now (plan .entry))) (now (label .entry)) (now (label .exit)) (now (out .exit)) r ⌝ }
 {
@@ -128,7 +128,7 @@ fn phase(plan: &Plan, label: &mut Labels, out: &mut [u8]) -> u16
 }
 
 // Phases, until no edge joins different parts.
-fn phases(plan: &Plan, label: &mut Labels, out: &mut [u8])
+fn phases(plan: &Plan, label: &mut PartLabels, out: &mut [u8])
     requires { ⌜ Fit (now plan) (now label) (now out) × Forest (graphOf (now plan)) (earlier (now plan)) (at (now label)) (at (now out)) ⌝ }
     ensures { λ _. ⌜ Exact (graphOf (now (plan .entry))) (earlier (now (plan .entry))) (at (now (out .exit))) ⌝ }
 {

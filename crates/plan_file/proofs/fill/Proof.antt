@@ -1,42 +1,47 @@
--- After k links each column has its numbers of the first k links, zeros past them.
-use Prim.Native.Nat.{_<_, _≤_, _-_}
+-- The first i numbers are read, zeros past them.
+use Prim.Native.Nat.{suc, _≤_, _-_}
 use native.Mathlib.Omega.{arith}
-use mathlib.Core.Path.{_≡_}
-use Rattle.plan_file.specs.Layout.{column}
-use Rattle.plan_file.proofs.Columns.{column-start, column-turn}
+use native.Mathlib.Numerals.{add-one}
+use mathlib.Core.Path.{_≡_, ap, _∙_}
+use Rattle.plan_file.specs.Layout.{planNumbers, number, padded, decode}
+use Rattle.plan_file.proofs.Answers.{padded-start, padded-turn}
 use borrow.Author.Needs.{needs}
 use Rattle.plan_file.proofs.fill.Statement.{statement}
 use Rattle.plan_file.proofs.fill.Tie as tie
 
 abbrev Inv-loop : tie.InvT-loop
-Inv-loop s l lower₀ higher₀ near₀ far₀ k₀ lower higher near far k = (k ≤ l) × (lower ≡ column s k 0) × (higher ≡ column s k 1) × (near ≡ column s k 2) × (far ≡ column s k 3)
+Inv-loop s plan₀ end i₀ plan i = (i ≤ planNumbers (number s 2)) × (end ≡ planNumbers (number s 2)) × (plan ≡ padded i (λ j. number s (suc j)))
 
 abbrev μ-loop : tie.MeasureT-loop
-μ-loop s l lower₀ higher₀ near₀ far₀ k₀ lower higher near far k = l - k
+μ-loop s plan₀ end i₀ plan i = end - i
+
+number-requires : tie.Need-number-requires Inv-loop μ-loop
+number-requires c κs = omega (arith, c .before .pre .0 .size)
 
 loop-holds : tie.Need-loop-holds Inv-loop μ-loop
-loop-holds c = let p = c .before .pre in
-    (omega arith, column-start _ 0 _ (p .2), column-start _ 1 _ (p .3), column-start _ 2 _ (p .4), column-start _ 3 _ (p .5))
+loop-holds c = (omega arith, omega (arith, c .number .ensures), padded-start _ _ (c .before .before .pre .1))
+
+number-requires-2 : tie.Need-number-requires-2 Inv-loop μ-loop
+number-requires-2 c κs = omega (arith, c .before .before .before .before .pre .0 .size)
+
+element-write-plan : tie.Need-element-write-plan Inv-loop μ-loop
+element-write-plan c = omega (arith, c .before .before .before .before .before .pre .0 .counts .linksOk)
 
 loop-again : tie.Need-loop-again Inv-loop μ-loop
-loop-again c = let w3 = c .before in
-    let w2 = w3 .before in
-    let w1 = w2 .before in
-    let turn = w1 .before in
-    let e = turn .before in
-    let l : e .loop .k < 600 = omega arith in (
+loop-again c =
+    let e = c .before .before in
+    let s = e .before .before .before in (
       omega arith,
-      column-turn _ 0 _ _ _ _ l (e .loop .inv .1) (w1 .number .ensures) (omega arith),
-      column-turn _ 1 _ _ _ _ l (e .loop .inv .2) (w2 .number2 .ensures) (omega arith),
-      column-turn _ 2 _ _ _ _ l (e .loop .inv .3) (w3 .number3 .ensures) (omega arith),
-      column-turn _ 3 _ _ _ _ l (e .loop .inv .4) (c .number4 .ensures) (omega arith),
+      e .loop .inv .1,
+      rw add-one (padded-turn _ _ (e .loop .i) _ (omega (arith, s .pre .0 .counts .linksOk)) (e .loop .inv .2) (c .number2 .ensures ∙ ap (number (s .args .s .now)) (add-one (e .loop .i)))),
     )
 
 returns : tie.Need-returns Inv-loop μ-loop
-returns c = let e = c .before in
-    let q : e .loop .k ≡ e .before .before .args .l = omega arith in
-    let i = rw q at (e .loop .inv) in
-    (i .1, i .2, i .3, i .4)
+unfolding decode
+returns c =
+    let e = c .before in
+    let q : e .loop .i ≡ planNumbers (number (e .before .before .before .args .s .now) 2) = omega arith in
+    rw q at (e .loop .inv .2)
 
 pub fill-spec : {M : Type 1} → statement M
 fill-spec =
@@ -44,24 +49,15 @@ fill-spec =
     (tie.spec
     Inv-loop
     μ-loop
+    number-requires
+    (λ c. search needs)
+    (λ c. search needs)
+    (λ c. search needs)
     loop-holds
     (λ c. search needs)
+    number-requires-2
     (λ c. search needs)
-    (λ c κs. search needs)
-    (λ c. search needs)
-    (λ c. search needs)
-    (λ c. search needs)
-    (λ c κs. search needs)
-    (λ c. search needs)
-    (λ c. search needs)
-    (λ c. search needs)
-    (λ c κs. search needs)
-    (λ c. search needs)
-    (λ c. search needs)
-    (λ c. search needs)
-    (λ c κs. search needs)
-    (λ c. search needs)
-    (λ c. search needs)
+    element-write-plan
     (λ c. search needs)
     (λ c. search needs)
     loop-again

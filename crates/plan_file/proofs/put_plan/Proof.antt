@@ -1,43 +1,55 @@
--- After k links the stores are those of the first k links, past the head.
+-- After version and length the stores are those of the first i numbers.
 use Prim.Native.Nat.{_≤_, _-_}
 use native.Mathlib.Omega.{arith}
 use mathlib.Core.Path.{_≡_, refl, _∙_}
-use lib.ListN.{length}
+use lib.ListN.{length, length-set, getD}
 use lib.Seq.{sets}
-use Rattle.plan.specs.Links.{planOf}
-use Rattle.plan_file.specs.Layout.{bytesOf, linksNumbers}
+use Rattle.base.specs.Table.{tabulate}
+use Rattle.plan.specs.Links.{linksOf}
+use Rattle.plan_file.specs.Layout.{planNumbers, bytesOf}
 use Rattle.plan_file.proofs.Stores.{put-start, put-turn, put-end}
 use borrow.Author.Needs.{needs}
 use Rattle.plan_file.proofs.put_plan.Statement.{statement}
 use Rattle.plan_file.proofs.put_plan.Tie as tie
 
 abbrev Inv-loop : tie.InvT-loop
-Inv-loop out₀ n l lower higher near far end k₀ out k = (k ≤ l) × (end ≡ l) × (length out ≡ length out₀) × (out ≡ sets out₀ 7 (bytesOf (linksNumbers (planOf n l lower higher near far) k)))
+Inv-loop p out₀ l end i₀ out i =
+    (i ≤ planNumbers (linksOf p)) × (end ≡ planNumbers (linksOf p)) × (length out ≡ length out₀) × (out ≡ sets out₀ 3 (bytesOf (tabulate i (λ j. getD p j 0))))
 
 abbrev μ-loop : tie.MeasureT-loop
-μ-loop out₀ n l lower higher near far end k₀ out k = end - k
+μ-loop p out₀ l end i₀ out i = end - i
+
+-- the buffer's length, after version and length
+long : (c : tie.After-put Inv-loop μ-loop) → length (c .put .last .0) ≡ length (c .before .before .before .before .args .out .now)
+long c = c .put .kept .0 ∙ simp length-set
+
+put-requires : tie.Need-put-requires Inv-loop μ-loop
+put-requires c κs = simp length-set (omega arith)
 
 loop-holds : tie.Need-loop-holds Inv-loop μ-loop
-loop-holds c = (omega arith, refl, refl, put-start _ _)
+loop-holds c = (omega arith, omega (arith, c .before .before .before .before .links .ensures), refl, put-start _ _)
 
-put-link-requires : tie.Need-put-link-requires Inv-loop μ-loop
-put-link-requires c κs = let e = c .before .before .before .before .before .before in
-    let h = e .before .before .before in
-    omega (arith, e .loop .inv .2, h .put-head .kept .0)
+put-requires-2 : tie.Need-put-requires-2 Inv-loop μ-loop
+put-requires-2 c κs =
+    let e = c .before .before .before in
+    omega (arith, e .loop .inv .2, long (e .before .before .before))
 
 loop-again : tie.Need-loop-again Inv-loop μ-loop
-loop-again c = let q = c .before .before in
-    let e = q .before .before .before .before .before .before .before in
-    (omega arith, omega arith, q .put-link .kept .0 ∙ e .loop .inv .2, q .put-link .ensures ∙ put-turn _ _ _ _ (e .loop .inv .3))
+loop-again c =
+    let q = c .before .before in
+    let e = q .before .before .before .before in
+    (omega arith, e .loop .inv .1, q .put2 .kept .0 ∙ e .loop .inv .2, q .put2 .ensures ∙ put-turn _ _ _ _ (e .loop .inv .3))
 
 same-length : tie.Need-same-length Inv-loop μ-loop
-same-length c = let e = c .before in
-    e .loop .inv .2 ∙ e .before .before .before .put-head .kept .0
+same-length c = c .before .loop .inv .2 ∙ long (c .before .before .before .before)
 
 returns : tie.Need-returns Inv-loop μ-loop
-returns c = let e = c .before in
-    let k : e .loop .k ≡ e .before .before .before .before .before .before .args .l = omega arith in
-    put-end _ _ _ _ (e .before .before .before .put-head .ensures) (rw k at (e .loop .inv .3))
+returns c =
+    let e = c .before in
+    let q = e .before .before .before in
+    let n = q .before .before in
+    let k : e .loop .i ≡ planNumbers (linksOf (n .before .before .args .p .now)) = omega arith in
+    put-end _ _ _ (n .links .ensures) (q .put .ensures) (rw k at (e .loop .inv .3))
 
 pub put-plan-spec : {M : Type 1} → statement M
 put-plan-spec =
@@ -46,18 +58,19 @@ put-plan-spec =
     Inv-loop
     μ-loop
     (λ c κs. search needs)
+    (λ c. search needs)
+    (λ c. search needs)
+    (λ c. search needs)
+    put-requires
+    (λ c. search needs)
+    (λ c. search needs)
+    (λ c. search needs)
     loop-holds
     (λ c. search needs)
     (λ c. search needs)
     (λ c. search needs)
     (λ c. search needs)
-    (λ c. search needs)
-    (λ c. search needs)
-    (λ c. search needs)
-    (λ c. search needs)
-    (λ c. search needs)
-    (λ c. search needs)
-    put-link-requires
+    put-requires-2
     (λ c. search needs)
     (λ c. search needs)
     loop-again

@@ -1,24 +1,27 @@
+use native.Mathlib.Omega.{arith}
 use Rattle.plan_file.proofs.Stores.{w-refused, w-links, w-short, w-written}
 use borrow.Author.Needs.{needs}
 use Rattle.plan_file.proofs.write.Statement.{statement}
 use Rattle.plan_file.proofs.write.Tie as tie
 
 returns : tie.Need-returns
-returns c = w-refused _ _ _ (c .before .check-columns .ensures) (c .if1 .taken)
+returns c = w-refused _ _ _ (c .before .check .ensures) (c .if1 .taken)
 
 returns-2 : tie.Need-returns-2
-returns-2 c = let e = c .before in w-short _ _ _ (e .before .check-columns .ensures) (e .if1 .left) (c .if2 .taken)
+returns-2 c = let e = c .before .before in w-short _ _ _ (e .before .check .ensures) (e .if1 .left) (omega (arith, c .before .links .ensures))
 
 put-plan-requires : tie.Need-put-plan-requires
-put-plan-requires c κs = let e2 = c .before .before .before .before .before .before in
-    let e1 = e2 .before in
-    (w-links (e1 .before .before .before .before .before .before .before .before .args .t1) _ (e1 .before .check-columns .ensures) (e1 .if1 .left), e2 .if2 .left)
+put-plan-requires c κs =
+    let n = c .before .before in
+    let e = n .before in
+    (w-links (e .before .before .before .args .p .now) _ (e .before .check .ensures) (e .if1 .left), omega (arith, n .links .ensures))
 
 returns-3 : tie.Need-returns-3
-returns-3 c = let q = c .before .before in
-    let e2 = q .before .before .before .before .before .before .before in
-    let e1 = e2 .before in
-    w-written _ _ _ (e1 .before .check-columns .ensures) (e1 .if1 .left) (e2 .if2 .left) _ (q .put-plan .ensures)
+returns-3 c =
+    let q = c .before .before in
+    let n = q .before .before .before in
+    let e = n .before in
+    w-written _ _ _ (e .before .check .ensures) (e .if1 .left) (omega (arith, n .links .ensures)) _ (q .put-plan .ensures)
 
 pub write-spec : {M : Type 1} → statement M
 write-spec =
@@ -26,6 +29,7 @@ write-spec =
     (tie.spec
     (λ c κs. search needs)
     returns
+    (λ c κs. search needs)
     (λ c. search needs)
     (λ c. search needs)
     (λ c. search needs)
