@@ -1,8 +1,7 @@
 pub mod Holds
 pub mod Words
-pub mod Settled
-pub mod Outs
-pub mod Parts
+pub mod CarriedOut
+pub mod Packets
 pub mod Ready
 pub mod Steps
 pub mod Turns

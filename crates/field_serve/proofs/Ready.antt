@@ -5,33 +5,34 @@ use mathlib.Core.Path.{_≡_, refl, sym, ap, subst}
 use mathlib.Core.List.{List}
 use lib.ListN.{length}
 use Rattle.base.specs.Loop.{After, refused}
-use Rattle.plan.specs.declared.Plan.{Plan}
+use Rattle.plan.specs.Links.{Plan}
 use Rattle.field.specs.State.{State}
 use Rattle.field.specs.Step.{wake, hand, serve, step}
 use Rattle.field_laws.specs.Keeps.{Sound, step-keeps}
 use Rattle.field_words.specs.Laid.{Laid}
-use Rattle.field_words.specs.Hands.{stateOf, Hands}
+use Rattle.field_words.specs.Hands.{lentState, Hands}
+use Rattle.field_check.specs.Ready.{Ready}
 use Rattle.field_serve.specs.declared.Done.{Done}
-use Rattle.field_serve.specs.Lent.{Ready, Advances}
+use Rattle.field_serve.specs.Lent.{Advances}
 
-module _ (p : Plan) (cells marks lent : List ℕ) (n sent : ℕ) (r : Ready p cells marks lent n sent) where
+module _ (p : Plan) (cells marks lent : List ℕ) (b : Done) (r : Ready p cells marks lent (b .waiting) (b .sent)) where
   abbrev before : State
-  before = stateOf cells marks lent n sent
+  before = lentState cells marks lent (b .waiting) (b .sent)
 
   -- a refused step alters nothing
   pub stays : (g : Plan → State → After State) (answer : ℕ) → g p before ≡ refused answer before
-      → {d : Done} → d ≡ record { answer = answer; waiting = n; sent = sent } → Advances g p cells marks lent n sent d cells marks lent
+      → {d : Done} → d ≡ record { answer = answer; waiting = b .waiting; sent = b .sent } → Advances g p cells marks lent b d cells marks lent
   stays g answer e q = rw q (record { is = sym e; ready = r })
 
   -- g leaves a sound state
   pub advances : (g : Plan → State → After State) → Sound p (g p before .state) → {d : Done} {cells′ marks′ lent′ : List ℕ}
-      → record { answer = d .answer; state = stateOf cells′ marks′ lent′ (d .waiting) (d .sent) } ≡ g p before → Laid lent′ (d .waiting) → length lent′ ≡ length lent
-      → Advances g p cells marks lent n sent d cells′ marks′ lent′
+      → record { answer = d .answer; state = lentState cells′ marks′ lent′ (d .waiting) (d .sent) } ≡ g p before → Laid lent′ (d .waiting) → length lent′ ≡ length lent
+      → Advances g p cells marks lent b d cells′ marks′ lent′
   advances g h e l k = record {
     is = e;
     ready = record {
       plan = r .plan;
-      columns = r .columns;
+      whole = r .whole;
       laid = l;
       room = omega (arith, r .room);
       sound = subst (Sound p) (sym (ap (λ (a : After State). a .state) e)) h;
@@ -39,9 +40,9 @@ module _ (p : Plan) (cells marks lent : List ℕ) (n sent : ℕ) (r : Ready p ce
   }
 
   -- hand-overs change the words alone
-  pub hands : (g : Plan → State → After State) → Sound p (g p before .state) → {a : ℕ} {lent′ : List ℕ} → Hands g (p .links) n lent a lent′ → length lent′ ≡ length lent
-      → {d : Done} → d ≡ record { answer = a; waiting = n; sent = sent } → Advances g p cells marks lent n sent d cells marks lent′
-  hands g h x k q = rw q (advances g h (x .is p cells marks sent refl) (x .laid) k)
+  pub hands : (g : Plan → State → After State) → Sound p (g p before .state) → {a : ℕ} {lent′ : List ℕ} → Hands (g p) (b .waiting) lent a lent′ → length lent′ ≡ length lent
+      → {d : Done} → d ≡ record { answer = a; waiting = b .waiting; sent = b .sent } → Advances g p cells marks lent b d cells marks lent′
+  hands g h x k q = rw q (advances g h (x .is cells marks (b .sent)) (x .laid) k)
 
   -- each kind of step leaves one
   pub wake-sound : (v : ℕ) → Sound p (wake p v before .state)

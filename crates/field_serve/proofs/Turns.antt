@@ -7,48 +7,49 @@ use mathlib.Core.List.{List}
 use lib.ListN.{length}
 use Rattle.base.specs.Loop.{After, taken, loop}
 use Rattle.base.specs.LoopLaws.{loop-zero, on, off}
-use Rattle.plan.specs.declared.Plan.{Plan}
+use Rattle.plan.specs.Links.{Plan}
 use Rattle.field.specs.State.{State}
-use Rattle.field_words.specs.Hands.{stateOf}
+use Rattle.field_words.specs.Hands.{lentState}
+use Rattle.field_check.specs.Ready.{Ready}
 use Rattle.field_serve.specs.declared.Done.{Done}
-use Rattle.field_serve.specs.Lent.{Ready, Advances}
+use Rattle.field_serve.specs.Lent.{Advances}
 
 -- the same step under another name
-pub renamed : {g h : Plan → State → After State} {p : Plan} {cells marks lent cells′ marks′ lent′ : List ℕ} {n sent : ℕ} {d : Done}
-    → Advances g p cells marks lent n sent d cells′ marks′ lent′ → g p (stateOf cells marks lent n sent) ≡ h p (stateOf cells marks lent n sent)
-    → Advances h p cells marks lent n sent d cells′ marks′ lent′
+pub renamed : {g h : Plan → State → After State} {p : Plan} {cells marks lent cells′ marks′ lent′ : List ℕ} {b d : Done}
+    → Advances g p cells marks lent b d cells′ marks′ lent′ → g p (lentState cells marks lent (b .waiting) (b .sent)) ≡ h p (lentState cells marks lent (b .waiting) (b .sent))
+    → Advances h p cells marks lent b d cells′ marks′ lent′
 renamed x e = record { is = x .is ∙ e; ready = x .ready }
 
 -- s is what the last turn left: k turns of g are taken
-abbrev pub Turned : (Plan → ℕ → State → After State) → Plan → List ℕ → List ℕ → List ℕ → ℕ → ℕ → ℕ → Done → List ℕ → List ℕ → List ℕ → Type 0
-Turned g p cells₀ marks₀ lent₀ n sent k s cells marks lent =
-    (s .answer ≡ 0) × (length lent ≡ length lent₀) × Advances (λ p. loop k (g p)) p cells₀ marks₀ lent₀ n sent s cells marks lent
+abbrev pub Turned : (Plan → ℕ → State → After State) → Plan → List ℕ → List ℕ → List ℕ → Done → ℕ → Done → List ℕ → List ℕ → List ℕ → Type 0
+Turned g p cells₀ marks₀ lent₀ b k s cells marks lent =
+    (s .answer ≡ 0) × (length lent ≡ length lent₀) × Advances (λ p. loop k (g p)) p cells₀ marks₀ lent₀ b s cells marks lent
 
-module _ (g : Plan → ℕ → State → After State) (p : Plan) (cells₀ marks₀ lent₀ : List ℕ) (n sent : ℕ) where
+module _ (g : Plan → ℕ → State → After State) (p : Plan) (cells₀ marks₀ lent₀ : List ℕ) (b : Done) where
   abbrev start : State
-  start = stateOf cells₀ marks₀ lent₀ n sent
+  start = lentState cells₀ marks₀ lent₀ (b .waiting) (b .sent)
 
-  pub no-turn : Ready p cells₀ marks₀ lent₀ n sent → {s : Done} → s ≡ record { answer = 0; waiting = n; sent = sent } → Turned g p cells₀ marks₀ lent₀ n sent 0 s cells₀ marks₀ lent₀
+  pub no-turn : Ready p cells₀ marks₀ lent₀ (b .waiting) (b .sent) → {s : Done} → s ≡ record { answer = 0; waiting = b .waiting; sent = b .sent } → Turned g p cells₀ marks₀ lent₀ b 0 s cells₀ marks₀ lent₀
   no-turn r e = rw e (refl, refl, record { is = sym (loop-zero (g p) start); ready = r })
 
-  module _ (k : ℕ) {s : Done} {cells marks lent : List ℕ} (t : Turned g p cells₀ marks₀ lent₀ n sent k s cells marks lent) where
-    were : loop k (g p) start ≡ taken (stateOf cells marks lent (s .waiting) (s .sent))
-    were = sym (t .2 .is) ∙ ap (λ (a : ℕ). record { answer = a; state = stateOf cells marks lent (s .waiting) (s .sent) }) (t .0)
+  module _ (k : ℕ) {s : Done} {cells marks lent : List ℕ} (t : Turned g p cells₀ marks₀ lent₀ b k s cells marks lent) where
+    were : loop k (g p) start ≡ taken (lentState cells marks lent (s .waiting) (s .sent))
+    were = sym (t .2 .is) ∙ ap (λ (a : ℕ). record { answer = a; state = lentState cells marks lent (s .waiting) (s .sent) }) (t .0)
 
-    pub turns-over : (m : ℕ) → m ≤ k → k ≤ m → Advances (λ p. loop m (g p)) p cells₀ marks₀ lent₀ n sent s cells marks lent
+    pub turns-over : (m : ℕ) → m ≤ k → k ≤ m → Advances (λ p. loop m (g p)) p cells₀ marks₀ lent₀ b s cells marks lent
     turns-over m l r = record { is = t .2 .is ∙ ap (λ (i : ℕ). loop i (g p) start) (omega arith); ready = t .2 .ready }
 
     -- z is what the next turn left
-    module _ {z : Done} {cells′ marks′ lent′ : List ℕ} (x : Advances (λ p. g p k) p cells marks lent (s .waiting) (s .sent) z cells′ marks′ lent′) where
-      pub turn-on : length lent′ ≡ length lent → z .answer ≡ 0 → Turned g p cells₀ marks₀ lent₀ n sent (k + 1) z cells′ marks′ lent′
+    module _ {z : Done} {cells′ marks′ lent′ : List ℕ} (x : Advances (λ p. g p k) p cells marks lent s z cells′ marks′ lent′) where
+      pub turn-on : length lent′ ≡ length lent → z .answer ≡ 0 → Turned g p cells₀ marks₀ lent₀ b (k + 1) z cells′ marks′ lent′
       turn-on e h = (
         h,
         e ∙ t .1,
         record {
-          is = ap (λ (a : ℕ). record { answer = a; state = stateOf cells′ marks′ lent′ (z .waiting) (z .sent) }) h ∙ sym (on (g p) k start _ _ were (x .is) h);
+          is = ap (λ (a : ℕ). record { answer = a; state = lentState cells′ marks′ lent′ (z .waiting) (z .sent) }) h ∙ sym (on (g p) k start _ _ were (x .is) h);
           ready = x .ready;
         },
       )
 
-      pub turn-off : (m : ℕ) → k < m → z .answer ≢ 0 → Advances (λ p. loop m (g p)) p cells₀ marks₀ lent₀ n sent z cells′ marks′ lent′
+      pub turn-off : (m : ℕ) → k < m → z .answer ≢ 0 → Advances (λ p. loop m (g p)) p cells₀ marks₀ lent₀ b z cells′ marks′ lent′
       turn-off m l h = record { is = sym (off (g p) k start _ _ were (x .is) m l h); ready = x .ready }

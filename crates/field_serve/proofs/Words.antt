@@ -1,22 +1,24 @@
--- The words while a response is settled: one leaves, what is sent goes to the end, the served one may go behind it.
+-- The words while a response is carried out: one leaves, what is sent goes to the end, the served one may go behind it.
 use Prim.Native.Nat.{ℕ, suc, _+_, _-_, _≤_, _<_}
 use native.Mathlib.Omega.{arith}
 use mathlib.Core.Path.{_≡_, refl, sym, ap, _∙_}
 use mathlib.Core.Logic.{_≢_, _⊎_, inl, inr}
 use mathlib.Core.List.{List, [], _∷_, _++_, append-nil}
-use lib.ListN.{length, take, length-append, drop-of-length-le}
+use lib.ListN.{length, getD, take, length-append, drop-of-length-le}
 use lib.Seq.{length-take-le, take-all}
-use borrow.Author.Tests.{eq-eqb, ne-eqb}
+use borrow.Author.Tests.{le-leb, lt-leb, eq-eqb, ne-eqb}
 use Rattle.base.specs.Cond.{ltb-cases}
-use Rattle.format_message.specs.Msg.{Msg, change}
-use Rattle.format_message.specs.Header.{headerOf, carriedOf}
+use Rattle.plan.specs.Links.{Plan}
 use Rattle.node.specs.Work.{Send, Work, BACK}
 use Rattle.field.specs.Step.{without, backOf}
 use Rattle.field.specs.Held.{layout}
 use Rattle.field_words.specs.Laid.{Laid}
 use Rattle.field_words.proofs.Laid.{without-length}
-use Rattle.field_place.specs.Posted.{postedIn, Put}
+use Rattle.field.specs.State.{posted}
+use Rattle.field_place.specs.Posted.{Put}
+use Rattle.field_place.proofs.Puts.{put-many}
 use Rattle.field_serve.specs.Holds.{Holds}
+use Rattle.field_serve.specs.Lent.{noWord, wordAt}
 use Rattle.field_serve.proofs.Holds.{holds, holds-count}
 
 -- a word leaves, or there is none at its place
@@ -31,6 +33,16 @@ module _ (lent : List ℕ) (n i : ℕ) (h : Laid lent n) where
   one-out l last q =
       let k = length-take-le n lent (h .within) in
       holds last (n - 1) (length lent) (without i (take n lent)) q (omega (arith, without-length i (take n lent) (omega arith))) (omega (arith, h .within))
+
+-- the word that is served, in both cases
+module _ (lent : List ℕ) (n i : ℕ) where
+  pub word-none : n ≤ i → noWord ≡ wordAt lent n i
+  unfolding wordAt
+  word-none h = rw (le-leb n i h)
+
+  pub word-there : i < n → getD lent i 0 ≡ wordAt lent n i
+  unfolding wordAt
+  word-there h = rw (lt-leb n i h)
 
 -- the put-back word
 module _ (w : Work) (x a : ℕ) (e : w .answer ≡ a) where
@@ -51,16 +63,15 @@ module _ (lent mid : List ℕ) (n i l c : ℕ) (laid : Laid lent n) (h : Holds m
   room-place = ltb-cases i n (λ b. l + c ≤ length mid) (λ k. omega (arith, gone k, h .size))
       (λ k. let e = length-take-le n lent (laid .within) in omega (arith, holds-count h, ap length (past-length i (take n lent) (omega arith)), h .size))
 
-  pub room-back : {lower : List ℕ} {v header carried : ℕ} {s : List ℕ → List ℕ → Msg → List Send} {after : List ℕ} {m : ℕ} (answer : ℕ) → Put lower v header carried s mid l after m
-      → c ≡ length (s [] [] change) → (i < n) ⊎ (answer ≢ BACK) → answer ≡ BACK → m < length after
-  room-back answer p e (inl k) q = omega (arith, gone k, h .size, p .same, p .many [] [] change)
-  room-back answer p e (inr d) q = absurd (d q)
+  pub room-back : {p : Plan} {v : ℕ} {s : List Send} {after : List ℕ} {m : ℕ} (answer : ℕ) → Put p v s mid l after m
+      → c ≡ length s → (i < n) ⊎ (answer ≢ BACK) → answer ≡ BACK → m < length after
+  room-back {p} {v} answer d e (inl k) q = omega (arith, gone k, h .size, d .same, put-many p v d)
+  room-back answer d e (inr f) q = absurd (f q)
 
 -- what is sent stands behind the words that were left
-pub put-holds : {lower : List ℕ} {v header carried : ℕ} {s : List ℕ → List ℕ → Msg → List Send} (mid : List ℕ) (l : ℕ) {after : List ℕ} {m : ℕ} → Laid mid l
-    → Put lower v header carried s mid l after m → (near far : List ℕ) (msg : Msg) → headerOf msg ≡ header → carriedOf msg ≡ carried
-    → Holds after m (length mid) (take l mid ++ postedIn lower v (s near far msg))
-put-holds {lower} {v} {header} {carried} {s} mid l {after} {m} laid p near far msg eh ec =
-    let q = p .posted near far msg eh ec in
-    holds after m (length mid) (take l mid ++ postedIn lower v (s near far msg)) (q .is)
-    (omega (arith, q .many, length-append (take l mid) (postedIn lower v (s near far msg)), length-take-le l mid (laid .within))) (omega (arith, p .laid .within, p .same))
+pub put-holds : {p : Plan} {v : ℕ} {s : List Send} (mid : List ℕ) (l : ℕ) {after : List ℕ} {m : ℕ} → Laid mid l
+    → Put p v s mid l after m → Holds after m (length mid) (take l mid ++ posted p v s)
+put-holds {p} {v} {s} mid l {after} {m} laid d =
+    let q = d .words in
+    holds after m (length mid) (take l mid ++ posted p v s) (q .is)
+    (omega (arith, q .many, length-append (take l mid) (posted p v s), length-take-le l mid (laid .within))) (omega (arith, d .laid .within, d .same))

@@ -1,32 +1,26 @@
-// Two steps on lent arrays: a module wakes, a module serves the first word of its queue. (A hand-over is in `store`.)
-// A response is worked out by value, then settled: 32 and 33 before anything is written.
-use field::CELLS;
-use field_cells;
-use field_place;
-use field_words;
-use format_message;
-use format_word;
-use node_dispatch;
+// Two steps on lent arrays: a module wakes, a module serves the first word of its queue. (A hand-over is in `field_words`.)
+// A response is worked out by value, then carried out: 32 and 33 before anything is written.
+use field::Cells;
+use field::Marks;
+use node::ASLEEP;
+use node::BACK;
+use node::REFUSED;
+use node_response::Packet;
 use node_response::Response;
-use plan;
-ghost use Prim.Native.Nat.{ℕ, _+_, _<_};
+use plan::Plan;
+ghost use Prim.Native.Nat.{_<_, _≤_};
 ghost use mathlib.Core.Path.{_≡_};
-ghost use mathlib.Core.Bool.{true};
-ghost use mathlib.Core.List.{List, _++_};
+ghost use mathlib.Core.List.{_++_};
 ghost use lib.ListN.{length, take};
-ghost use Rattle.format_message.specs.Msg.{Msg};
-ghost use Rattle.format_message.specs.Listed.{listed};
-ghost use Rattle.format_word.specs.Word.{headerIn, carriedIn, linkIn};
-ghost use Rattle.plan.specs.Links.{planOf};
-ghost use Rattle.plan.specs.Ceiling.{ceiling};
+ghost use Rattle.base.specs.Limits.{maxModules};
 ghost use Rattle.node.specs.Work.{Work, BACK};
-ghost use Rattle.field.specs.Edges.{linkOf};
-ghost use Rattle.node_dispatch.specs.Fit.{Fit};
+ghost use Rattle.node_dispatch.specs.Receives.{Receives};
 ghost use Rattle.field.specs.State.{nodeIn};
 ghost use Rattle.field.specs.Step.{without, backOf, wake, serve};
 ghost use Rattle.field_words.specs.Laid.{Laid};
+ghost use Rattle.field_check.specs.Ready.{Ready};
 ghost use Rattle.field_serve.specs.Holds.{Holds};
-ghost use Rattle.field_serve.specs.Lent.{Ready, Advances, Responds, Settles, Settled};
+ghost use Rattle.field_serve.specs.Lent.{Advances, packetIn, wordAt, Responds, Feasible, CarriedOut};
 
 // answer: 0, or the refusal's number. waiting, sent: the words that wait and the sent count afterwards.
 pub struct Done {
@@ -46,6 +40,13 @@ pub fn left(answer: u32, waiting: usize, sent: u32) -> Done
     }
 }
 
+// A step that is refused leaves what the step before left.
+pub fn refused(answer: u32, b: Done) -> Done
+    ensures { λ r. ⌜ r ≡ record { answer = answer; waiting = b .waiting; sent = b .sent } ⌝ }
+{
+    left(answer, b.waiting, b.sent)
+}
+
 // The word at place i leaves; there is none past the last.
 fn take_out(lent: &mut [u64], n: usize, i: usize) -> usize
     requires { ⌜ Laid (now lent) n ⌝ }
@@ -63,181 +64,123 @@ fn put_back(lent: &mut [u64], n: usize, answer: u32, x: u64) -> usize
     requires { ⌜ Laid (now lent) n × (answer ≡ BACK → n < length (now lent)) ⌝ }
     ensures { λ r. ⌜ ((w : Work) → w .answer ≡ answer → Holds (now (lent .exit)) r (length (now (lent .entry))) (take n (now (lent .entry)) ++ backOf w x)) ⌝ }
 {
-    if answer != 1 {
+    if answer != BACK {
         return n;
     }
     field_words::put(lent, n, x);
     n + 1
 }
 
-// Response a of module v is settled: 32 or 33 and nothing is altered, else 0. n words wait. The served word x stands at place i; a wakeup serves
-// none, and i is n.
-fn settle<'a>(
-    modules: u16,
-    links: u16,
-    lower: &'a [u16; 600],
-    higher: &'a [u16; 600],
-    cells: &mut [u16; CELLS],
-    marks: &mut [u8; 1200],
-    lent: &mut [u64],
-    n: usize,
-    sent: u32,
-    v: u16,
-    i: usize,
-    x: u64,
-    a: Response,
-) -> Done
-    requires { ⌜ Settles links (now marks) (now lent) n sent (ceiling modules links) v i a ⌝ }
-    ensures { λ r. ⌜ ((near far : List ℕ) (msg : Msg) → Settled (planOf modules links (now (lower .entry)) (now (higher .entry)) near far) v i x msg a
-        (now (cells .entry)) (now (marks .entry)) (now (lent .entry)) n sent r (now (cells .exit)) (now (marks .exit)) (now (lent .exit))) ⌝ }
-{
-    if a.answer == 32 {
-        return left(32, n, sent);
-    }
-    let j = format_word::link(x) / 2;
-    let c = field_place::many(links, lower, higher, marks, v, j, a);
-    if plan::ceiling(modules, links) - sent < c {
-        return left(33, n, sent);
-    }
-    let l = take_out(lent, n, i);
-    let h = format_word::header(x);
-    let k = format_word::carried(x);
-    let m = field_place::place(links, lower, higher, cells, marks, lent, l, v, j, h, k, a);
-    let w = put_back(lent, m, a.answer, x);
-    left(0, w, sent + c)
-}
-
-// Module v's response to word x, which came over a link of v.
-fn response<'a>(
-    modules: u16,
-    links: u16,
-    lower: &'a [u16; 600],
-    higher: &'a [u16; 600],
-    near: &'a [u16; 600],
-    far: &'a [u16; 600],
-    cells: &'a [u16; CELLS],
-    marks: &'a [u8; 1200],
-    v: u16,
-    x: u64,
-) -> Response
-    requires { ⌜ (v < 192) × Fit links (now lower) (now higher) v (linkOf (linkIn x)) (nodeIn (now cells) v) × (listed (headerIn x) (carriedIn x) ≡ true) ⌝ }
-    ensures { λ r. ⌜ Responds (planOf modules links (now (lower .entry)) (now (higher .entry)) (now (near .entry)) (now (far .entry))) v x
-        (now (cells .entry)) (now (marks .entry)) r ⌝ }
-{
-    let limit = plan::floor_log2(modules);
-    let j = format_word::link(x) / 2;
-    let h = format_word::header(x);
-    let kind = format_message::kind(h);
-    let level = format_message::level(h);
-    let find = format_message::find(h);
-    let carried = format_word::carried(x);
-    let node = field_cells::load(cells, v);
-    node_dispatch::respond(
-        links,
-        lower,
-        higher,
-        near,
-        far,
-        marks,
-        v,
-        limit,
-        j,
-        kind,
-        level,
-        carried,
-        find,
-        node,
-    )
-}
-
 // In place of a served word where there is none: a Change-root by link 0. A wakeup puts no word back and sends no copy of one.
 const NO_WORD: u64 = 0xffff07;
 
-// Module v wakes: 0, or refused by 41, 43, 32 or 33.
-pub fn wake<'a>(
-    modules: u16,
-    links: u16,
-    lower: &'a [u16; 600],
-    higher: &'a [u16; 600],
-    near: &'a [u16; 600],
-    far: &'a [u16; 600],
-    cells: &mut [u16; CELLS],
-    marks: &mut [u8; 1200],
-    lent: &mut [u64],
-    n: usize,
-    sent: u32,
-    v: u16,
-) -> Done
-    requires { ⌜ Ready (planOf modules links (now lower) (now higher) (now near) (now far)) (now cells) (now marks) (now lent) n sent ⌝ }
-    ensures { λ r. ⌜ Advances (λ p. wake p v) (planOf modules links (now (lower .entry)) (now (higher .entry)) (now (near .entry)) (now (far .entry)))
-        (now (cells .entry)) (now (marks .entry)) (now (lent .entry)) n sent r (now (cells .exit)) (now (marks .exit)) (now (lent .exit)) ⌝ }
+// The word at place i, of n that wait.
+fn word_at(lent: &[u64], n: usize, i: usize) -> u64
+    requires { ⌜ n ≤ length (now lent) ⌝ }
+    ensures { λ r. ⌜ r ≡ wordAt (now (lent .entry)) n i ⌝ }
 {
-    if modules <= v {
-        return left(41, n, sent);
+    if n <= i {
+        return NO_WORD;
     }
-    let node = field_cells::load(cells, v);
-    if node.status != 0 {
-        return left(43, n, sent);
-    }
-    let a = node_dispatch::wakeup(links, lower, higher, near, far, marks, v, node);
-    settle(
-        modules,
-        links,
-        lower,
-        higher,
-        cells,
-        marks,
-        lent,
-        n,
-        sent,
-        v,
-        n,
-        NO_WORD,
-        a,
-    )
+    lent[i]
 }
 
-// Module v serves the first word of its queue: 0, or refused by 41, 45, 32 or 33.
-pub fn serve<'a>(
-    modules: u16,
-    links: u16,
-    lower: &'a [u16; 600],
-    higher: &'a [u16; 600],
-    near: &'a [u16; 600],
-    far: &'a [u16; 600],
-    cells: &mut [u16; CELLS],
-    marks: &mut [u8; 1200],
+// Response a of module v, to the word at place i, is carried out: 32 or 33 and nothing is altered, else 0. A wakeup serves no word, and i is the
+// number of words. b is what the step before left.
+fn carry_out<'a>(
+    plan: &'a Plan,
+    cells: &mut Cells,
+    marks: &mut Marks,
     lent: &mut [u64],
-    n: usize,
-    sent: u32,
+    b: Done,
+    v: u16,
+    i: usize,
+    a: Response,
+) -> Done
+    requires { ⌜ Feasible (now plan) (now marks) (now lent) (b .waiting) (b .sent) v i a ⌝ }
+    ensures { λ r. ⌜ CarriedOut (now (plan .entry)) v i a (now (cells .entry)) (now (marks .entry)) (now (lent .entry)) b r (now (cells .exit)) (now (marks .exit)) (now (lent .exit)) ⌝ }
+{
+    if a.answer == REFUSED {
+        return refused(32, b);
+    }
+    let x = word_at(lent, b.waiting, i);
+    let c = field_place::many(plan, marks, v, x, a);
+    if plan::ceiling_of(plan) - b.sent < c {
+        return refused(33, b);
+    }
+    let l = take_out(lent, b.waiting, i);
+    let m = field_place::place(plan, cells, marks, lent, l, v, x, a);
+    let w = put_back(lent, m, a.answer, x);
+    left(0, w, b.sent + c)
+}
+
+// What a served word is to the rules.
+fn received(x: u64) -> Packet
+    ensures { λ r. ⌜ r ≡ packetIn x ⌝ }
+{
+    let h = format_word::header(x);
+    Packet {
+        edge: field_place::link_of(x),
+        kind: format_message::kind(h),
+        level: format_message::level(h),
+        carried: format_word::carried(x),
+        find: format_message::find(h),
+    }
+}
+
+// Module v's response to word x, which came over a link of v.
+fn response<'a>(plan: &'a Plan, cells: &'a Cells, marks: &'a Marks, v: u16, x: u64) -> Response
+    requires { ⌜ (v < maxModules) × Receives (now plan) v (packetIn x) (nodeIn (now cells) v) ⌝ }
+    ensures { λ r. ⌜ Responds (now (plan .entry)) v x (now (cells .entry)) (now (marks .entry)) r ⌝ }
+{
+    let packet = received(x);
+    let node = field_cells::load(cells, v);
+    node_dispatch::respond(plan, marks, v, packet, node)
+}
+
+// Module v wakes: 0, or refused by 41, 43, 32 or 33. b is what the step before left.
+pub fn wake<'a>(
+    plan: &'a Plan,
+    cells: &mut Cells,
+    marks: &mut Marks,
+    lent: &mut [u64],
+    b: Done,
     v: u16,
 ) -> Done
-    requires { ⌜ Ready (planOf modules links (now lower) (now higher) (now near) (now far)) (now cells) (now marks) (now lent) n sent ⌝ }
-    ensures { λ r. ⌜ Advances (λ p. serve p v) (planOf modules links (now (lower .entry)) (now (higher .entry)) (now (near .entry)) (now (far .entry)))
-        (now (cells .entry)) (now (marks .entry)) (now (lent .entry)) n sent r (now (cells .exit)) (now (marks .exit)) (now (lent .exit)) ⌝ }
+    requires { ⌜ Ready (now plan) (now cells) (now marks) (now lent) (b .waiting) (b .sent) ⌝ }
+    ensures { λ r. ⌜ Advances (λ p. wake p v) (now (plan .entry)) (now (cells .entry)) (now (marks .entry)) (now (lent .entry)) b r (now (cells .exit)) (now (marks .exit)) (now (lent .exit)) ⌝ }
 {
-    if modules <= v {
-        return left(41, n, sent);
+    if plan::modules(plan) <= v {
+        return refused(41, b);
     }
-    let i = field_words::first_in_queue(lower, higher, &lent[..n], v);
+    let node = field_cells::load(cells, v);
+    if node.status != ASLEEP {
+        return refused(43, b);
+    }
+    let a = node_dispatch::wakeup(plan, marks, v, node);
+    carry_out(plan, cells, marks, lent, b, v, b.waiting, a)
+}
+
+// Module v serves the first word of its queue: 0, or refused by 41, 45, 32 or 33. b is what the step before left.
+pub fn serve<'a>(
+    plan: &'a Plan,
+    cells: &mut Cells,
+    marks: &mut Marks,
+    lent: &mut [u64],
+    b: Done,
+    v: u16,
+) -> Done
+    requires { ⌜ Ready (now plan) (now cells) (now marks) (now lent) (b .waiting) (b .sent) ⌝ }
+    ensures { λ r. ⌜ Advances (λ p. serve p v) (now (plan .entry)) (now (cells .entry)) (now (marks .entry)) (now (lent .entry)) b r (now (cells .exit)) (now (marks .exit)) (now (lent .exit)) ⌝ }
+{
+    if plan::modules(plan) <= v {
+        return refused(41, b);
+    }
+    let n = b.waiting;
+    let i = field_words::first_in_queue(plan, &lent[..n], v);
     if n <= i {
-        return left(45, n, sent);
+        return refused(45, b);
     }
-    let x = lent[i];
-    let a = response(modules, links, lower, higher, near, far, cells, marks, v, x);
-    settle(
-        modules,
-        links,
-        lower,
-        higher,
-        cells,
-        marks,
-        lent,
-        n,
-        sent,
-        v,
-        i,
-        x,
-        a,
-    )
+    let a = response(plan, cells, marks, v, lent[i]);
+    carry_out(plan, cells, marks, lent, b, v, i, a)
 }

@@ -6,7 +6,7 @@ use mathlib.Core.List.{List, [], _∷_, _++_}
 use Rattle.base.specs.Cond.{by-eq}
 use Rattle.base.specs.None.{none}
 use Rattle.base.specs.Pool.{All, nil, con}
-use Rattle.plan.specs.declared.Plan.{Plan}
+use Rattle.plan.specs.Links.{Plan}
 use Rattle.plan.specs.Accepted.{Accepted}
 use Rattle.node.specs.Work.{Send}
 use Rattle.node_response.specs.declared.Packet.{Packet}
@@ -17,7 +17,7 @@ use Rattle.field_laws.specs.Lists.{SendOk}
 use Rattle.field_laws.specs.Sends.{Packs}
 use Rattle.field_laws.specs.Fits.{sends-pack}
 use Rattle.field_place.specs.Posted.{PacketOk}
-use Rattle.field_place.proofs.Parts.{sent-some}
+use Rattle.field_place.proofs.Parts.{packet-some}
 
 module _ {A : Type 0} {P : A → Type 0} where
   all-left : (xs ys : List A) → All P (xs ++ ys) → All P xs
@@ -31,10 +31,10 @@ module _ {A : Type 0} {P : A → Type 0} where
 head-of : {P : Send → Type 0} {x : Send} → All P (x ∷ []) → P x
 head-of (con h t) = h
 
-out-ok : (x : Packet) → packetFor (x .edge) (packetMsg x) ≡ x → All Packs (packetSends x) → PacketOk x
-out-ok x f h = record {
+packet-ok : (x : Packet) → packetFor (x .edge) (packetMsg x) ≡ x → All Packs (packetSends x) → PacketOk x
+packet-ok x f h = record {
   formed = f;
-  sends = by-eq (x .edge) none (λ e. inl e) (λ n. let q = head-of (subst (All Packs) (sent-some x n) h) in inr (q .small, q .listed));
+  sends = by-eq (x .edge) none (λ e. inl e) (λ n. let q = head-of (subst (All Packs) (packet-some x n) h) in inr (q .small, q .listed));
 }
 
 module _ (p : Plan) (ok : Accepted p) (v : ℕ) (m : ℕ → ℕ) (cs : List Send) (a : Response) (f : Formed a) (h : All (SendOk (ownOf p v) (limitOf p)) (workOf m cs a .sends)) where
@@ -42,7 +42,7 @@ module _ (p : Plan) (ok : Accepted p) (v : ℕ) (m : ℕ → ℕ) (cs : List Sen
   both = all-right (copiesOf (a .copies) cs) (packetSends (a .first) ++ packetSends (a .second)) (sends-pack p ok v h)
 
   pub first-ok : PacketOk (a .first)
-  first-ok = out-ok (a .first) (f .first) (all-left (packetSends (a .first)) (packetSends (a .second)) both)
+  first-ok = packet-ok (a .first) (f .first) (all-left (packetSends (a .first)) (packetSends (a .second)) both)
 
   pub second-ok : PacketOk (a .second)
-  second-ok = out-ok (a .second) (f .second) (all-right (packetSends (a .first)) (packetSends (a .second)) both)
+  second-ok = packet-ok (a .second) (f .second) (all-right (packetSends (a .first)) (packetSends (a .second)) both)

@@ -1,0 +1,18 @@
+use borrow.Author.Needs.{needs}
+use Rattle.field_serve.proofs.received.Statement.{statement}
+use Rattle.field_serve.proofs.received.Tie as tie
+
+returns : tie.Need-returns
+returns c = cc
+
+pub received-spec : {M : Type 1} → statement M
+received-spec =
+    tie.close
+    (tie.spec
+    (λ c κs. search needs)
+    (λ c κs. search needs)
+    (λ c κs. search needs)
+    (λ c κs. search needs)
+    (λ c κs. search needs)
+    (λ c κs. search needs)
+    returns)
