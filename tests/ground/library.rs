@@ -4,7 +4,8 @@
 use oracle::plan::Plan;
 use oracle::rng::Rng;
 
-type Column = [u16; 600];
+/// A plan value as the compiled functions hold it: N, L, four numbers for each link. What stands past the links means nothing.
+type Numbers = [u16; 2 + 4 * 600];
 
 #[rustfmt::skip]
 extern "C" {
@@ -15,14 +16,8 @@ extern "C" {
     fn muruapy_test_frame_copy(frame: *const u8, frame_len: usize, out: *mut u8, out_len: usize) -> u32;
     fn muruapy_test_ceiling(n: u16, l: u16) -> u32;
     fn muruapy_test_frame_write(header: u8, carried: u16, out: *mut u8, out_len: usize) -> u32;
-    fn muruapy_test_plan_write(
-        modules: u16, links: u16, lower: *const Column, higher: *const Column, near: *const Column, far: *const Column,
-        out: *mut u8, out_len: usize,
-    ) -> u32;
-    fn muruapy_test_tree_build(
-        modules: u16, links: u16, lower: *const Column, higher: *const Column, near: *const Column, far: *const Column,
-        out: *mut u8, out_len: usize,
-    ) -> u32;
+    fn muruapy_test_plan_write(plan: *const Numbers, out: *mut u8, out_len: usize) -> u32;
+    fn muruapy_test_tree_build(plan: *const Numbers, out: *mut u8, out_len: usize) -> u32;
 }
 
 /// 11 to 19, or 0 for a plan that is taken.
@@ -59,46 +54,28 @@ pub fn frame_write(header: u8, carried: u16, out: &mut [u8]) -> u32 {
     unsafe { muruapy_test_frame_write(header, carried, out.as_mut_ptr(), out.len()) }
 }
 
-/// A plan value as the compiled functions hold it. What stands past its links means nothing.
-pub struct Value {
-    modules: u16,
-    links: u16,
-    lower: Column,
-    higher: Column,
-    near: Column,
-    far: Column,
-}
+pub struct Value(Numbers);
 
 impl Value {
     /// The value of a plan, as many links as there is room for, with anything past them.
     pub fn of(plan: &Plan, rng: &mut Rng) -> Value {
-        let mut column = || std::array::from_fn(|_| rng.next() as u16);
-        let mut value = Value {
-            modules: plan.modules,
-            links: plan.links.len() as u16,
-            lower: column(),
-            higher: column(),
-            near: column(),
-            far: column(),
-        };
+        let mut numbers: Numbers = std::array::from_fn(|_| rng.next() as u16);
+        numbers[0] = plan.modules;
+        numbers[1] = plan.links.len() as u16;
         for (k, link) in plan.links.iter().enumerate().take(600) {
-            value.lower[k] = link.lower;
-            value.higher[k] = link.higher;
-            value.near[k] = link.at_lower;
-            value.far[k] = link.at_higher;
+            let four = [link.lower, link.higher, link.at_lower, link.at_higher];
+            numbers[2 + 4 * k..6 + 4 * k].copy_from_slice(&four);
         }
-        value
+        Value(numbers)
     }
 
     /// 14 to 19, then 22; else 0, and the plan's bytes are at the front of `out`.
     pub fn write(&self, out: &mut [u8]) -> u32 {
-        let Value { modules, links, lower, higher, near, far } = self;
-        unsafe { muruapy_test_plan_write(*modules, *links, lower, higher, near, far, out.as_mut_ptr(), out.len()) }
+        unsafe { muruapy_test_plan_write(&self.0, out.as_mut_ptr(), out.len()) }
     }
 
     /// 14 to 19, then 20; else 0, and the tree's L bytes are in `out`.
     pub fn tree(&self, out: &mut [u8]) -> u32 {
-        let Value { modules, links, lower, higher, near, far } = self;
-        unsafe { muruapy_test_tree_build(*modules, *links, lower, higher, near, far, out.as_mut_ptr(), out.len()) }
+        unsafe { muruapy_test_tree_build(&self.0, out.as_mut_ptr(), out.len()) }
     }
 }

@@ -118,7 +118,7 @@ fn alike(
     assert_eq!(buffer, expected, "the lent bytes, or those beside them");
 }
 
-/// A plan value, taken or refused, in columns that hold anything past its links: written, and its tree built.
+/// A plan value, taken or refused, with anything past its links: written, and its tree built.
 fn compare_value(rng: &mut Rng, tally: &mut Tally, plan: &Plan) {
     tally.values += 1;
     if plan.check().is_err() {

@@ -1,27 +1,51 @@
 -- What the reader answers, from the check of the head and of the plan.
-use Prim.Native.Nat.{ℕ, suc, _<_}
-use mathlib.Core.Path.{_≡_, ap, _∙_}
+use Prim.Native.Nat.{ℕ, suc, _+_, _-_, _≤_, _<_}
+use native.Mathlib.Omega.{arith}
+use mathlib.Core.Path.{_≡_, sym, ap, _∙_}
 use mathlib.Core.Logic.{_≢_}
 use mathlib.Core.List.{List}
-use lib.ListN.{set, length-replicate, getD-replicate}
+use lib.ListN.{length, getD, set, replicate, length-append, length-replicate, getD-replicate}
+use lib.Seq.{getD-append-add}
 use borrow.Author.Tests.{eq-eqb, ne-eqb}
 use Rattle.base.specs.Limits.{maxLinks}
-use Rattle.base.specs.Table.{fill-start, fill-turn}
+use Rattle.base.specs.Cond.{ltb-cases}
+use Rattle.base.specs.Table.{tabulate, tabulated, length-tabulate, upto, upto-in, upto-out, fill-start, fill-turn}
 use Rattle.plan.specs.Links.{Plan}
 use Rattle.plan.specs.Refusal.{planRefusal}
 use Rattle.plan_file.specs.declared.Outcome.{Outcome}
 use Rattle.plan_file.specs.Layout.{planNumbers, padded, decode, blank}
+use Rattle.plan_file.specs.Numbers.{padded-at}
 use Rattle.plan_file.specs.Reading.{headRefusal, readRefusal, readPlan, Loaded}
 
--- THE LOOP THAT FILLS: its start, a turn
-module _ (f : ℕ → ℕ) where
-  pub padded-start : (p : Plan) → p ≡ blank → p ≡ padded 0 f
-  unfolding padded
-  padded-start p e = e ∙ fill-start (planNumbers maxLinks) f (λ i. 0) blank (length-replicate {A = ℕ} (planNumbers maxLinks) 0) (λ i l. getD-replicate {A = ℕ} (planNumbers maxLinks) i 0 0 l)
+-- THE LOOP THAT FILLS: i numbers are read; its start, a turn, its end
+abbrev pub most : ℕ
+most = planNumbers maxLinks
 
-  pub padded-turn : (p : Plan) (i x : ℕ) → i < planNumbers maxLinks → p ≡ padded i f → x ≡ f i → set p i x ≡ padded (suc i) f
+module _ (f : ℕ → ℕ) where
+  abbrev pub begun : ℕ → Plan
+  begun i = tabulate most (upto i f (λ j. 0))
+
+  pub none-read : (p : Plan) → p ≡ blank → p ≡ begun 0
+  none-read p e = e ∙ fill-start most f (λ i. 0) blank (length-replicate {A = ℕ} most 0) (λ i l. getD-replicate {A = ℕ} most i 0 0 l)
+
+  pub one-read : (p : Plan) (i x : ℕ) → i < most → p ≡ begun i → x ≡ f i → set p i x ≡ begun (suc i)
+  one-read p i x l e q = rw e (fill-turn most f (λ i. 0) i x l q)
+
+  pub all-read : (n : ℕ) → n ≤ most → begun n ≡ padded n f
   unfolding padded
-  padded-turn p i x l e q = rw e (fill-turn (planNumbers maxLinks) f (λ i. 0) i x l q)
+  all-read n m = sym (tabulated most (upto n f (λ j. 0)) (padded n f) size entry)
+    where
+      size : length (padded n f) ≡ most
+      size = simp (length-append, length-tabulate, length-replicate) (omega arith)
+
+      past : (j : ℕ) → n + j < most → getD (padded n f) (n + j) 0 ≡ 0
+      past j l = ap (λ k. getD (padded n f) (k + j) 0) (sym (length-tabulate n f)) ∙ getD-append-add (tabulate n f) (replicate (most - n) 0) j 0
+          ∙ getD-replicate {A = ℕ} (most - n) j 0 0 (omega arith)
+
+      entry : (k : ℕ) → k < most → getD (padded n f) k 0 ≡ upto n f (λ j. 0) k
+      entry k l = ltb-cases k n (λ b. getD (padded n f) k 0 ≡ upto n f (λ j. 0) k)
+          (λ h. padded-at n f k h ∙ sym (upto-in n f (λ j. 0) k h))
+          (λ h. ap (λ i. getD (padded n f) i 0) (let e : k ≡ n + (k - n) = omega arith in e) ∙ past (k - n) (omega arith) ∙ sym (upto-out n f (λ j. 0) k h))
 
 module _ (s : List ℕ) (r : ℕ) (e : r ≡ headRefusal s) where
   -- the head is refused

@@ -1,9 +1,9 @@
 -- The bytes of a plan: a version byte, then integers.
-use Prim.Native.Nat.{ℕ, suc, _+_, _*_}
+use Prim.Native.Nat.{ℕ, suc, _+_, _*_, _-_}
 use mathlib.Core.List.{List, [], _∷_, _++_}
 use lib.ListN.{getD, replicate}
 use Rattle.base.specs.Limits.{maxLinks}
-use Rattle.base.specs.Table.{tabulate, upto}
+use Rattle.base.specs.Table.{tabulate}
 use Rattle.format_int16.specs.Int16.{at16, bytes16}
 use Rattle.plan.specs.Links.{Plan, linksOf}
 
@@ -26,7 +26,7 @@ number s i = at16 s (1 + 2 * i)
 
 -- a plan value of n numbers, zeros past them
 unfoldable pub padded : ℕ → (ℕ → ℕ) → Plan
-padded n f = tabulate (planNumbers maxLinks) (upto n f (λ i. 0))
+padded n f = tabulate n f ++ replicate (planNumbers maxLinks - n) 0
 
 -- the plan that bytes mean: the numbers after the length
 unfoldable pub decode : List ℕ → Plan

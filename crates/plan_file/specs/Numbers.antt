@@ -1,15 +1,16 @@
 -- Integers and their bytes determine each other.
-use Prim.Native.Nat.{ℕ, zero, suc, _+_, _*_, _/_, _%_, _<_}
+use Prim.Native.Nat.{ℕ, zero, suc, _+_, _*_, _/_, _%_, _-_, _<_}
 use native.Mathlib.Omega.{arith}
 use native.Mathlib.Nat.{not-suc-le-zero}
 use mathlib.Core.Path.{_≡_, refl, ap, _∙_}
 use mathlib.Core.List.{List, [], _∷_}
-use lib.ListN.{length, getD}
+use lib.ListN.{length, getD, replicate, List·getD-append}
 use Rattle.base.specs.Pool.{All, nil, con}
-use Rattle.base.specs.Table.{tabulate, tabulate-ext}
+use Rattle.base.specs.Limits.{maxLinks}
+use Rattle.base.specs.Table.{tabulate, tabulate-ext, length-tabulate, getD-tabulate}
 use Rattle.format_int16.specs.Int16.{at16}
 use Rattle.format_int16.specs.Laws.{joined, high-byte, low-byte}
-use Rattle.plan_file.specs.Layout.{bytesOf, number}
+use Rattle.plan_file.specs.Layout.{planNumbers, bytesOf, number, padded}
 
 -- bytes, as a lent slice of them holds
 abbrev pub Bytes : List ℕ → Type 0
@@ -42,7 +43,13 @@ unfolding bytesOf
 bytes-of [] nil = nil
 bytes-of (x ∷ xs) (con l h) = con {x = x / 256} (omega arith) (con {x = x % 256} (omega arith) (bytes-of xs h))
 
+-- numbers by a rule
 pub All-tabulate : {P : ℕ → Type 0} (n : ℕ) (f : ℕ → ℕ) → ((i : ℕ) → i < n → P (f i)) → All P (tabulate n f)
 unfolding tabulate
 All-tabulate zero f h = nil
 All-tabulate (suc n) f h = con (h zero (omega arith)) (All-tabulate n (λ i. f (suc i)) (λ i l. h (suc i) (omega arith)))
+
+-- number i of a plan value that is padded
+pub padded-at : (n : ℕ) (f : ℕ → ℕ) (i : ℕ) → i < n → getD (padded n f) i 0 ≡ f i
+unfolding padded
+padded-at n f i l = List·getD-append (tabulate n f) (replicate (planNumbers maxLinks - n) 0) 0 i (omega (arith, length-tabulate n f)) ∙ getD-tabulate n f i l

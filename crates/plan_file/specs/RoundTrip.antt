@@ -4,7 +4,7 @@ use native.Mathlib.Omega.{arith}
 use mathlib.Core.Path.{_≡_, refl, sym, ap, ap₂, _∙_}
 use mathlib.Core.Bool.{Bool, cond}
 use mathlib.Core.List.{List, [], _∷_, _++_}
-use lib.ListN.{length, getD, take, drop}
+use lib.ListN.{length, getD, take, drop, replicate}
 use lib.Seq.{take-append-seam}
 use borrow.Author.Tests.{le-ltb}
 use Rattle.base.specs.Cond.{eqb-cases}
@@ -12,7 +12,7 @@ use Rattle.base.specs.Limits.{maxLinks}
 use Rattle.base.specs.Loop.{After, taken}
 use Rattle.base.specs.Refuse.{fine-first, first-fine, answers-taken}
 use Rattle.base.specs.Pool.{con}
-use Rattle.base.specs.Table.{tabulate, length-tabulate, tabulate-ext, getD-tabulate, upto, upto-in, upto-same}
+use Rattle.base.specs.Table.{tabulate, length-tabulate, tabulate-ext, getD-tabulate}
 use Rattle.plan.specs.Links.{Plan, linksOf}
 use Rattle.plan.specs.Refusal.{planRefusal}
 use Rattle.plan.specs.Accepted.{Accepted, accepted}
@@ -23,12 +23,7 @@ use Rattle.plan_file.specs.Lengths.{length-encode}
 use Rattle.plan_file.specs.Reading.{headRefusal, readRefusal, readPlan}
 use Rattle.plan_file.specs.Writing.{size, writeRefusal, writePlan}
 use Rattle.plan_file.specs.Head.{HeadOk, head-ok, ok-head}
-use Rattle.plan_file.specs.Numbers.{Bytes, number-of, bytes-numbers, bytes-of, All-tabulate}
-
--- number i of a plan value that is padded
-padded-at : (n : ℕ) (f : ℕ → ℕ) (i : ℕ) → i < n → n ≤ planNumbers maxLinks → getD (padded n f) i 0 ≡ f i
-unfolding padded
-padded-at n f i l m = getD-tabulate (planNumbers maxLinks) (upto n f (λ j. 0)) i (omega arith) ∙ upto-in n f (λ j. 0) i l
+use Rattle.plan_file.specs.Numbers.{Bytes, number-of, bytes-numbers, bytes-of, padded-at, All-tabulate}
 
 -- WRITTEN, THEN READ
 
@@ -44,12 +39,12 @@ module _ (p : Plan) where
   decode-encode : decode (encode p) ≡ trimmed p
   unfolding decode trimmed padded
   decode-encode = rw (number-encode 1 (omega arith))
-      (tabulate-ext (planNumbers maxLinks) _ _ (λ i l. upto-same (planNumbers (linksOf p)) (λ i. number (encode p) (suc i)) (λ i. getD p i 0) (λ i. 0) number-encode i))
+      (ap (λ xs. xs ++ replicate (planNumbers maxLinks - planNumbers (linksOf p)) 0) (tabulate-ext (planNumbers (linksOf p)) (λ i. number (encode p) (suc i)) (λ i. getD p i 0) number-encode))
 
-  -- its numbers below L are the plan's
-  pub trimmed-same : linksOf p ≤ maxLinks → Same p (trimmed p)
+  -- its numbers up to its links are the plan's
+  pub trimmed-same : Same p (trimmed p)
   unfolding trimmed
-  trimmed-same h = record {
+  trimmed-same = record {
     modules = entry 0 (omega arith);
     links = entry 1 (omega arith);
     lows = λ k l. entry (2 + 4 * k) (omega arith);
@@ -59,7 +54,7 @@ module _ (p : Plan) where
   }
     where
       entry : (i : ℕ) → i < planNumbers (linksOf p) → getD p i 0 ≡ getD (trimmed p) i 0
-      entry i l = sym (padded-at (planNumbers (linksOf p)) (λ j. getD p j 0) i l (omega arith))
+      entry i l = sym (padded-at (planNumbers (linksOf p)) (λ j. getD p j 0) i l)
 
   encode-head : Accepted p → HeadOk (encode p)
   unfolding encode bytesOf
@@ -74,7 +69,7 @@ module _ (p : Plan) where
   unfolding readRefusal
   written-taken z =
       let a = accepted p z in
-      first-fine (ok-head (encode p) (encode-head a)) (ap planRefusal decode-encode ∙ same-taken (trimmed-same (a .linksOk)) z)
+      first-fine (ok-head (encode p) (encode-head a)) (ap planRefusal decode-encode ∙ same-taken trimmed-same z)
 
   -- "A plan .. written and read gives its meaning back": an accepted plan, with zeros past its links
   pub written-read : planRefusal p ≡ 0 → readPlan (encode p) ≡ record { refusal = 0; plan = trimmed p }
@@ -125,7 +120,7 @@ module _ (s : List ℕ) (z : readRefusal s ≡ 0) where
 
   number-decode : (i : ℕ) → i < planNumbers (number s 2) → getD (decode s) i 0 ≡ number s (suc i)
   unfolding decode
-  number-decode i l = padded-at (planNumbers (number s 2)) (λ j. number s (suc j)) i l (omega (arith, read-head .counts .linksOk))
+  number-decode i l = padded-at (planNumbers (number s 2)) (λ j. number s (suc j)) i l
 
   numbers-decode : (4 + 8 * linksOf (decode s)) ∷ tabulate (planNumbers (linksOf (decode s))) (λ i. getD (decode s) i 0) ≡ tabulate (suc (planNumbers (number s 2))) (number s)
   unfolding tabulate

@@ -3,11 +3,11 @@ use Prim.Native.Nat.{ℕ, _+_}
 use mathlib.Core.Path.{_≡_, refl}
 use mathlib.Core.Bool.{true, false}
 use mathlib.Core.List.{List, [], _∷_, _++_, map}
-use Rattle.base.specs.None.{none}
+use Rattle.base.specs.None.{none, beforeBy}
 use Rattle.base.specs.Cond.{upd}
 use Rattle.base.specs.Keep.{place}
 use Rattle.base.specs.Log.{log2-to, log2}
-use Rattle.base.specs.Table.{tabulate, upto}
+use Rattle.base.specs.Table.{tabulate}
 use Rattle.base.specs.Test.{every}
 use Rattle.graph.specs.Decide.{label, joined, inTree, connected}
 use Rattle.format_message.specs.Msg.{Msg, connect, initiate, test}
@@ -17,13 +17,13 @@ use Rattle.format_frame.specs.Frame.{frameBytes, frameRefusal}
 use Rattle.format_word.specs.Word.{packWaiting}
 use Rattle.plan.specs.Ceiling.{ceiling}
 use Rattle.plan.specs.Refusal.{ascends, inOrder, linkVerdict, linksRefusal, planRefusal}
-use Rattle.plan.specs.Weights.{costIn, earlierIn, beforeIn}
-use Rattle.plan_file.specs.Layout.{decode, column}
+use Rattle.plan.specs.Weights.{cost, earlier}
+use Rattle.plan_file.specs.Layout.{padded, decode}
 use Rattle.plan_file.specs.Reading.{readRefusal, headVerdict}
 use Rattle.plan_tree.specs.Tree.{centralTree, treeBytes, treeRefusal}
 use Rattle.node.specs.Rules.{wakeOn, awake, onTest, unlessAsleep, respondTo}
-use Rattle.node.specs.Work.{before, earliest, number}
-use Rattle.node_edges.specs.Own.{isOwn, endIn, marksIn, marked, looked, counted}
+use Rattle.node.specs.Work.{earliest, number}
+use Rattle.field.specs.Edges.{isOwn, endOf, marksIn}
 use Rattle.field.specs.Held.{Held, layout, stepAlone, valid}
 use Rattle.field.specs.State.{newMarks}
 use Rattle.field.specs.Step.{carryOut, backOf, serve, step}
@@ -108,16 +108,16 @@ rows =
 
 pub starred : map (λ r. r .computed) rows ≡ map (λ r. r .said) rows
 unfolding
-    upd place log2-to log2 tabulate upto every
+    upd place log2-to log2 tabulate every
     label joined inTree connected
     partsOf msgOf bare listedAs listed
     frameRefusal
     ascends inOrder linkVerdict linksRefusal planRefusal
-    costIn earlierIn beforeIn
-    column decode headVerdict readRefusal
+    cost earlier
+    padded decode headVerdict readRefusal
     treeBytes treeRefusal centralTree
-    wakeOn awake onTest unlessAsleep respondTo before earliest number
-    isOwn endIn marksIn marked looked counted
+    wakeOn awake onTest unlessAsleep respondTo beforeBy earliest number
+    isOwn endOf marksIn
     newMarks carryOut backOf serve step
     allOf waitingIn wordFits nodeFits fits valid stepAlone
 starred = refl

@@ -1,7 +1,7 @@
 -- The refusal of all links is that of the links from k on.
 use Prim.Native.Nat.{_≤_, _-_}
 use native.Mathlib.Omega.{arith}
-use mathlib.Core.Path.{_≡_, refl, sym, _∙_}
+use mathlib.Core.Path.{_≡_, sym, _∙_}
 use Rattle.plan.specs.Links.{linksOf}
 use Rattle.plan.specs.Refusal.{linksRefusal}
 use Rattle.plan_check.proofs.Verdict.{links-stop, links-go, links-over}

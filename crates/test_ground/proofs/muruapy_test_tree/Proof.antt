@@ -7,12 +7,12 @@ use Rattle.test_ground.proofs.muruapy_test_tree.Statement.{statement}
 use Rattle.test_ground.proofs.muruapy_test_tree.Tie as tie
 
 returns : tie.Need-returns
-returns c = unless-refused _ _ (ap (λ x. x .refusal) (c .before .before .read .ensures)) (c .if1 .taken)
+returns c = unless-refused _ _ (ap (λ x. x .refusal) (c .before .read .ensures)) (c .if1 .taken)
 
 returns-2 : tie.Need-returns-2
 returns-2 c =
-    let t = c .before .before .before .before in
-    let r = t .before .before in
+    let t = c .before .before .before .before .before .before in
+    let r = t .before in
     let e = r .read .ensures in
     c .before .before .build .ensures ∙ ap (λ x. centralTree (x .plan) (r .before .before .before .args .out .now)) e ∙ unless-taken _ _ (ap (λ x. x .refusal) e) (t .if1 .left)
 
