@@ -34,6 +34,12 @@ them alone, and theorems and proofs are not among them, since the prover checks 
 `tools/trust`; the tests compare it with the tree.)
 ";
 
+const LIBRARIES: &str = "\
+## Names of the toolchain's libraries
+
+What those definitions and contracts take from outside the repository; antt's prelude (`×`, `¬`, `⊥`) is open everywhere.
+";
+
 pub type Key = (usize, usize);
 
 /// A definition: what computes, or a type that is stated. Others see the clauses of what is marked `abbrev` or
@@ -79,14 +85,18 @@ fn called(tree: &Tree) -> Vec<Key> {
     tree.all().filter(|(_, _, file, item)| wanted(file, item)).map(|(f, i, ..)| (f, i)).collect()
 }
 
-/// Names of the table that no function has, or a claim that is gone.
-fn missing(tree: &Tree, claim: &[Key], functions: &[Key]) -> Vec<String> {
+/// Names of the table that no function has, functions that ask for something, or a claim that is gone.
+fn amiss(tree: &Tree, claim: &[Key], functions: &[Key]) -> Vec<String> {
     let there = |of: &str, name: &str| {
         functions.iter().any(|&(f, i)| tree.files[f].of == of && tree.files[f].items[i].name == name)
     };
     let named = CALLED.iter().flat_map(|(of, names)| names.iter().map(move |n| (*of, *n)));
     let gone = named.filter(|(of, name)| !there(of, name)).map(|(of, name)| format!("{of}::{name} is not there"));
-    gone.chain(claim.is_empty().then(|| format!("{} is not in {}", CLAIM.1, CLAIM.0))).collect()
+    let asks = functions.iter().map(|&(f, i)| (&tree.files[f], &tree.files[f].items[i]));
+    let asks = asks.filter(|(_, item)| item.groups[1].tokens.iter().any(|t| t.is("requires")));
+    let asks = asks.map(|(file, item)| format!("{}::{} has a requires", file.of, item.name));
+    let claim = claim.is_empty().then(|| format!("{} is not in {}", CLAIM.1, CLAIM.0));
+    gone.chain(asks).chain(claim).collect()
 }
 
 fn code(names: impl IntoIterator<Item = String>) -> String {
@@ -136,7 +146,7 @@ pub fn page(tree: &Tree) -> Result<String, Vec<String>> {
     let claim: Vec<Key> =
         tree.all().filter(|(_, _, file, item)| is_claim(file, item)).map(|(f, i, ..)| (f, i)).collect();
     let functions = called(tree);
-    let gone = missing(tree, &claim, &functions);
+    let gone = amiss(tree, &claim, &functions);
     if !gone.is_empty() {
         return Err(gone);
     }
@@ -144,14 +154,15 @@ pub fn page(tree: &Tree) -> Result<String, Vec<String>> {
     let (mut all, outside) = closure(tree, &[claim, functions.clone()].concat());
     all.retain(|k| !functions.contains(k));
     let contracts: usize = functions.iter().map(|&(f, i)| tree.files[f].items[i].lines).sum();
+    let called = functions.len();
     Ok([
         HEAD.to_string(),
-        format!("## The contracts\n\nSignature and clauses of the {} functions that a host calls: {contracts} lines.\n", functions.len()),
+        format!("## The contracts\n\nSignature and clauses of the {called} functions that a host calls: {contracts} lines. None has a `requires`.\n"),
         functions_table(tree, &functions),
         format!("## The definitions\n\nDemand 3 (`{}`, {}) rests on {}.\n", CLAIM.1, CLAIM.0, sums(tree, &of_claim)),
         files_table(tree, &all),
         format!("Together: {}.\n", sums(tree, &all)),
-        "## Names of the toolchain's libraries\n\nWhat those definitions and contracts take from outside the repository; antt's prelude (`×`, `¬`, `⊥`) is open everywhere.\n".to_string(),
+        LIBRARIES.to_string(),
         library_table(&outside),
         include_str!("assumed.md").to_string(),
     ]

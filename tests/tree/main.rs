@@ -1,4 +1,5 @@
-//! The tree is kept clean: for each kind of fault the number of them that there may be.
+//! The tree is kept clean: for each kind of fault the number of them that there may be. The faults of a kind are named where
+//! their number is not that one; `tree list` names all.
 use scan::Tree;
 use std::collections::BTreeSet;
 use std::fs;
@@ -58,12 +59,13 @@ fn verdict(count: usize, allowed: usize) -> (String, bool) {
 
 fn main() {
     let top = Path::new(".");
+    let listed = std::env::args().nth(1).as_deref() == Some("list");
     let mut good = true;
     for (faults, (kind, allowed)) in found(top).iter().zip(ALLOWED) {
         let (says, fine) = verdict(faults.len(), allowed);
         good &= fine;
         println!("tree: {kind}: {says}");
-        for f in faults {
+        for f in faults.iter().filter(|_| listed || !fine) {
             println!("  {}:{}: {}", f.path, f.line, f.name);
         }
     }
