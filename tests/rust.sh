@@ -9,6 +9,13 @@ rust() { "$RUSTC" -O --edition 2021 "$@"; }
 # The oracle as a library, for the programs that compare with it.
 oracle() { rust --crate-type rlib --crate-name oracle tests/oracle/lib.rs -o "$built/liboracle.rlib"; }
 
+# A program that reads the tree as text, with its own tests (NAME-tests): its name, its source.
+scanning() {
+    rust --crate-type rlib --crate-name scan tests/scan/lib.rs -o "$built/libscan.rlib"
+    rust --crate-name "$1" --extern scan="$built/libscan.rlib" "$2" -o "$built/$1"
+    rust --test --crate-name "$1" --extern scan="$built/libscan.rlib" "$2" -o "$built/$1-tests"
+}
+
 # The archive of an exporting crate. `rt staticlib` proves that thin crate again, not what it builds on; not even that
 # where the archive is newer than the sources and what was proved.
 archive() {

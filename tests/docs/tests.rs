@@ -1,0 +1,59 @@
+use crate::difference;
+use crate::tables::{defined, rows, theorems, Found};
+use crate::trust::closure;
+use scan::Tree;
+
+#[path = "../scan/made.rs"]
+mod made;
+use made::Made;
+
+const SPECS: &str = "-- Head.\nuse M.{ℕ, _≡_}\n\nabbrev pub n : ℕ\nn = 0\n\npub n-law : n ≡ 0\nn-law = idle\n\npub record R (k : ℕ) : Type 0 where\n  pub same : k ≡ n\n\npub idle : R 0\nidle = record { same = n-law }\n\npub Big : Type 0\nBig = R 1\n";
+
+fn tree() -> (Made, Tree) {
+    let made = Made::new(&[
+        ("crates/a/specs/F.antt", SPECS),
+        ("crates/b/specs/F.antt", "-- Head.\npub other : ℕ\nother = 0\n"),
+    ]);
+    let tree = Tree::load(made.top());
+    (made, tree)
+}
+
+/// The faults of a page with one table.
+fn faults(heading: &str, theorem: &str, file: &str) -> Vec<String> {
+    let (_made, tree) = tree();
+    let page = format!("## {heading}\n\n| Claim | Theorem | File |\n|---|---|---|\n| x | {theorem} | {file} |\n");
+    let mut found = Found::default();
+    rows("PAGE", &page).iter().for_each(|row| theorems(row, &defined(&tree), &mut found));
+    found.faults
+}
+
+#[test]
+fn a_row_names_the_crate() {
+    for file in ["a/F", "a/specs/F", "a, specs/F", "a/specs/F.antt", "b/G; a/F"] {
+        assert!(faults("Part", "`n-law`, `same`", file).is_empty(), "{file}");
+    }
+    assert_eq!(faults("Part", "`n-law`", "b/F"), ["PAGE:5: n-law is in none of b/F"]);
+}
+
+#[test]
+fn the_heading_names_the_crates() {
+    assert!(faults("Part (b, a)", "`n-law`", "F").is_empty());
+    assert_eq!(faults("Part (b)", "`n-law`", "specs/F").len(), 1);
+    assert_eq!(faults("Part", "`n-law`", "F").len(), 1);
+}
+
+#[test]
+fn definitions_are_followed_and_theorems_are_not() {
+    let (_made, tree) = tree();
+    let at = |name: &str| tree.all().find(|(.., item)| item.name == name).map(|(f, i, ..)| (f, i)).unwrap();
+    let (seen, outside) = closure(&tree, &[at("Big")]);
+    assert_eq!(seen, [at("Big"), at("R"), at("n")].into());
+    assert_eq!(outside.len(), 2);
+}
+
+#[test]
+fn the_page_is_compared() {
+    assert_eq!(difference("a\nb\n", "a\nb\n"), None);
+    assert!(difference("a\nb\n", "a\nc\n").unwrap().starts_with("docs/TRUST.md:2: b\n  the tree gives: c\n"));
+    assert!(difference("a\n", "a\nb\n").is_some());
+}

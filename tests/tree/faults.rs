@@ -1,0 +1,147 @@
+//! What is wrong in a tree, kind by kind.
+use scan::antt::{Sort, Use};
+use scan::tree::{parts, File};
+use scan::words::Token;
+use scan::{Target, Tree};
+use std::collections::{BTreeMap, BTreeSet};
+
+/// Where it stands and what it is.
+#[derive(Debug, PartialEq, Eq, PartialOrd, Ord)]
+pub struct Fault {
+    pub path: String,
+    pub line: usize,
+    pub name: String,
+}
+
+fn fault(path: &str, line: usize, name: impl Into<String>) -> Fault {
+    Fault { path: path.to_string(), line, name: name.into() }
+}
+
+/// Every path of names in a file's text, its imports left out.
+fn paths(file: &File) -> impl Iterator<Item = &Vec<String>> {
+    let groups = file.items.iter().flat_map(|i| i.groups.iter().chain(&i.aside));
+    groups.flat_map(|g| &g.tokens).filter_map(|t| match &t.token {
+        Token::Word(path) => Some(path),
+        _ => None,
+    })
+}
+
+/// What a file's text says of the names that it imports: each name with the words by which it is called.
+fn called(tree: &Tree, f: usize) -> BTreeMap<String, BTreeSet<String>> {
+    let mut found: BTreeMap<String, BTreeSet<String>> = BTreeMap::new();
+    for item in &tree.files[f].items {
+        let contract = if item.sort == Sort::Function { &item.groups[1..] } else { &item.groups[..] };
+        let aside = if item.sort == Sort::Function { &[][..] } else { &item.aside[..] };
+        for (token, meaning) in contract.iter().chain(aside).flat_map(|g| tree.meanings(f, g)) {
+            let Token::Word(path) = &token.token else { continue };
+            let word = if path[0] == meaning.name { &path[0] } else { path[0].trim_matches('_') };
+            found.entry(meaning.name).or_default().insert(word.to_string());
+        }
+    }
+    found
+}
+
+fn is_called(name: &str, called: &BTreeMap<String, BTreeSet<String>>) -> bool {
+    called.get(name).is_some_and(|words| words.contains(name) || parts(name).iter().all(|p| words.contains(*p)))
+}
+
+/// Whether some other file takes this name from this module.
+fn passed_on(tree: &Tree, file: &File, name: &str) -> bool {
+    let from = |u: &Use| {
+        let crate_name = u.path.first().and_then(|p| p.strip_prefix("Rattle·")).and_then(|p| p.split('·').next());
+        crate_name == Some(&file.of) && u.path[1..] == file.module
+    };
+    let taken = |u: &Use| u.alias.is_some() || u.names.iter().any(|(there, _)| there == name);
+    tree.files.iter().flat_map(|f| f.uses.iter().chain(&f.ghosts)).any(|u| from(u) && taken(u))
+}
+
+/// Imports that nothing uses: of a name, of a module; a name passed on that nobody takes.
+pub fn imports(tree: &Tree) -> Vec<Fault> {
+    let mut found = Vec::new();
+    for (f, file) in tree.files.iter().enumerate() {
+        let called = called(tree, f);
+        let heads: BTreeSet<&String> = paths(file).map(|p| &p[0]).chain(file.uses.iter().map(|u| &u.path[0])).collect();
+        for used in file.uses.iter().chain(&file.ghosts) {
+            let needed = |name: &str| is_called(name, &called) || (used.public && passed_on(tree, file, name));
+            let idle = used.names.iter().map(|(_, here)| here).filter(|here| !needed(here));
+            found.extend(idle.map(|here| fault(&file.path, used.line, here)));
+            let module = used.alias.iter().filter(|alias| !heads.contains(alias));
+            found.extend(module.map(|alias| fault(&file.path, used.line, alias)));
+        }
+    }
+    found
+}
+
+/// Definitions of specs/ and proofs/ that no contract, no proof of a function and no page reaches.
+pub fn definitions(tree: &Tree, pages: &BTreeSet<String>) -> Vec<Fault> {
+    let begins = |file: &File, item: &scan::antt::Item| {
+        item.sort == Sort::Function || (item.public && file.path.ends_with("/Proof.antt")) || pages.contains(&item.name)
+    };
+    let mut todo: Vec<(usize, usize)> =
+        tree.all().filter(|(_, _, file, item)| begins(file, item)).map(|(f, i, ..)| (f, i)).collect();
+    let mut reached = BTreeSet::new();
+    while let Some((f, i)) = todo.pop() {
+        if reached.insert((f, i)) {
+            let names = tree.names(f, &tree.files[f].items[i]).into_iter();
+            todo.extend(names.filter_map(|t| if let Target::Item(f, i) = t { Some((f, i)) } else { None }));
+        }
+    }
+    let idle = tree.all().filter(|(f, i, file, _)| file.path.ends_with(".antt") && !reached.contains(&(*f, *i)));
+    idle.map(|(_, _, file, item)| fault(&file.path, item.line, &item.name)).collect()
+}
+
+/// Crates that a line of crates.txt names and the crate's files do not.
+pub fn dependencies(tree: &Tree) -> Vec<Fault> {
+    let mut found = Vec::new();
+    for (line, name, named) in &tree.listed {
+        let files = || tree.files.iter().filter(|f| f.of == *name);
+        let uses = files().flat_map(|f| f.uses.iter().chain(&f.ghosts)).map(|u| &u.path);
+        let heads = uses.chain(files().flat_map(paths)).map(|p| p[0].strip_prefix("Rattle·").unwrap_or(&p[0]));
+        let heads: BTreeSet<&str> = heads.map(|h| h.split('·').next().unwrap_or(h)).collect();
+        let idle = named.iter().filter(|d| !heads.contains(d.as_str()));
+        found.extend(idle.map(|d| fault("crates.txt", *line, format!("{name}: {d}"))));
+    }
+    found
+}
+
+/// Functions with more than 8 arguments; those exported to C are as the callers in C need them.
+pub fn arguments(tree: &Tree) -> Vec<Fault> {
+    let all = tree.files.iter().flat_map(|f| f.functions.iter().map(move |g| (f, g)));
+    let many = all.filter(|(_, g)| g.arguments > 8 && !g.exported);
+    many.map(|(f, g)| fault(&f.path, g.line, format!("{}: {} arguments", g.name, g.arguments))).collect()
+}
+
+/// Functions of more than 45 lines, contract and brackets counted.
+pub fn lengths(tree: &Tree) -> Vec<Fault> {
+    let all = tree.files.iter().flat_map(|f| f.functions.iter().map(move |g| (f, g)));
+    let long = all.filter(|(_, g)| g.lines > 45);
+    long.map(|(f, g)| fault(&f.path, g.line, format!("{}: {} lines", g.name, g.lines))).collect()
+}
+
+/// Files of antt that do not begin with a comment; Lib.antt and laws.antt hold lists of files, Proof.antt one proof.
+pub fn heads(tree: &Tree) -> Vec<Fault> {
+    let spared = |path: &str| ["/Lib.antt", "/laws.antt", "/Proof.antt"].iter().any(|end| path.ends_with(end));
+    let bare = tree.files.iter().filter(|f| f.path.ends_with(".antt") && !spared(&f.path) && !f.headed);
+    bare.map(|f| fault(&f.path, 1, "no head")).collect()
+}
+
+/// Crates that stand in crates.txt or in crates/ alone.
+pub fn crates(tree: &Tree) -> Vec<Fault> {
+    let listed: BTreeSet<&String> = tree.listed.iter().map(|(_, name, _)| name).collect();
+    let missing = tree.listed.iter().filter(|(_, name, _)| !tree.folders.contains(name));
+    let gone = missing.map(|(line, name, _)| fault("crates.txt", *line, name));
+    let unlisted = tree.folders.iter().filter(|name| !listed.contains(name));
+    gone.chain(unlisted.map(|name| fault(&format!("crates/{name}"), 1, name))).collect()
+}
+
+/// Public names that are defined in two crates or more, with their files.
+pub fn shared(tree: &Tree) -> BTreeMap<String, BTreeSet<String>> {
+    let mut by: BTreeMap<String, BTreeSet<(&str, &str)>> = BTreeMap::new();
+    let public = |file: &File| file.path.ends_with(".antt") && !file.path.ends_with("/Proof.antt");
+    for (_, _, file, item) in tree.all().filter(|(_, _, file, item)| item.public && public(file)) {
+        by.entry(item.name.clone()).or_default().insert((&file.of, &file.path));
+    }
+    let crates = |places: &BTreeSet<(&str, &str)>| places.iter().map(|(of, _)| *of).collect::<BTreeSet<_>>().len();
+    let several = by.into_iter().filter(|(_, places)| crates(places) > 1);
+    several.map(|(name, places)| (name, places.into_iter().map(|(_, p)| p.to_string()).collect())).collect()
+}

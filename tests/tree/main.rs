@@ -1,0 +1,80 @@
+//! The tree is kept clean: for each kind of fault the number of them that there may be. The faults of a kind are named where
+//! their number is not that one; `tree list` names all.
+use scan::Tree;
+use std::collections::BTreeSet;
+use std::fs;
+use std::path::{Path, PathBuf};
+
+mod faults;
+#[cfg(test)]
+mod tests;
+
+/// How many faults of each kind there are today. The aim is 0.
+const ALLOWED: [(&str, usize); 7] = [
+    ("imports that nothing uses", 147),
+    ("definitions that nothing uses and no page names", 47),
+    ("dependencies of crates.txt that nothing uses", 1),
+    ("functions with more than 8 arguments", 29),
+    ("functions of more than 45 lines", 3),
+    ("files of antt without a head", 0),
+    ("crates that crates.txt and crates/ do not share", 0),
+];
+
+/// The names that the pages have in backquotes; docs/TRUST.md is made from the tree and does not count.
+fn named_by_pages(top: &Path) -> BTreeSet<String> {
+    let pages = fs::read_dir(top.join("docs")).into_iter().flatten().flatten().map(|e| e.path());
+    let mut names = BTreeSet::new();
+    let written = |p: &PathBuf| p.extension().is_some_and(|e| e == "md") && !p.ends_with("TRUST.md");
+    for page in pages.filter(written).chain([top.join("README.md")]) {
+        let text = fs::read_to_string(page).unwrap_or_default();
+        let quoted = text.split('`').skip(1).step_by(2).flat_map(str::split_whitespace);
+        names.extend(quoted.map(|word| word.trim_matches(',').to_string()));
+    }
+    names
+}
+
+fn found(top: &Path) -> Vec<Vec<faults::Fault>> {
+    let tree = Tree::load(top);
+    vec![
+        faults::imports(&tree),
+        faults::definitions(&tree, &named_by_pages(top)),
+        faults::dependencies(&tree),
+        faults::arguments(&tree),
+        faults::lengths(&tree),
+        faults::heads(&tree),
+        faults::crates(&tree),
+    ]
+}
+
+/// What to say of a kind with this many faults, and whether the test goes on.
+fn verdict(count: usize, allowed: usize) -> (String, bool) {
+    match count.cmp(&allowed) {
+        std::cmp::Ordering::Less => {
+            (format!("{count}, {allowed} allowed: lower the number in tests/tree/main.rs"), false)
+        }
+        std::cmp::Ordering::Equal => (format!("{count}, as many as allowed"), true),
+        std::cmp::Ordering::Greater => (format!("{count}, {allowed} allowed"), false),
+    }
+}
+
+fn main() {
+    let top = Path::new(".");
+    let listed = std::env::args().nth(1).as_deref() == Some("list");
+    let mut good = true;
+    for (faults, (kind, allowed)) in found(top).iter().zip(ALLOWED) {
+        let (says, fine) = verdict(faults.len(), allowed);
+        good &= fine;
+        println!("tree: {kind}: {says}");
+        for f in faults.iter().filter(|_| listed || !fine) {
+            println!("  {}:{}: {}", f.path, f.line, f.name);
+        }
+    }
+    let shared = faults::shared(&Tree::load(top));
+    println!("tree: public names in two crates or more: {}", shared.len());
+    for (name, files) in &shared {
+        println!("  {name}: {}", files.iter().cloned().collect::<Vec<_>>().join(" "));
+    }
+    if !good {
+        std::process::exit(1);
+    }
+}

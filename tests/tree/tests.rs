@@ -1,0 +1,115 @@
+use crate::faults;
+use crate::{found, verdict};
+use std::path::Path;
+
+#[path = "../scan/made.rs"]
+mod made;
+use made::Made;
+
+const LISTED: &str = "# comment\na:\nb: a\n";
+const DEFINES: &str = "-- Head.\nuse M.{ℕ}\n\nunfoldable pub f : ℕ\nf = 0\n\nmodule _ (n : ℕ) where\n  pub f-law : ℕ\n  unfolding f\n  f-law = f\n";
+const CODE: &str =
+    "// Head.\nghost use Rattle.a.specs.A.{f};\n\npub fn g() -> u16\n    ensures { λ r. ⌜ r ≡ f ⌝ }\n{\n    0\n}\n";
+const PROOF: &str =
+    "use Rattle.a.specs.A.{f-law}\nuse Rattle.b.proofs.g.Tie as tie\n\npub g-spec : tie.T\ng-spec = f-law\n";
+
+/// A clean tree with one file more, or one replaced.
+fn with(path: &str, text: &str) -> Made {
+    let clean = [
+        ("crates.txt", LISTED),
+        ("crates/a/specs/Lib.antt", "pub mod A\n"),
+        ("crates/a/specs/A.antt", DEFINES),
+        ("crates/b/src/lib.rt", CODE),
+        ("crates/b/proofs/g/Proof.antt", PROOF),
+    ];
+    let kept = clean.into_iter().filter(|(p, _)| *p != path);
+    Made::new(&kept.chain([(path, text)]).collect::<Vec<_>>())
+}
+
+/// The faults of one kind as "path:line: name", if there are none of the others.
+fn only(top: &Path, kind: usize) -> Vec<String> {
+    let all = found(top);
+    let others = all.iter().enumerate().filter(|(k, faults)| *k != kind && !faults.is_empty()).count();
+    assert_eq!(others, 0, "{all:?}");
+    all[kind].iter().map(|f| format!("{}:{}: {}", f.path, f.line, f.name)).collect()
+}
+
+#[test]
+fn a_clean_tree_passes() {
+    assert!(found(with("README.md", "").top()).iter().all(Vec::is_empty));
+}
+
+#[test]
+fn an_idle_import() {
+    let text = DEFINES.replace("{ℕ}", "{ℕ, _∷_, k as m}\nuse N as P");
+    let said = only(with("crates/a/specs/A.antt", &text).top(), 0);
+    assert_eq!(said, ["crates/a/specs/A.antt:2: _∷_", "crates/a/specs/A.antt:2: m", "crates/a/specs/A.antt:3: P"]);
+    let said = only(with("crates/b/src/lib.rt", &CODE.replace("{f}", "{f, g}")).top(), 0);
+    assert_eq!(said, ["crates/b/src/lib.rt:2: g"]);
+    let passes = DEFINES.replace("-- Head.", "-- Head.\npub use M.{x}");
+    assert_eq!(only(with("crates/a/specs/A.antt", &passes).top(), 0), ["crates/a/specs/A.antt:2: x"]);
+}
+
+#[test]
+fn a_name_that_is_bound_is_no_use() {
+    let text = DEFINES.replace("{ℕ}", "{ℕ, m}").replace("f = 0", "f = (λ m. m) 0");
+    assert_eq!(only(with("crates/a/specs/A.antt", &text).top(), 0), ["crates/a/specs/A.antt:2: m"]);
+}
+
+#[test]
+fn an_idle_definition() {
+    let text = format!("{DEFINES}\n  pub idle : ℕ\n  idle = other\n\n  other : ℕ\n  other = idle\n");
+    let said = only(with("crates/a/specs/A.antt", &text).top(), 1);
+    assert_eq!(said, ["crates/a/specs/A.antt:12: idle", "crates/a/specs/A.antt:15: other"]);
+    let made = with("crates/a/specs/A.antt", &text);
+    std::fs::create_dir_all(made.top().join("docs")).unwrap();
+    std::fs::write(made.top().join("docs/PAGE.md"), "The name `idle` is said here.\n").unwrap();
+    assert!(found(made.top()).iter().all(Vec::is_empty));
+    let proof = PROOF.replace("pub g-spec", "idle : tie.T\nidle = f-law\n\npub g-spec");
+    assert_eq!(only(with("crates/b/proofs/g/Proof.antt", &proof).top(), 1), ["crates/b/proofs/g/Proof.antt:4: idle"]);
+}
+
+#[test]
+fn an_idle_dependency() {
+    let listed = LISTED.replace("b: a", "b: a io");
+    assert_eq!(only(with("crates.txt", &listed).top(), 2), ["crates.txt:3: b: io"]);
+}
+
+#[test]
+fn large_functions() {
+    let nine = "x: u8, y: u8, z: u8, a: u8, b: u8, c: u8, d: u8, e: u8, f: u8,";
+    let text = format!("{CODE}\npub fn h(\n    {nine}\n) {{\n}}\n\npub extern \"C\" fn i({nine}) {{\n}}\n");
+    assert_eq!(only(with("crates/b/src/lib.rt", &text).top(), 3), ["crates/b/src/lib.rt:10: h: 9 arguments"]);
+    let text = format!("{CODE}\nfn h() {{\n{}}}\n", "    g();\n".repeat(44));
+    assert_eq!(only(with("crates/b/src/lib.rt", &text).top(), 4), ["crates/b/src/lib.rt:10: h: 46 lines"]);
+}
+
+#[test]
+fn a_file_without_a_head() {
+    assert_eq!(
+        only(with("crates/a/specs/laws/C.antt", "\n-- Late.\n").top(), 5),
+        ["crates/a/specs/laws/C.antt:1: no head"]
+    );
+    let made = with("crates/a/specs/laws.antt", "pub mod C\n");
+    assert!(found(made.top()).iter().all(Vec::is_empty));
+}
+
+#[test]
+fn crates_that_are_not_listed() {
+    assert_eq!(only(with("crates/c/src/lib.rt", "// Head.\n").top(), 6), ["crates/c:1: c"]);
+    assert_eq!(only(with("crates.txt", &format!("{LISTED}d:\n")).top(), 6), ["crates.txt:4: d"]);
+}
+
+#[test]
+fn names_in_two_crates() {
+    let made = with("crates/b/specs/B.antt", "-- Head.\npub f : ℕ\nf = 0\n");
+    let shared = faults::shared(&scan::Tree::load(made.top()));
+    assert_eq!(shared.keys().collect::<Vec<_>>(), ["f"]);
+    assert_eq!(shared["f"].len(), 2);
+}
+
+#[test]
+fn the_number_is_exact() {
+    assert!(verdict(3, 3).1 && !verdict(4, 3).1 && !verdict(2, 3).1);
+    assert!(verdict(2, 3).0.contains("lower the number"));
+}
