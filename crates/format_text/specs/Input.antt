@@ -3,28 +3,37 @@ use Prim.Native.Nat.{ℕ, _≤_}
 use native.Mathlib.Omega.{arith}
 use mathlib.Core.Path.{_≡_, sym, ap, _∙_}
 use mathlib.Core.List.{List}
-use lib.ListN.{length, getD, take, length-take}
+use lib.ListN.{getD, take, length-take}
 use lib.Seq.{take-all}
+use Rattle.format_text.specs.declared.Intake.{Intake}
+
+-- how many bytes there was room for, and how many came
+abbrev pub roomOf : Intake → ℕ
+roomOf i = i .room
+
+abbrev pub countOf : Intake → ℕ
+countOf i = i .count
 
 -- an input is bytes
 abbrev pub AllBytes : List ℕ → Type 0
 AllBytes s = (i : ℕ) → getD s i 0 ≤ 255
 
--- The text is that of every input that reading until the buffer is full, or the input ends, can have left so: as many of its first
--- bytes as the buffer holds are the `count` that were read.
-abbrev pub OfInput : (List ℕ → List ℕ) → List ℕ → ℕ → List ℕ → Type 0
-OfInput told buffer count text = (s : List ℕ) → AllBytes s → take (length buffer) s ≡ take count buffer → text ≡ told s
+-- The text is that of every input that reading can have left so, until the room was full or the input ended: as many of the input's
+-- first bytes as there was room for are those that came.
+abbrev pub OfInput : (List ℕ → List ℕ) → List ℕ → Intake → List ℕ → Type 0
+OfInput told space i text = (s : List ℕ) → AllBytes s → take (roomOf i) s ≡ take (countOf i) space → text ≡ told s
 
 -- n bytes are enough: what comes behind them makes no difference
 abbrev pub Enough : (List ℕ → List ℕ) → ℕ → Type 0
 Enough told n = (m : ℕ) → n ≤ m → (s : List ℕ) → AllBytes s → told (take m s) ≡ told s
 
-module _ {told : List ℕ → List ℕ} (buffer : List ℕ) (count : ℕ) where
-  -- what was read is such an input
-  pub of-read : {text : List ℕ} → AllBytes (take count buffer) → OfInput told buffer count text → text ≡ told (take count buffer)
-  of-read b o = o (take count buffer) b (take-all (length buffer) (take count buffer) (omega (arith, length-take count buffer)))
+module _ {told : List ℕ → List ℕ} (space : List ℕ) (i : Intake) where
+  -- what came is such an input
+  pub of-read : {text : List ℕ} → countOf i ≤ roomOf i → AllBytes (take (countOf i) space) → OfInput told space i text
+      → text ≡ told (take (countOf i) space)
+  of-read l b o = o (take (countOf i) space) b (take-all (roomOf i) (take (countOf i) space) (omega (arith, length-take (countOf i) space)))
 
-  -- the text of what was read is that of the input, where the buffer has enough bytes
-  pub of-input : {n : ℕ} → Enough told n → n ≤ length buffer → {given text : List ℕ} → given ≡ take count buffer → text ≡ told given
-      → OfInput told buffer count text
-  of-input law room e t s b r = t ∙ ap told (e ∙ sym r) ∙ law (length buffer) room s b
+  -- the text of what came is that of the input, where there was room for enough bytes
+  pub of-input : {n : ℕ} → Enough told n → n ≤ roomOf i → {count : ℕ} → count ≡ countOf i → {given : List ℕ} → given ≡ take count space
+      → {text : List ℕ} → text ≡ told given → OfInput told space i text
+  of-input law enough k e t s b r = t ∙ ap told (e ∙ ap (λ n. take n space) k ∙ sym r) ∙ law (roomOf i) enough s b

@@ -12,7 +12,7 @@ use lib.Dec.{eqb}
 use borrow.Author.Tests.{le-ltb, ne-eqb}
 use Rattle.base.specs.Cond.{bool-cases}
 use Rattle.base.specs.Refuse.{orElse}
-use Rattle.format_text.specs.Input.{AllBytes}
+use Rattle.format_text.specs.Input.{AllBytes, Enough}
 use Rattle.plan_file.specs.declared.Outcome.{Outcome}
 use Rattle.plan_file.specs.Layout.{number, blank}
 use Rattle.plan_file.specs.Reading.{headVerdict, headRefusal, readRefusal, readPlan}
@@ -49,6 +49,7 @@ module _ (n : ℕ) (far : PLANROOM ≤ n) (s : List ℕ) (bytes : AllBytes s) wh
       read-long (take n s) (omega arith) less ∙ ap longOutcome (here 0 (omega arith))
       ∙ sym (read-long s (omega arith) (omega (arith, bytes 1, bytes 2)))
 
-  -- THE REPORT OF WHAT WAS READ IS THE REPORT OF THE INPUT, however long it is
-  pub long-refused : reported (take n s) ≡ reported s
-  long-refused = by-cases (decLe n (length s)) (λ l. ap planText (same-outcome l)) (λ l. ap reported (take-all n s (omega arith)))
+-- THE REPORT OF WHAT WAS READ IS THE REPORT OF THE INPUT, however long it is
+pub long-refused : Enough reported PLANROOM
+long-refused n far s bytes =
+    by-cases (decLe n (length s)) (λ l. ap planText (same-outcome n far s bytes l)) (λ l. ap reported (take-all n s (omega arith)))

@@ -5,8 +5,8 @@ ghost use Rattle.format_text.specs.Input.{OfInput};
 ghost use Rattle.format_text.specs.Put.{page, put};
 ghost use Rattle.host_job.specs.Settled.{settled as Settled·settled};
 ghost use Rattle.program_report.specs.Reported.{refusedText, settledText, reported};
-use libc::STDIN_FILENO;
 use libc::STDOUT_FILENO;
+use format_text::Intake;
 use plan::Plan;
 
 mod render;
@@ -43,10 +43,9 @@ fn report(s: &[u8], out: &mut [u8]) -> usize
     settled(p, &mut lent[..m], out)
 }
 
-// What it asks is what the program owes: the text is the report of the whole input, of which `space` holds the first `n` bytes,
-// all that it has room for.
-fn write(space: &[u8], n: usize, text: &[u8])
-    requires { ⌜ OfInput reported (now space) n (now text) ⌝ }
+// What it asks is what the program owes: the text is the report of the whole input, of which `space` holds what came.
+fn write(space: &[u8], intake: Intake, text: &[u8])
+    requires { ⌜ OfInput reported (now space) intake (now text) ⌝ }
 {
     let _done = io::write_all(STDOUT_FILENO, text);
 }
@@ -57,8 +56,9 @@ const PLANROOM: usize = 65539;
 
 fn main() {
     let mut space = [0u8; PLANROOM];
-    let n = io::read_full(STDIN_FILENO, &mut space);
+    let intake = format_text::read_input(&mut space);
+    let n = format_text::bytes_read(intake);
     let mut out = [0u8; 65536];
     let end = report(format_text::front(&space, n), &mut out);
-    write(&space, n, format_text::front(&out, end));
+    write(&space, intake, format_text::front(&out, end));
 }

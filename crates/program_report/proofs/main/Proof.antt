@@ -12,8 +12,9 @@ write-requires : tie.Need-write-requires
 write-requires c κs =
     let made = c .before .before .before .before in
     let given = made .before .before in
-    let read = given .before .before .before .read-full in
-    of-input (read .last .1 .0) (read .result) long-refused (omega (arith, read .kept .1 .0)) (given .front .ensures)
+    let count = given .before .before in
+    let read = count .before .before .read-input in
+    of-input (read .last .0) (read .result) long-refused (omega (arith, read .ensures .0)) (count .bytes-read .ensures) (given .front .ensures)
     (c .front2 .ensures ∙ whole-text _ _ (reported-fits _) _ _ (made .report .ensures))
 
 pub main-spec : {M : Type 1} → statement M
@@ -21,6 +22,7 @@ main-spec =
     tie.close
     (tie.spec
     (λ c. search needs)
+    (λ c κs. search needs)
     (λ c κs. search needs)
     (λ c. search needs)
     (λ c κs. search needs)
