@@ -75,7 +75,10 @@ pub fn read_input(space: &mut [u8]) -> Intake
 {
     let room = space.len();
     let count = io::read_full(STDIN_FILENO, space);
-    Intake { room: room, count: count }
+    Intake {
+        room: room,
+        count: count,
+    }
 }
 
 pub fn bytes_read(intake: Intake) -> usize

@@ -5,8 +5,8 @@ ghost use Rattle.format_text.specs.Input.{OfInput};
 ghost use Rattle.format_text.specs.Put.{page, put};
 ghost use Rattle.host_job.specs.Settled.{settled as Settled·settled};
 ghost use Rattle.program_report.specs.Reported.{refusedText, settledText, reported};
-use libc::STDOUT_FILENO;
 use format_text::Intake;
+use libc::STDOUT_FILENO;
 use plan::Plan;
 
 mod render;

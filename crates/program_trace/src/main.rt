@@ -10,10 +10,10 @@ ghost use Rattle.field.specs.Edges.{ceilingOf};
 ghost use Rattle.field_calls.specs.Call.{runBytes};
 ghost use Rattle.program_trace.specs.Text.{ranText};
 ghost use Rattle.program_trace.specs.Traced.{start, planPart, traced};
-use libc::STDOUT_FILENO;
 use format_text::Intake;
-use plan::Plan;
 use host_run::Ran;
+use libc::STDOUT_FILENO;
+use plan::Plan;
 
 mod render;
 
