@@ -2,3 +2,4 @@ pub mod Ascii
 pub mod Put
 pub mod Decimal
 pub mod Lines
+pub mod Input

@@ -1,12 +1,15 @@
 // Text in a lent buffer: bytes are put at a place, and the answer is the place behind them. What does not fit is cut off at
-// the buffer's end (specs/Put).
+// the buffer's end (specs/Put). And what a program reads into one (specs/Input).
+ghost use Prim.Native.Nat.{_≤_};
 ghost use mathlib.Core.Path.{_≡_};
 ghost use mathlib.Core.List.{_++_};
-ghost use lib.ListN.{take};
+ghost use lib.ListN.{length, take};
 ghost use Rattle.format_text.specs.Ascii.{ascii};
 ghost use Rattle.format_text.specs.Put.{page};
 ghost use Rattle.format_text.specs.Put.{put as Put·put};
 ghost use Rattle.format_text.specs.Decimal.{decimal};
+ghost use Rattle.format_text.specs.Input.{roomOf, countOf};
+use libc::STDIN_FILENO;
 
 pub fn put(out: &mut [u8], at: usize, s: &[u8]) -> usize
     ensures { λ r. ⌜ page r (now (out .exit)) ≡ Put·put (page at (now (out .entry))) (now (s .entry)) ⌝ }
@@ -57,4 +60,29 @@ pub fn front<'a>(buffer: &'a [u8], end: usize) -> &'a [u8]
         return buffer;
     }
     &buffer[..end]
+}
+
+// What a read of standard input left: how many bytes there was room for, and how many came. `read_input` alone makes one, so
+// that a program cannot claim to have read other than it did.
+pub struct Intake {
+    room: usize,
+    count: usize,
+}
+
+// Reads until the buffer is full or the input ends.
+pub fn read_input(space: &mut [u8]) -> Intake
+    ensures { λ r. ⌜ (roomOf r ≡ length (now (space .entry))) × (countOf r ≤ roomOf r) ⌝ }
+{
+    let room = space.len();
+    let count = io::read_full(STDIN_FILENO, space);
+    Intake {
+        room: room,
+        count: count,
+    }
+}
+
+pub fn bytes_read(intake: Intake) -> usize
+    ensures { λ r. ⌜ r ≡ countOf intake ⌝ }
+{
+    intake.count
 }

@@ -12,17 +12,22 @@ use lib.Dec.{eqb}
 use borrow.Author.Tests.{le-ltb, ne-eqb}
 use Rattle.base.specs.Cond.{bool-cases}
 use Rattle.base.specs.Refuse.{orElse}
+use Rattle.format_text.specs.Input.{AllBytes, Enough}
 use Rattle.plan_file.specs.declared.Outcome.{Outcome}
 use Rattle.plan_file.specs.Layout.{number, blank}
 use Rattle.plan_file.specs.Reading.{headVerdict, headRefusal, readRefusal, readPlan}
 use Rattle.program_report.specs.Reported.{planText, reported}
+
+-- how many bytes are enough: all that a 16-bit length can tell of, and one more (in code PLANROOM too)
+abbrev pub PLANROOM : ℕ
+PLANROOM = 65539
 
 -- "12 version; 13 length not the bytes that follow", by the first byte
 abbrev longOutcome : ℕ → Outcome
 longOutcome version = record { refusal = orElse (not (eqb version 1)) 12 13; plan = blank }
 
 -- more bytes than a 16-bit length can tell of
-module _ (s : List ℕ) (far : 65539 ≤ length s) (small : number s 0 ≤ 65535) where
+module _ (s : List ℕ) (far : PLANROOM ≤ length s) (small : number s 0 ≤ 65535) where
   head-long : headRefusal s ≡ orElse (not (eqb (getD s 0 0) 1)) 12 13
   unfolding headVerdict
   head-long = rw (le-ltb (length s) 3 (omega arith), ne-eqb (number s 0) (length s - 3) apart) refl
@@ -35,7 +40,7 @@ module _ (s : List ℕ) (far : 65539 ≤ length s) (small : number s 0 ≤ 65535
   read-long = rw head-long (bool-cases (eqb (getD s 0 0) 1) (λ t. rw t refl) (λ f. rw f refl))
 
 -- so a buffer of n bytes is enough
-module _ (n : ℕ) (far : 65539 ≤ n) (s : List ℕ) (bytes : (i : ℕ) → getD s i 0 ≤ 255) where
+module _ (n : ℕ) (far : PLANROOM ≤ n) (s : List ℕ) (bytes : AllBytes s) where
   same-outcome : n ≤ length s → readPlan (take n s) ≡ readPlan s
   same-outcome l =
       let size = length-take-le n s l in
@@ -44,6 +49,7 @@ module _ (n : ℕ) (far : 65539 ≤ n) (s : List ℕ) (bytes : (i : ℕ) → get
       read-long (take n s) (omega arith) less ∙ ap longOutcome (here 0 (omega arith))
       ∙ sym (read-long s (omega arith) (omega (arith, bytes 1, bytes 2)))
 
-  -- THE REPORT OF WHAT WAS READ IS THE REPORT OF THE INPUT, however long it is
-  pub long-refused : reported (take n s) ≡ reported s
-  long-refused = by-cases (decLe n (length s)) (λ l. ap planText (same-outcome l)) (λ l. ap reported (take-all n s (omega arith)))
+-- THE REPORT OF WHAT WAS READ IS THE REPORT OF THE INPUT, however long it is
+pub long-refused : Enough reported PLANROOM
+long-refused n far s bytes =
+    by-cases (decLe n (length s)) (λ l. ap planText (same-outcome n far s bytes l)) (λ l. ap reported (take-all n s (omega arith)))

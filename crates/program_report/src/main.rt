@@ -1,11 +1,11 @@
 // The reporting program: reads a plan on standard input, wakes module 0, runs rounds to rest and prints the tree that the
 // field has come to. A refused plan prints one line, as "refused 19".
 ghost use mathlib.Core.Path.{_≡_};
-ghost use lib.ListN.{replicate};
+ghost use Rattle.format_text.specs.Input.{OfInput};
 ghost use Rattle.format_text.specs.Put.{page, put};
 ghost use Rattle.host_job.specs.Settled.{settled as Settled·settled};
 ghost use Rattle.program_report.specs.Reported.{refusedText, settledText, reported};
-use libc::STDIN_FILENO;
+use format_text::Intake;
 use libc::STDOUT_FILENO;
 use plan::Plan;
 
@@ -43,27 +43,22 @@ fn report(s: &[u8], out: &mut [u8]) -> usize
     settled(p, &mut lent[..m], out)
 }
 
-// What it asks is what the program owes: the text is the report of the bytes read.
-fn write(given: &[u8], text: &[u8])
-    requires { ⌜ now text ≡ reported (now given) ⌝ }
+// What it asks is what the program owes: the text is the report of the whole input, of which `space` holds what came.
+fn write(space: &[u8], intake: Intake, text: &[u8])
+    requires { ⌜ OfInput reported (now space) intake (now text) ⌝ }
 {
     let _done = io::write_all(STDOUT_FILENO, text);
 }
 
-// What was put into the buffer, written.
-fn show(given: &[u8], out: &[u8], end: usize)
-    requires { ⌜ page end (now out) ≡ put (page 0 (replicate 65536 0)) (reported (now given)) ⌝ }
-{
-    write(given, format_text::front(out, end));
-}
+// All that a 16-bit length can tell of, and one byte more, so that bytes behind are seen. (The longest plan that is taken has
+// 4807 bytes; a longer one whose length fits is refused by 14 or 15 and not by 13.)
+const PLANROOM: usize = 65539;
 
 fn main() {
-    // All that a 16-bit length can tell of, and one byte more, so that bytes behind are seen. (The longest plan that is
-    // taken has 4807 bytes; a longer one whose length fits is refused by 14 or 15 and not by 13.)
-    let mut space = [0u8; 65539];
-    let n = io::read_full(STDIN_FILENO, &mut space);
-    let given = format_text::front(&space, n);
+    let mut space = [0u8; PLANROOM];
+    let intake = format_text::read_input(&mut space);
+    let n = format_text::bytes_read(intake);
     let mut out = [0u8; 65536];
-    let end = report(given, &mut out);
-    show(given, &out, end);
+    let end = report(format_text::front(&space, n), &mut out);
+    write(&space, intake, format_text::front(&out, end));
 }

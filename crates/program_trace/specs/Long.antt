@@ -13,6 +13,7 @@ use borrow.Author.Tests.{le-ltb, ne-eqb}
 use Rattle.base.specs.Cond.{bool-cases, eqb-cases}
 use Rattle.base.specs.Loop.{Ran}
 use Rattle.format_int16.specs.Int16.{at16}
+use Rattle.format_text.specs.Input.{AllBytes, Enough}
 use Rattle.base.specs.Refuse.{fine-first}
 use Rattle.plan_file.specs.declared.Outcome.{Outcome}
 use Rattle.plan_file.specs.Layout.{decode, blank}
@@ -23,6 +24,10 @@ use Rattle.field_calls.specs.Schedule.{scheduleRefusal}
 use Rattle.field_calls.specs.Call.{refusedRun, runBytes}
 use Rattle.program_trace.specs.Text.{ranText}
 use Rattle.program_trace.specs.Traced.{refusedText, start, planPart, traced}
+
+-- how many bytes are enough: the longest plan, the longest schedule, and one more (in code RUNROOM too)
+abbrev pub RUNROOM : ℕ
+RUNROOM = 70346
 
 -- "52 version; 53 length wrong", by the first byte
 abbrev longRun : ℕ → Held → Ran Held
@@ -51,7 +56,7 @@ plan-short x z =
     let o = head-ok x (fine-first (headRefusal x) none .0) in
     omega (arith, o .size, o .counts .linksOk)
 
-module _ (n : ℕ) (far : 70346 ≤ n) (s : List ℕ) (bytes : (i : ℕ) → getD s i 0 ≤ 255) where
+module _ (n : ℕ) (far : RUNROOM ≤ n) (s : List ℕ) (bytes : AllBytes s) where
   module _ (l : n ≤ length s) where
     here : (i : ℕ) → i < n → getD (take n s) i 0 ≡ getD s i 0
     here i h = getD-take n s i 0 h
@@ -92,6 +97,6 @@ module _ (n : ℕ) (far : 70346 ≤ n) (s : List ℕ) (bytes : (i : ℕ) → get
         short : readPlan (take (planPart s) s) .refusal ≡ 0 → planPart s ≤ 4807
         short z = omega (arith, plan-short (take (planPart s) s) z, length-take-le (planPart s) s (omega arith))
 
-  -- WHAT IS PRINTED OF WHAT WAS READ IS WHAT IS PRINTED OF THE INPUT, however long it is
-  pub long-same : traced (take n s) ≡ traced s
-  long-same = by-cases (decLe n (length s)) (λ l. same-trace l) (λ l. ap traced (take-all n s (omega arith)))
+-- WHAT IS PRINTED OF WHAT WAS READ IS WHAT IS PRINTED OF THE INPUT, however long it is
+pub long-same : Enough traced RUNROOM
+long-same n far s bytes = by-cases (decLe n (length s)) (λ l. same-trace n far s bytes l) (λ l. ap traced (take-all n s (omega arith)))

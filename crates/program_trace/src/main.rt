@@ -2,15 +2,16 @@
 // and prints what that led to: the run's answer, every module with its marks, every waiting word.
 // A refused plan prints one line, as "refused 19".
 ghost use mathlib.Core.Path.{_≡_};
-ghost use lib.ListN.{length, replicate};
+ghost use lib.ListN.{length};
+ghost use Rattle.format_text.specs.Input.{OfInput};
 ghost use Rattle.format_text.specs.Put.{page, put};
 ghost use Rattle.plan.specs.Refusal.{planRefusal};
 ghost use Rattle.field.specs.Edges.{ceilingOf};
 ghost use Rattle.field_calls.specs.Call.{runBytes};
 ghost use Rattle.program_trace.specs.Text.{ranText};
 ghost use Rattle.program_trace.specs.Traced.{start, planPart, traced};
+use format_text::Intake;
 use host_run::Ran;
-use libc::STDIN_FILENO;
 use libc::STDOUT_FILENO;
 use plan::Plan;
 
@@ -78,26 +79,21 @@ fn trace(input: &[u8], out: &mut [u8]) -> usize
     follow(p, &mut lent[..m], &input[part..], out)
 }
 
-// What it asks is what the program owes: the text is what the bytes read lead to.
-fn write(given: &[u8], text: &[u8])
-    requires { ⌜ now text ≡ traced (now given) ⌝ }
+// What it asks is what the program owes: the text is what the whole input leads to, of which `space` holds what came.
+fn write(space: &[u8], intake: Intake, text: &[u8])
+    requires { ⌜ OfInput traced (now space) intake (now text) ⌝ }
 {
     let _done = io::write_all(STDOUT_FILENO, text);
 }
 
-// What was put into the buffer, written.
-fn show(given: &[u8], out: &[u8], end: usize)
-    requires { ⌜ page end (now out) ≡ put (page 0 (replicate 400000 0)) (traced (now given)) ⌝ }
-{
-    write(given, format_text::front(out, end));
-}
+// The longest plan, the longest schedule and one byte more, so that bytes behind a schedule are seen.
+const RUNROOM: usize = 70346;
 
 fn main() {
-    // the longest plan, the longest schedule and one byte more, so that bytes behind a schedule are seen
-    let mut space = [0u8; 70346];
-    let n = io::read_full(STDIN_FILENO, &mut space);
-    let given = format_text::front(&space, n);
+    let mut space = [0u8; RUNROOM];
+    let intake = format_text::read_input(&mut space);
+    let n = format_text::bytes_read(intake);
     let mut out = [0u8; 400000];
-    let end = trace(given, &mut out);
-    show(given, &out, end);
+    let end = trace(format_text::front(&space, n), &mut out);
+    write(&space, intake, format_text::front(&out, end));
 }

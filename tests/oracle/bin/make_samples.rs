@@ -14,6 +14,11 @@ fn triangle() -> Plan {
     Plan { modules: 3, links: vec![link(0, 1), link(0, 2), link(1, 2)] }
 }
 
+fn mesh(rng: &mut Rng, n: u16, l: usize) -> Plan {
+    let pairs = connected(rng, n, l);
+    plan(rng, n, pairs, Readings::Wide)
+}
+
 fn main() {
     let folder = std::env::args().nth(1).expect("a folder to write to");
     let rng = &mut Rng::new(1983);
@@ -31,6 +36,7 @@ fn main() {
         ("ring-12", plan(rng, 12, ring(12), Readings::Same)),
         ("complete-10", plan(rng, 10, complete(10), Readings::SameSum)),
         ("full-192", plan(rng, 192, full, Readings::Wide)),
+        ("mesh-9", mesh(rng, 9, 16)),
         ("refused-17-not-ascending", not_ascending),
         ("refused-18-reading-2001", reading_2001),
         ("refused-19-two-parts", Plan { modules: 2, links: vec![] }),

@@ -1,0 +1,35 @@
+use native.Mathlib.Omega.{arith}
+use mathlib.Core.Path.{_∙_}
+use borrow.Author.Needs.{needs}
+use Rattle.format_text.specs.Input.{of-input}
+use Rattle.format_text.specs.Put.{whole-text}
+use Rattle.program_trace.specs.Fits.{traced-fits}
+use Rattle.program_trace.specs.Long.{long-same}
+use Rattle.program_trace.proofs.main.Statement.{statement}
+use Rattle.program_trace.proofs.main.Tie as tie
+
+write-requires : tie.Need-write-requires
+write-requires c κs =
+    let made = c .before .before .before .before in
+    let given = made .before .before in
+    let count = given .before .before in
+    let read = count .before .before .read-input in
+    of-input (read .last .0) (read .result) long-same (omega (arith, read .ensures .0)) (count .bytes-read .ensures) (given .front .ensures)
+    (c .front2 .ensures ∙ whole-text _ _ (traced-fits _) _ _ (made .trace .ensures))
+
+pub main-spec : {M : Type 1} → statement M
+main-spec =
+    tie.close
+    (tie.spec
+    (λ c. search needs)
+    (λ c κs. search needs)
+    (λ c κs. search needs)
+    (λ c. search needs)
+    (λ c κs. search needs)
+    (λ c. search needs)
+    (λ c κs. search needs)
+    (λ c. search needs)
+    (λ c. search needs)
+    (λ c κs. search needs)
+    write-requires
+    (λ c. search needs))
