@@ -13,7 +13,7 @@ abbrev μ-loop : tie.MeasureT-loop
 μ-loop lent₀ n links d₀ lent d = 2 * links - d
 
 loop-holds : tie.Need-loop-holds Inv-loop μ-loop
-loop-holds c = (none-handed _ _ _ _ (c .before .pre .0), search needs)
+loop-holds c = (none-handed _ _ _ (c .before .pre .0), search needs)
 
 hand-turn-requires : tie.Need-hand-turn-requires Inv-loop μ-loop
 hand-turn-requires c κs = let i = c .before .before in (i .loop .inv .0 .1 .laid, i .before .before .pre .1)
@@ -22,18 +22,18 @@ returns : tie.Need-returns Inv-loop μ-loop
 returns c =
     let h = c .before .before .before in
     let t = h .before .before in
-    renamed (handed-off _ _ _ _ _ (t .before .loop .inv .0) (h .hand-turn .ensures) _ (t .loop-test .taken) (c .if1 .taken))
-    (λ p cells marks sent e. hand-phase p _ _ e)
+    renamed (handed-off _ _ _ _ (t .before .loop .inv .0) (h .hand-turn .ensures) _ (t .loop-test .taken) (c .if1 .taken))
+    (λ cells marks sent. hand-phase _ _ _ (i .ends))
 
 loop-again : tie.Need-loop-again Inv-loop μ-loop
 loop-again c =
     let h = c .before .before .before in
-    (handed-on _ _ _ _ _ (h .before .before .before .loop .inv .0) (h .hand-turn .ensures) (h .hand-turn .kept .0) (c .if1 .left), search needs)
+    (handed-on _ _ _ _ (h .before .before .before .loop .inv .0) (h .hand-turn .ensures) (h .hand-turn .kept .0) (c .if1 .left), search needs)
 
 returns-2 : tie.Need-returns-2 Inv-loop μ-loop
 returns-2 c =
     let i = c .before .loop .inv in
-    renamed (handed-all _ _ _ _ _ (i .0) _ (c .loop-test .left) (i .1)) (λ p cells marks sent e. hand-phase p _ _ e)
+    renamed (handed-all _ _ _ _ (i .0) _ (c .loop-test .left) (i .1)) (λ cells marks sent. hand-phase _ _ _ (i .ends))
 
 pub hand-phase-spec : {M : Type 1} → statement M
 hand-phase-spec =
