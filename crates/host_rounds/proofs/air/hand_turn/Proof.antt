@@ -34,7 +34,7 @@ returns c =
 loop-again : tie.Need-loop-again Inv-loop μ-loop
 loop-again c =
     let h = c .before .before .before in
-    (handed-on _ _ _ _ (h .before .before .before .loop .inv .0) (h .hand .ensures) (h .hand .kept .0) (c .if1 .left), search needs)
+    (handed-on _ _ _ _ (h .before .before .before .loop .inv .0) (h .hand .ensures) (h .hand .kept .1 .0) (c .if1 .left), search needs)
 
 returns-2 : tie.Need-returns-2 Inv-loop μ-loop
 returns-2 c =

@@ -16,16 +16,16 @@ abbrev μ-loop : tie.MeasureT-loop
 μ-loop plan cells₀ marks₀ lent₀ v n q s₀ j₀ cells marks lent s j = q - j
 
 slice-reshare-prefix-many-in-queue : tie.Need-slice-reshare-prefix-many-in-queue Inv-loop μ-loop
-slice-reshare-prefix-many-in-queue c = c .before .pre .laid .within
+slice-reshare-prefix-many-in-queue c = c .before .pre .0 .laid .within
 
 slice-aggregate-many-in-queue : tie.Need-slice-aggregate-many-in-queue Inv-loop μ-loop
-slice-aggregate-many-in-queue c = let s = c .before .before in sym (length-take-le (s .args .b .waiting) (s .args .lent .now) (s .pre .laid .within))
+slice-aggregate-many-in-queue c = let s = c .before .before in sym (length-take-le (s .args .b .waiting) (s .args .lent .now) (s .pre .0 .laid .within))
 
 many-in-queue-requires : tie.Need-many-in-queue-requires Inv-loop μ-loop
-many-in-queue-requires c κs = c .before .before .pre .whole
+many-in-queue-requires c κs = c .before .before .pre .0 .whole
 
 loop-holds : tie.Need-loop-holds Inv-loop μ-loop
-loop-holds c = (no-turn _ _ _ _ _ _ (c .before .before .before .before .pre) (c .with-answer .ensures), search needs)
+loop-holds c = let s = c .before .before .before in (no-turn _ _ _ _ _ _ (s .pre .0) (s .pre .1), search needs)
 
 serve-requires : tie.Need-serve-requires Inv-loop μ-loop
 serve-requires c κs = c .before .before .before .before .loop .inv .0 .2 .ready
@@ -36,7 +36,7 @@ returns c =
     let t = h .before .before .before .before in
     let i = t .before in
     renamed (turn-off _ _ _ _ _ _ _ (i .loop .inv .0) (h .serve .ensures) _ (t .loop-test .taken) (c .if1 .taken))
-    (T.serve-turn _ _ _ _ (i .before .before .many-in-queue .ensures))
+    (T.serve-turn _ _ _ _ (i .before .many-in-queue .ensures))
 
 loop-again : tie.Need-loop-again Inv-loop μ-loop
 loop-again c =
@@ -47,7 +47,7 @@ loop-again c =
 returns-2 : tie.Need-returns-2 Inv-loop μ-loop
 returns-2 c =
     let i = c .before in
-    renamed (turns-over _ _ _ _ _ _ _ (i .loop .inv .0) _ (c .loop-test .left) (i .loop .inv .1)) (T.serve-turn _ _ _ _ (i .before .before .many-in-queue .ensures))
+    renamed (turns-over _ _ _ _ _ _ _ (i .loop .inv .0) _ (c .loop-test .left) (i .loop .inv .1)) (T.serve-turn _ _ _ _ (i .before .many-in-queue .ensures))
 
 pub serve-turn-spec : {M : Type 1} → statement M
 serve-turn-spec =
@@ -58,7 +58,6 @@ serve-turn-spec =
     slice-reshare-prefix-many-in-queue
     slice-aggregate-many-in-queue
     many-in-queue-requires
-    (λ c κs. search needs)
     loop-holds
     serve-requires
     (λ c. search needs)

@@ -7,14 +7,14 @@ use Rattle.host_rounds.proofs.round.rounds.Statement.{statement}
 use Rattle.host_rounds.proofs.round.rounds.Tie as tie
 
 abbrev Inv-loop : tie.InvT-loop
-Inv-loop plan cells₀ marks₀ lent₀ b limit s₀ k₀ cells marks lent s k =
-    Going atRest (λ p i. round p) plan cells₀ marks₀ lent₀ b k s cells marks lent × (k ≤ limit)
+Inv-loop plan cells₀ marks₀ lent₀ limit s₀ k₀ cells marks lent s k =
+    Going atRest (λ p i. round p) plan cells₀ marks₀ lent₀ s₀ k s cells marks lent × (k ≤ limit)
 
 abbrev μ-loop : tie.MeasureT-loop
-μ-loop plan cells₀ marks₀ lent₀ b limit s₀ k₀ cells marks lent s k = limit - k
+μ-loop plan cells₀ marks₀ lent₀ limit s₀ k₀ cells marks lent s k = limit - k
 
 loop-holds : tie.Need-loop-holds Inv-loop μ-loop
-loop-holds c = (not-gone _ _ _ _ _ _ _ (c .before .before .pre) (c .with-answer .ensures), search needs)
+loop-holds c = let s = c .before in (not-gone _ _ _ _ _ _ _ (s .pre .0) (s .pre .1), search needs)
 
 returns : tie.Need-returns Inv-loop μ-loop
 returns c =
@@ -23,7 +23,7 @@ returns c =
     rw (c .after .ensures) (goes-rest _ _ _ _ _ _ _ _ (i .0) _ (i .1) (rest _ _ (i .0 .2 .ready .laid) (t .if1 .taken)))
 
 round-requires : tie.Need-round-requires Inv-loop μ-loop
-round-requires c κs = c .before .before .before .before .before .before .loop .inv .0 .2 .ready
+round-requires c κs = let i = c .before .before .before .before .before .before .loop .inv .0 in (i .2 .ready, i .0)
 
 returns-2 : tie.Need-returns-2 Inv-loop μ-loop
 returns-2 c =
@@ -53,7 +53,6 @@ rounds-spec =
     (tie.spec
     Inv-loop
     μ-loop
-    (λ c κs. search needs)
     loop-holds
     (λ c κs. search needs)
     (λ c. search needs)
