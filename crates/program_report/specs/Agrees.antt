@@ -14,16 +14,14 @@ use Rattle.base.specs.Loop.{Ran}
 use Rattle.format_text.specs.Ascii.{ascii}
 use Rattle.graph.specs.Decide.{inTree-tree, tree-inTree}
 use Rattle.graph.specs.Least.{total}
-use Rattle.plan.specs.declared.Plan.{Plan}
-use Rattle.plan.specs.Links.{low, high, graphOf}
+use Rattle.plan.specs.Links.{graphOf, Plan, modulesOf, linksOf, lowerOf, higherOf}
 use Rattle.plan.specs.Weights.{cost, earlier}
 use Rattle.plan.specs.Accepted.{Accepted, accepted}
 use Rattle.plan_file.specs.Reading.{readPlan}
 use Rattle.plan_file.specs.RoundTrip.{read-taken}
 use Rattle.plan_tree.specs.Tree.{treeLink}
-use Rattle.node_edges.specs.Own.{isOwn, endIn, marksIn}
-use Rattle.field.specs.Edges.{ceilingOf}
-use Rattle.field.specs.State.{State, nodeAt, markAt}
+use Rattle.field.specs.Edges.{ceilingOf, isOwn, marksIn}
+use Rattle.field.specs.State.{State, markAt}
 use Rattle.field.specs.Held.{Held, stateOf, setUp}
 use Rattle.field_calls.specs.Call.{does, after}
 use Rattle.field_calls.specs.Demand.{TreeLink}

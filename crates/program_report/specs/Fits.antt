@@ -10,12 +10,13 @@ use Rattle.base.specs.LoopLaws.{by-test}
 use Rattle.base.specs.Loop.{Ran}
 use Rattle.format_text.specs.Ascii.{ascii}
 use Rattle.format_text.specs.Lines.{both, named-length, line-length}
-use Rattle.plan.specs.declared.Plan.{Plan}
 use Rattle.plan.specs.Weights.{cost}
 use Rattle.plan.specs.Ceiling.{ceiling, ceiling-small}
 use Rattle.plan_file.specs.declared.Outcome.{Outcome}
 use Rattle.plan_file.specs.Reading.{readPlan}
 use Rattle.plan_file.specs.RoundTrip.{read-taken}
+use Rattle.plan.specs.Links.{Plan, modulesOf, linksOf, lowerOf, higherOf}
+use Rattle.base.specs.Limits.{maxModules, maxLinks, maxWords}
 use Rattle.field.specs.declared.Field.{Field}
 use Rattle.field.specs.State.{nodeIn}
 use Rattle.field.specs.Edges.{ceilingOf}
@@ -49,15 +50,15 @@ ends-length cells (suc v) = rw (length-append (endsText cells v) (endText (nodeI
 
 core-length : (n : ℕ) (cells : List ℕ) → length (coreText n cells) ≤ 4037
 unfolding coreText
-core-length n cells = by-test (ltb n 2) (λ b. length (cond b (ascii "core none\n") (ascii "core" ++ endsText cells (min n 192) ++ ascii "\n")) ≤ 4037)
+core-length n cells = by-test (ltb n 2) (λ b. length (cond b (ascii "core none\n") (ascii "core" ++ endsText cells (min n maxModules) ++ ascii "\n")) ≤ 4037)
     (omega arith)
-    (both (ascii "core" ++ endsText cells (min n 192)) (ascii "\n") {n = 1} (both (ascii "core") (endsText cells (min n 192)) {m = 4} (omega arith) most) (omega arith))
+    (both (ascii "core" ++ endsText cells (min n maxModules)) (ascii "\n") {n = 1} (both (ascii "core") (endsText cells (min n maxModules)) {m = 4} (omega arith) most) (omega arith))
   where
-    most : length (endsText cells (min n 192)) ≤ 4032
-    most = omega (arith, ends-length cells (min n 192))
+    most : length (endsText cells (min n maxModules)) ≤ 4032
+    most = omega (arith, ends-length cells (min n maxModules))
 
-lines-length : (p : Plan) (marks : List ℕ) (l : ℕ) → length (branchLines p marks (min l 600)) ≤ 42000
-lines-length p marks l = omega (arith, branches-length p marks (min l 600))
+lines-length : (p : Plan) (marks : List ℕ) (l : ℕ) → length (branchLines p marks (min l maxLinks)) ≤ 42000
+lines-length p marks l = omega (arith, branches-length p marks (min l maxLinks))
 
 head-length : (n l : ℕ) → length (headText n l) ≤ 56
 head-length n l = both (line "modules " n) (line "links " l) (line-length "modules " n) (line-length "links " l)
@@ -73,8 +74,8 @@ unfolding reportText
 report-length f rounds =
     let p = f .plan in
     let h = headText (modulesOf p) (linksOf p) in
-    let b = branchLines p (f .marks) (min (linksOf p) 600) in
-    let sum = total p (f .marks) (min (linksOf p) 600) in
+    let b = branchLines p (f .marks) (min (linksOf p) maxLinks) in
+    let sum = total p (f .marks) (min (linksOf p) maxLinks) in
     let k = coreText (modulesOf p) (f .cells) in
     let t = tailText (f .sent) (ceiling (modulesOf p) (linksOf p)) rounds in
     both (h ++ b ++ line "total " sum ++ k) t
@@ -100,7 +101,7 @@ reported-length s =
     (settled-length (settled (g .plan) (replicate (ceilingOf (g .plan)) 0))) (refused-length (g .refusal))
 
 -- The words of a plan that is taken.
-pub read-small : (s : List ℕ) (g : Outcome) → g ≡ readPlan s → g .refusal ≡ 0 → ceilingOf (g .plan) ≤ 7920
+pub read-small : (s : List ℕ) (g : Outcome) → g ≡ readPlan s → g .refusal ≡ 0 → ceilingOf (g .plan) ≤ maxWords
 read-small s g e z = ceiling-small (g .plan) (read-taken s g e z)
 
 -- Arrays of zeros, and their fronts.

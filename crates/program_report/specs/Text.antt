@@ -12,9 +12,10 @@ use borrow.Author.Tests.{eq-eqb, ne-eqb, lt-ltb, le-ltb}
 use Rattle.format_text.specs.Ascii.{ascii}
 pub use Rattle.format_text.specs.Lines.{named, line}
 use Rattle.format_text.specs.Put.{Page, put, put-on}
-use Rattle.plan.specs.declared.Plan.{Plan}
-use Rattle.plan.specs.Weights.{cost, costOf, costIn}
+use Rattle.plan.specs.Weights.{cost}
 use Rattle.plan.specs.Ceiling.{ceiling}
+use Rattle.plan.specs.Links.{Plan, modulesOf, linksOf, lowerOf, higherOf}
+use Rattle.base.specs.Limits.{maxModules, maxLinks}
 use Rattle.node.specs.declared.Node.{Node}
 use Rattle.field.specs.declared.Field.{Field}
 use Rattle.field.specs.State.{nodeIn}
@@ -46,7 +47,7 @@ endsText cells (suc v) = endsText cells v ++ endText (nodeIn cells v .halted) v
 
 -- "or "core none" for N = 1"
 unfoldable pub coreText : ℕ → List ℕ → List ℕ
-coreText n cells = cond (ltb n 2) (ascii "core none\n") (ascii "core" ++ endsText cells (min n 192) ++ ascii "\n")
+coreText n cells = cond (ltb n 2) (ascii "core none\n") (ascii "core" ++ endsText cells (min n maxModules) ++ ascii "\n")
 
 -- "then sent and M, rounds completed"
 abbrev pub tailText : ℕ → ℕ → ℕ → List ℕ
@@ -56,34 +57,34 @@ tailText sent most rounds = named "messages " sent ++ line " of " most ++ line "
 unfoldable pub reportText : Field → ℕ → List ℕ
 reportText f rounds =
     headText (modulesOf (f .plan)) (linksOf (f .plan))
-    ++ branchLines (f .plan) (f .marks) (min (linksOf (f .plan)) 600)
-    ++ line "total " (total (f .plan) (f .marks) (min (linksOf (f .plan)) 600))
+    ++ branchLines (f .plan) (f .marks) (min (linksOf (f .plan)) maxLinks)
+    ++ line "total " (total (f .plan) (f .marks) (min (linksOf (f .plan)) maxLinks))
     ++ coreText (modulesOf (f .plan)) (f .cells)
     ++ tailText (f .sent) (ceiling (modulesOf (f .plan)) (linksOf (f .plan))) rounds
 
 -- its five parts, each put on what the part before left
 pub report-parts : (f : Field) (rounds : ℕ) (p : Page) {q₁ q₂ q₃ q₄ q₅ : Page}
     → q₁ ≡ put p (headText (modulesOf (f .plan)) (linksOf (f .plan)))
-    → q₂ ≡ put q₁ (branchLines (f .plan) (f .marks) (min (linksOf (f .plan)) 600))
-    → q₃ ≡ put q₂ (line "total " (total (f .plan) (f .marks) (min (linksOf (f .plan)) 600)))
+    → q₂ ≡ put q₁ (branchLines (f .plan) (f .marks) (min (linksOf (f .plan)) maxLinks))
+    → q₃ ≡ put q₂ (line "total " (total (f .plan) (f .marks) (min (linksOf (f .plan)) maxLinks)))
     → q₄ ≡ put q₃ (coreText (modulesOf (f .plan)) (f .cells))
     → q₅ ≡ put q₄ (tailText (f .sent) (ceiling (modulesOf (f .plan)) (linksOf (f .plan))) rounds)
     → q₅ ≡ put p (reportText f rounds)
 unfolding reportText
 report-parts f rounds p e₁ e₂ e₃ e₄ e₅ =
     let h = headText (modulesOf (f .plan)) (linksOf (f .plan)) in
-    let b = branchLines (f .plan) (f .marks) (min (linksOf (f .plan)) 600) in
-    let t = line "total " (total (f .plan) (f .marks) (min (linksOf (f .plan)) 600)) in
+    let b = branchLines (f .plan) (f .marks) (min (linksOf (f .plan)) maxLinks) in
+    let t = line "total " (total (f .plan) (f .marks) (min (linksOf (f .plan)) maxLinks)) in
     let k = coreText (modulesOf (f .plan)) (f .cells) in
     put-on p (h ++ b ++ t ++ k) _ (put-on p (h ++ b ++ t) k (put-on p (h ++ b) t (put-on p h b e₁ e₂) e₃) e₄) e₅
 
 -- the same of a plan that a field has room for, each part as it is known to be
-pub report-of : (f : Field) (rounds : ℕ) (p : Plan) → f .plan ≡ p → linksOf p ≤ 600 → {b k : List ℕ} {t : ℕ}
+pub report-of : (f : Field) (rounds : ℕ) (p : Plan) → f .plan ≡ p → linksOf p ≤ maxLinks → {b k : List ℕ} {t : ℕ}
     → branchLines p (f .marks) (linksOf p) ≡ b → total p (f .marks) (linksOf p) ≡ t → coreText (modulesOf p) (f .cells) ≡ k
     → reportText f rounds
     ≡ headText (modulesOf p) (linksOf p) ++ b ++ line "total " t ++ k ++ tailText (f .sent) (ceiling (modulesOf p) (linksOf p)) rounds
 unfolding reportText
-report-of f rounds p e l eb et ek = let all : min (linksOf p) 600 ≡ linksOf p = omega arith in rw (e, all, eb, et, ek) refl
+report-of f rounds p e l eb et ek = let all : min (linksOf p) maxLinks ≡ linksOf p = omega arith in rw (e, all, eb, et, ek) refl
 
 -- For code: which line, one turn more.
 module _ (mark lower higher c : ℕ) where
@@ -109,7 +110,7 @@ module _ (n : ℕ) (cells : List ℕ) where
   unfolding coreText
   core-none h = simp (lt-ltb _ _ h)
 
-  pub core-some : 2 ≤ n → coreText n cells ≡ ascii "core" ++ endsText cells (min n 192) ++ ascii "\n"
+  pub core-some : 2 ≤ n → coreText n cells ≡ ascii "core" ++ endsText cells (min n maxModules) ++ ascii "\n"
   unfolding coreText
   core-some h = simp (le-ltb _ _ h)
 
@@ -117,10 +118,10 @@ pub lines-none : (p : Plan) (marks : List ℕ) → branchLines p marks 0 ≡ []
 unfolding branchLines
 lines-none p marks = refl
 
-pub lines-turn : (p : Plan) (marks : List ℕ) (k c : ℕ) → c ≡ costOf (nearOf p k) (farOf p k)
-    → branchLines p marks k ++ branchText (getD marks (2 * k) 0) (lowerOf p k) (higherOf p k) c ≡ branchLines p marks (k + 1)
-unfolding branchLines costIn
-lines-turn p marks k c e = rw (add-one k, e) refl
+pub lines-turn : (p : Plan) (marks : List ℕ) (k : ℕ) {a b c : ℕ} → a ≡ lowerOf p k → b ≡ higherOf p k → c ≡ cost p k
+    → branchLines p marks k ++ branchText (getD marks (2 * k) 0) a b c ≡ branchLines p marks (k + 1)
+unfolding branchLines
+lines-turn p marks k ea eb ec = rw (ea, eb, ec, add-one)
 
 pub ends-none : (cells : List ℕ) → endsText cells 0 ≡ []
 unfolding endsText

@@ -8,8 +8,8 @@ use mathlib.Core.List.{List}
 use lib.ListN.{getD}
 use lib.Dec.{eqb}
 use borrow.Author.Tests.{eq-eqb, ne-eqb}
-use Rattle.plan.specs.declared.Plan.{Plan}
 use Rattle.plan.specs.Weights.{cost}
+use Rattle.plan.specs.Links.{Plan}
 
 -- "total sums costs": of the links below k that are branch at their lower end
 unfoldable pub total : Plan → List ℕ → ℕ → ℕ

@@ -10,10 +10,10 @@ use lib.Dec.{eqb}
 use Rattle.base.specs.Cond.{bool-cases, by-eq}
 use Rattle.base.specs.Sum.{sum}
 use Rattle.format_text.specs.Ascii.{ascii}
-use Rattle.plan.specs.declared.Plan.{Plan}
-use Rattle.plan.specs.Links.{low, high}
 use Rattle.plan.specs.Weights.{cost}
 use Rattle.plan_tree.specs.Tree.{treeLink}
+use Rattle.plan.specs.Links.{Plan, lowerOf, higherOf}
+use Rattle.base.specs.Limits.{maxModules}
 use Rattle.field.specs.State.{nodeIn}
 use Rattle.program_report.specs.Total.{total}
 use Rattle.program_report.specs.Text.{named, branchLine, branchText, branchLines, endsText, coreText, end-none, end-one, core-some}
@@ -71,8 +71,8 @@ module _ (cells : List ℕ) where
         ∙ ends-more a first
         ∙ ap (λ t. t ++ named " " a) (ends-skip 0 a (omega arith) (λ v l m. others v (omega arith) (λ e. omega arith) (λ e. omega arith))))
 
-    pub core-two : n ≤ 192 → coreText n cells ≡ coreLine a b
+    pub core-two : n ≤ maxModules → coreText n cells ≡ coreLine a b
     core-two l =
         core-some n cells (omega arith)
-        ∙ ap (λ k. ascii "core" ++ endsText cells k ++ ascii "\n") (let e : min n 192 ≡ n = omega arith in e)
+        ∙ ap (λ k. ascii "core" ++ endsText cells k ++ ascii "\n") (let e : min n maxModules ≡ n = omega arith in e)
         ∙ ap (λ t. ascii "core" ++ t ++ ascii "\n") ends-two

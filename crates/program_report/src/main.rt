@@ -5,6 +5,7 @@ ghost use Rattle.format_text.specs.Input.{OfInput};
 ghost use Rattle.format_text.specs.Put.{page, put};
 ghost use Rattle.host_job.specs.Settled.{settled as Settled·settled};
 ghost use Rattle.program_report.specs.Reported.{refusedText, settledText, reported};
+use base::MAX_WORDS;
 use format_text::Intake;
 use libc::STDOUT_FILENO;
 use plan::Plan;
@@ -18,8 +19,8 @@ fn refused(out: &mut [u8], number: u32) -> usize
 }
 
 // What the field of a plan comes to.
-fn settled(p: Plan, words: &mut [u64], out: &mut [u8]) -> usize
-    ensures { λ r. ⌜ page r (now (out .exit)) ≡ put (page 0 (now (out .entry))) (settledText (Settled·settled p (now (words .entry)))) ⌝ }
+fn settled(p: &Plan, words: &mut [u64], out: &mut [u8]) -> usize
+    ensures { λ r. ⌜ page r (now (out .exit)) ≡ put (page 0 (now (out .entry))) (settledText (Settled·settled (now (p .entry)) (now (words .entry)))) ⌝ }
 {
     let s = host_job::settle(p, words);
     let f = s.field;
@@ -38,9 +39,9 @@ fn report(s: &[u8], out: &mut [u8]) -> usize
     if got.refusal != 0 {
         return refused(out, got.refusal);
     }
-    let m = plan::ceiling(p.modules, p.links) as usize;
-    let mut lent = [0u64; 7920];
-    settled(p, &mut lent[..m], out)
+    let m = plan::ceiling_of(&p) as usize;
+    let mut lent = [0u64; MAX_WORDS];
+    settled(&p, &mut lent[..m], out)
 }
 
 // What it asks is what the program owes: the text is the report of the whole input, of which `space` holds what came.

@@ -1,11 +1,18 @@
 // The report, line by line, put into a lent buffer.
-ghost use Prim.Native.Nat.{_≤_, min};
+ghost use Prim.Native.Nat.{min};
 ghost use mathlib.Core.Path.{_≡_};
-ghost use mathlib.Core.List.{_++_};
+ghost use Rattle.base.specs.Limits.{maxModules, maxLinks};
+ghost use Rattle.plan.specs.Links.{modulesOf, linksOf};
 ghost use Rattle.format_text.specs.Put.{page, put};
 ghost use Rattle.program_report.specs.Total.{total as Total·total};
 ghost use Rattle.program_report.specs.Text.{headText, branchText, branchLines, endText, endsText, coreText, tailText, reportText};
+use base::MAX_LINKS;
+use base::MAX_MODULES;
+use field::Cells;
 use field::Field;
+use field::Marks;
+use node::BRANCH;
+use plan::Plan;
 
 // The smaller of two: a field has room for no more than `most`.
 fn at_most(x: u16, most: u16) -> usize
@@ -28,7 +35,7 @@ fn head(out: &mut [u8], at: usize, n: u16, l: u16) -> usize
 fn branch(out: &mut [u8], at: usize, mark: u8, lower: u16, higher: u16, cost: u32) -> usize
     ensures { λ r. ⌜ page r (now (out .exit)) ≡ put (page at (now (out .entry))) (branchText mark lower higher cost) ⌝ }
 {
-    if mark != 1 {
+    if mark != BRANCH {
         return at;
     }
     let a = format_text::put_named(out, at, b"branch ", lower as u64);
@@ -36,34 +43,46 @@ fn branch(out: &mut [u8], at: usize, mark: u8, lower: u16, higher: u16, cost: u3
     format_text::put_line(out, b, b" ", cost as u64)
 }
 
-fn branches(f: Field, out: &mut [u8], at: usize) -> usize
-    ensures { λ r. ⌜ page r (now (out .exit)) ≡ put (page at (now (out .entry))) (branchLines (f .plan) (f .marks) (min (f .plan .links) 600)) ⌝ }
+// The links that are shown: those of the plan, and no more than a field has room for.
+fn links_shown(plan: &Plan) -> usize
+    ensures { λ r. ⌜ r ≡ min (linksOf (now (plan .entry))) maxLinks ⌝ }
 {
-    let p = f.plan;
-    let marks = f.marks;
-    let n = at_most(p.links, 600);
+    at_most(plan::links(plan), MAX_LINKS)
+}
+
+// The modules that are shown, likewise.
+fn modules_shown(plan: &Plan) -> usize
+    ensures { λ r. ⌜ r ≡ min (modulesOf (now (plan .entry))) maxModules ⌝ }
+{
+    at_most(plan::modules(plan), MAX_MODULES)
+}
+
+fn branches<'a>(plan: &'a Plan, marks: &'a Marks, out: &mut [u8], at: usize) -> usize
+    ensures { λ r. ⌜ page r (now (out .exit)) ≡ put (page at (now (out .entry))) (branchLines (now (plan .entry)) (now (marks .entry)) (min (linksOf (now (plan .entry))) maxLinks)) ⌝ }
+{
+    let n = links_shown(plan);
     let mut a = at;
     let mut k: usize = 0;
     while k < n {
-        let cost = plan::cost(p.near[k], p.far[k]);
-        a = branch(out, a, marks[2 * k], p.lower[k], p.higher[k], cost);
+        let lower = plan::lower(plan, k);
+        let higher = plan::higher(plan, k);
+        let cost = plan::cost(plan, k);
+        a = branch(out, a, marks[2 * k], lower, higher, cost);
         k += 1;
     }
     a
 }
 
 // The branch links' total cost.
-fn total(f: Field) -> u64
-    ensures { λ r. ⌜ r ≡ Total·total (f .plan) (f .marks) (min (f .plan .links) 600) ⌝ }
+fn total<'a>(plan: &'a Plan, marks: &'a Marks) -> u64
+    ensures { λ r. ⌜ r ≡ Total·total (now (plan .entry)) (now (marks .entry)) (min (linksOf (now (plan .entry))) maxLinks) ⌝ }
 {
-    let p = f.plan;
-    let marks = f.marks;
-    let n = at_most(p.links, 600);
+    let n = links_shown(plan);
     let mut sum: u64 = 0;
     let mut k: usize = 0;
     while k < n {
-        if marks[2 * k] == 1 {
-            sum += plan::cost(p.near[k], p.far[k]) as u64;
+        if marks[2 * k] == BRANCH {
+            sum += plan::cost(plan, k) as u64;
         }
         k += 1;
     }
@@ -80,15 +99,14 @@ fn end(out: &mut [u8], at: usize, halted: u16, v: usize) -> usize
     format_text::put_named(out, at, b" ", v as u64)
 }
 
-fn ends(f: Field, out: &mut [u8], at: usize) -> usize
-    ensures { λ r. ⌜ page r (now (out .exit)) ≡ put (page at (now (out .entry))) (endsText (f .cells) (min (f .plan .modules) 192)) ⌝ }
+fn ends<'a>(plan: &'a Plan, cells: &'a Cells, out: &mut [u8], at: usize) -> usize
+    ensures { λ r. ⌜ page r (now (out .exit)) ≡ put (page at (now (out .entry))) (endsText (now (cells .entry)) (min (modulesOf (now (plan .entry))) maxModules)) ⌝ }
 {
-    let cells = f.cells;
-    let n = at_most(f.plan.modules, 192);
+    let n = modules_shown(plan);
     let mut a = at;
     let mut v: usize = 0;
     while v < n {
-        let node = field_cells::load(&cells, v as u16);
+        let node = field_cells::load(cells, v as u16);
         a = end(out, a, node.halted, v);
         v += 1;
     }
@@ -96,14 +114,14 @@ fn ends(f: Field, out: &mut [u8], at: usize) -> usize
 }
 
 // The ends of the core. A module alone halts too, and has no core.
-fn core(f: Field, out: &mut [u8], at: usize) -> usize
-    ensures { λ r. ⌜ page r (now (out .exit)) ≡ put (page at (now (out .entry))) (coreText (f .plan .modules) (f .cells)) ⌝ }
+fn core<'a>(plan: &'a Plan, cells: &'a Cells, out: &mut [u8], at: usize) -> usize
+    ensures { λ r. ⌜ page r (now (out .exit)) ≡ put (page at (now (out .entry))) (coreText (modulesOf (now (plan .entry))) (now (cells .entry))) ⌝ }
 {
-    if f.plan.modules < 2 {
+    if plan::modules(plan) < 2 {
         return format_text::put(out, at, b"core none\n");
     }
     let a = format_text::put(out, at, b"core");
-    let b = ends(f, out, a);
+    let b = ends(plan, cells, out, a);
     format_text::put(out, b, b"\n")
 }
 
@@ -118,11 +136,12 @@ fn tail(out: &mut [u8], at: usize, sent: u32, most: u32, rounds: u16) -> usize
 pub fn render(f: Field, rounds: u16, out: &mut [u8]) -> usize
     ensures { λ r. ⌜ page r (now (out .exit)) ≡ put (page 0 (now (out .entry))) (reportText f rounds) ⌝ }
 {
-    let n = f.plan.modules;
-    let l = f.plan.links;
-    let a = head(out, 0, n, l);
-    let b = branches(f, out, a);
-    let c = format_text::put_line(out, b, b"total ", total(f));
-    let d = core(f, out, c);
-    tail(out, d, f.sent, plan::ceiling(n, l), rounds)
+    let p = f.plan;
+    let cells = f.cells;
+    let marks = f.marks;
+    let a = head(out, 0, p[0], p[1]);
+    let b = branches(&p, &marks, out, a);
+    let c = format_text::put_line(out, b, b"total ", total(&p, &marks));
+    let d = core(&p, &cells, out, c);
+    tail(out, d, f.sent, plan::ceiling_of(&p), rounds)
 }

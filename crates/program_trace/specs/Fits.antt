@@ -13,15 +13,14 @@ use Rattle.base.specs.LoopLaws.{by-test}
 use Rattle.base.specs.Loop.{Ran}
 use Rattle.format_text.specs.Ascii.{ascii}
 use Rattle.format_text.specs.Lines.{named, line, both, named-length, line-length}
-use Rattle.plan.specs.declared.Plan.{Plan}
 use Rattle.plan.specs.Refusal.{planRefusal}
 use Rattle.plan.specs.Accepted.{Accepted, accepted}
 use Rattle.plan.specs.Ceiling.{ceiling-small}
 use Rattle.plan_file.specs.Reading.{readPlan}
 use Rattle.plan_file.specs.RoundTrip.{read-taken}
+use Rattle.plan.specs.Links.{Plan, modulesOf}
 use Rattle.node.specs.declared.Node.{Node}
-use Rattle.node_edges.specs.Own.{isOwn, marksIn}
-use Rattle.field.specs.Edges.{ceilingOf}
+use Rattle.field.specs.Edges.{ceilingOf, isOwn, marksIn}
 use Rattle.field.specs.State.{nodeIn}
 use Rattle.field.specs.Valid.{waitingIn}
 use Rattle.field.specs.Held.{Held, fresh}

@@ -1,5 +1,5 @@
 -- What `trace` prints of a run: "one item a line".
-use Prim.Native.Nat.{ℕ, zero, suc, _+_, _*_, _≤_, _<_}
+use Prim.Native.Nat.{ℕ, zero, suc, _+_, _≤_, _<_}
 use native.Mathlib.Numerals.{add-one}
 use mathlib.Core.Path.{_≡_, refl, sym, ap, _∙_}
 use mathlib.Core.Logic.{_≢_}
@@ -14,9 +14,9 @@ use Rattle.base.specs.Loop.{Ran}
 use Rattle.format_text.specs.Ascii.{ascii}
 use Rattle.format_text.specs.Lines.{named, line}
 use Rattle.format_text.specs.Put.{Page, put, put-none, put-on, put-two}
-use Rattle.plan.specs.declared.Plan.{Plan}
+use Rattle.plan.specs.Links.{Plan, modulesOf}
+use Rattle.field.specs.Edges.{isOwn, marksIn}
 use Rattle.node.specs.declared.Node.{Node}
-use Rattle.node_edges.specs.Own.{isOwn, marksIn}
 use Rattle.field.specs.State.{nodeIn}
 use Rattle.field.specs.Valid.{waitingIn}
 use Rattle.field.specs.Held.{Held}

@@ -11,9 +11,9 @@ use lib.Dec.{eqb}
 use borrow.Author.Tests.{eq-eqb, ne-eqb}
 use Rattle.format_int16.specs.Int16.{at16}
 use Rattle.format_text.specs.Lines.{line}
-use Rattle.plan.specs.declared.Plan.{Plan}
 use Rattle.plan_file.specs.declared.Outcome.{Outcome}
 use Rattle.plan_file.specs.Reading.{readPlan}
+use Rattle.plan.specs.Links.{Plan}
 use Rattle.field.specs.Edges.{ceilingOf}
 use Rattle.field.specs.Held.{Held, fresh}
 use Rattle.field_calls.specs.Call.{runBytes}

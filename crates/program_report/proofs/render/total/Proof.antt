@@ -4,7 +4,6 @@ use mathlib.Core.Path.{_≡_, refl, sym, ap, _∙_}
 use mathlib.Core.Logic.{⊎-elim}
 use borrow.Author.Needs.{needs}
 use Rattle.program_report.specs.Text.{capped}
-use Rattle.plan.specs.Weights.{costIn}
 use Rattle.program_report.specs.Total.{total, total-branch, total-other}
 use Rattle.program_report.proofs.render.total.Statement.{statement}
 use Rattle.program_report.proofs.render.total.Tie as tie
