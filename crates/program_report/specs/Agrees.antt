@@ -20,7 +20,7 @@ use Rattle.plan.specs.Accepted.{Accepted, accepted}
 use Rattle.plan_file.specs.Reading.{readPlan}
 use Rattle.plan_file.specs.RoundTrip.{read-taken}
 use Rattle.plan_tree.specs.Tree.{treeLink}
-use Rattle.field.specs.Edges.{ceilingOf, isOwn, marksIn}
+use Rattle.field.specs.Edges.{ceilingOf, isOwn, marksIn, endOf}
 use Rattle.field.specs.State.{State, markAt}
 use Rattle.field.specs.Held.{Held, stateOf, setUp}
 use Rattle.field_calls.specs.Call.{does, after}
@@ -35,7 +35,7 @@ use Rattle.program_report.specs.Tree.{treeLines, Marked, lines-tree, tot
 
 -- the mark of a link's lower module stands at 2 × k
 lower-mark : (p : Plan) (s : State) (k : ℕ) → k < linksOf p → markAt p s (lowerOf p k) k ≡ getD (s .marks) (2 * k) 0
-unfolding marksIn isOwn endIn
+unfolding marksIn isOwn endOf
 lower-mark p s k l = rw (lt-ltb k (linksOf p) l, eqb-same (lowerOf p k)) refl
 
 module _ (s : List ℕ) (z : readPlan s .refusal ≡ 0) where

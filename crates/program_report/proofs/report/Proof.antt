@@ -4,6 +4,7 @@ use mathlib.Core.Path.{sym, ap, _∙_}
 use lib.ListN.{replicate}
 use lib.Seq.{length-take-le}
 use borrow.Author.Needs.{needs}
+use Rattle.base.specs.Limits.{maxWords}
 use Rattle.format_text.specs.Put.{put}
 use Rattle.field.specs.Edges.{ceilingOf}
 use Rattle.program_report.specs.Reported.{plan-refused, plan-taken}
@@ -18,26 +19,26 @@ returns c =
     call .refused .ensures ∙ ap (put _) (sym (plan-refused _ _ (test .before .before .before .read .ensures) (test .if1 .taken)))
 
 -- the array has the words of the largest plan
-room : (c : tie.After-ceiling) → c .ceiling .result ≤ 7920
+room : (c : tie.After-ceiling-of) → c .ceiling-of .result ≤ maxWords
 room c =
-    let r = c .before .before .before .before .read in
-    let most : ceilingOf (r .result .plan) ≤ 7920 = read-small _ _ (r .ensures) (c .before .if1 .left) in
-    omega (arith, c .ceiling .ensures)
+    let r = c .before .before .before .before .before .read in
+    let most : ceilingOf (r .result .plan) ≤ maxWords = read-small _ _ (r .ensures) (c .before .before .if1 .left) in
+    omega (arith, c .ceiling-of .ensures)
 
 array-borrow-prefix-lent : tie.Need-array-borrow-prefix-lent
-array-borrow-prefix-lent c = room c
+array-borrow-prefix-lent c = room (c .before)
 
 slice-aggregate-settled : tie.Need-slice-aggregate-settled
-slice-aggregate-settled c = sym (length-take-le _ _ (room (c .before)))
+slice-aggregate-settled c = sym (length-take-le _ _ (room (c .before .before)))
 
 returns-2 : tie.Need-returns-2
 returns-2 c =
     let call = c .before .before .before in
-    let m = call .before .before .before in
-    let test = m .before in
+    let m = call .before .before .before .before in
+    let test = m .before .before in
     call .settled .ensures
     ∙ ap (put _) (sym (plan-taken _ _ (test .before .before .before .read .ensures) (test .if1 .left) _
-    (zeros-front _ _ (room m) ∙ ap (λ k. replicate k 0) (m .ceiling .ensures))))
+    (zeros-front _ _ (room m) ∙ ap (λ k. replicate k 0) (m .ceiling-of .ensures))))
 
 pub report-spec : {M : Type 1} → statement M
 report-spec =

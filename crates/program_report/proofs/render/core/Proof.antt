@@ -1,3 +1,4 @@
+use native.Mathlib.Omega.{arith}
 use mathlib.Core.Path.{sym, ap, _∙_}
 use mathlib.Core.List.{_++_}
 use borrow.Author.Needs.{needs}
@@ -10,7 +11,7 @@ use Rattle.program_report.proofs.render.core.Tie as tie
 returns : tie.Need-returns
 returns c =
     let call = c .before .before in
-    call .put .ensures ∙ ap (put _) (sym (core-none _ _ (call .before .before .before .if1 .taken)))
+    call .put .ensures ∙ ap (put _) (sym (core-none _ _ (omega (arith, call .before .before .before .if1 .taken, call .before .before .before .before .modules .ensures))))
 
 returns-2 : tie.Need-returns-2
 returns-2 c =
@@ -20,12 +21,13 @@ returns-2 c =
     put-on _ (ascii "core" ++ endsText _ _) (ascii "\n")
     (put-on _ (ascii "core") (endsText _ _) (first .put2 .ensures) (second .ends .ensures))
     (third .put3 .ensures)
-    ∙ ap (put _) (sym (core-some _ _ (first .before .before .before .if1 .left)))
+    ∙ ap (put _) (sym (core-some _ _ (omega (arith, first .before .before .before .if1 .left, first .before .before .before .before .modules .ensures))))
 
 pub core-spec : {M : Type 1} → statement M
 core-spec =
     tie.close
     (tie.spec
+    (λ c κs. search needs)
     (λ c. search needs)
     (λ c κs. search needs)
     (λ c. search needs)

@@ -3,27 +3,28 @@ use native.Mathlib.Omega.{arith}
 use mathlib.Core.Path.{_≡_, refl, sym, ap, _∙_}
 use lib.ListN.{length}
 use borrow.Author.Needs.{needs}
+use Rattle.base.specs.Limits.{maxModules}
 use Rattle.program_report.specs.Text.{endsText, endText, ends-none, ends-turn, capped}
 use Rattle.format_text.specs.Put.{page, put, put-none, put-on}
 use Rattle.program_report.proofs.render.ends.Statement.{statement}
 use Rattle.program_report.proofs.render.ends.Tie as tie
 
 abbrev Inv-loop : tie.InvT-loop
-Inv-loop out₀ at cells n a₀ v₀ out a v =
-    (v ≤ n) × (n ≤ 192) × (length out ≡ length out₀) × (page a out ≡ put (page at out₀) (endsText cells v))
+Inv-loop p cells out₀ at n a₀ v₀ out a v =
+    (v ≤ n) × (n ≤ maxModules) × (length out ≡ length out₀) × (page a out ≡ put (page at out₀) (endsText cells v))
 
 abbrev μ-loop : tie.MeasureT-loop
-μ-loop out₀ at cells n a₀ v₀ out a v = n - v
+μ-loop p cells out₀ at n a₀ v₀ out a v = n - v
 
 loop-holds : tie.Need-loop-holds Inv-loop μ-loop
 loop-holds c =
-    (omega arith, capped _ _ _ (c .at-most .ensures), refl, sym (ap (put _) (ends-none _) ∙ put-none _))
+    (omega arith, capped _ _ _ (c .modules-shown .ensures), refl, sym (ap (put _) (ends-none _) ∙ put-none _))
 
 loop-again : tie.Need-loop-again Inv-loop μ-loop
 loop-again c =
     let call = c .before .before in
     let read = call .before .before in
-    let at = read .before .before .before in (
+    let at = read .before .before in (
       omega arith,
       at .loop .inv .1,
       search needs,
@@ -34,8 +35,8 @@ loop-again c =
 returns : tie.Need-returns Inv-loop μ-loop
 returns c =
     let at = c .before in
-    let end : at .loop .v ≡ at .before .at-most .result = omega arith in
-    at .loop .inv .3 ∙ ap (put _) (ap (endsText _) (end ∙ at .before .at-most .ensures))
+    let end : at .loop .v ≡ at .before .modules-shown .result = omega arith in
+    at .loop .inv .3 ∙ ap (put _) (ap (endsText _) (end ∙ at .before .modules-shown .ensures))
 
 pub ends-spec : {M : Type 1} → statement M
 ends-spec =

@@ -8,20 +8,22 @@ use Rattle.program_report.proofs.render.render.Tie as tie
 returns : tie.Need-returns
 returns c =
     let fifth = c .before .before in
-    let fourth = fifth .before .before .before .before .before in
-    let third = fourth .before .before .before .before in
-    let second = third .before .before .before .before .before .before in
-    let first = second .before .before .before .before in
-    let given = first .before .before .before .args in
+    let fourth = fifth .before .before .before .before .before .before in
+    let third = fourth .before .before .before .before .before .before in
+    let second = third .before .before .before .before .before .before .before .before in
+    let first = second .before .before .before .before .before .before in
+    let given = first .before .before .before .before .before .before .args in
     report-parts (given .f) (given .rounds) _ (first .head .ensures) (second .branches .ensures)
     (third .put-line .ensures ∙ ap (put _) (ap (line "total ") (third .before .total .ensures)))
     (fourth .core .ensures)
-    (fifth .tail .ensures ∙ ap (put _) (ap (λ m. tailText (given .f .sent) m (given .rounds)) (fifth .before .ceiling .ensures)))
+    (fifth .tail .ensures ∙ ap (put _) (ap (λ m. tailText (given .f .sent) m (given .rounds)) (fifth .before .ceiling-of .ensures)))
 
 pub render-spec : {M : Type 1} → statement M
 render-spec =
     tie.close
     (tie.spec
+    (λ c. search needs)
+    (λ c. search needs)
     (λ c κs. search needs)
     (λ c κs. search needs)
     (λ c. search needs)
