@@ -5,10 +5,14 @@
 
 use crate::fields::Record;
 use crate::plain::check_plan;
+use oracle::plan::MOST_MODULES;
+use oracle::rules::WIDTH;
 
 const NONE: u16 = 65535;
 const HANDED: u64 = 1 << 40;
 const ALWAYS: u64 = 1 << 41;
+
+type Cells = [u16; MOST_MODULES as usize * WIDTH];
 
 #[derive(Clone, Copy, PartialEq)]
 struct Module {
@@ -24,17 +28,17 @@ struct Module {
 }
 
 impl Module {
-    fn load(cells: &[u16; 1728], v: u16) -> Module {
-        let c: &[u16; 9] = cells[9 * v as usize..][..9].try_into().unwrap();
+    fn load(cells: &Cells, v: u16) -> Module {
+        let c: &[u16; WIDTH] = cells[WIDTH * v as usize..][..WIDTH].try_into().unwrap();
         let [status, level, identity, best_weight, best_edge, test_edge, in_branch, find_count, halted] = *c;
         Module { status, level, identity, best_weight, best_edge, test_edge, in_branch, find_count, halted }
     }
 
-    fn store(&self, cells: &mut [u16; 1728], v: u16) {
+    fn store(&self, cells: &mut Cells, v: u16) {
         let Module { status, level, identity, best_weight, best_edge, test_edge, in_branch, find_count, halted } =
             *self;
         let values = [status, level, identity, best_weight, best_edge, test_edge, in_branch, find_count, halted];
-        cells[9 * v as usize..][..9].copy_from_slice(&values);
+        cells[WIDTH * v as usize..][..WIDTH].copy_from_slice(&values);
     }
 }
 

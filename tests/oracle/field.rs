@@ -65,7 +65,12 @@ pub struct Done {
 
 /// Setup of a plan's bytes: the plan's refusals, then 21 for fewer words than M. All words are zeroed.
 pub fn setup(bytes: &[u8], words: &mut [u64]) -> Result<Field, u32> {
-    let plan = plan::read(bytes)?;
+    setup_value(plan::read(bytes)?, words)
+}
+
+/// The same of a plan value, however made.
+pub fn setup_value(plan: Plan, words: &mut [u64]) -> Result<Field, u32> {
+    plan.check()?;
     if words.len() < plan.ceiling() as usize {
         return Err(21);
     }

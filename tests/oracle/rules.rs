@@ -26,6 +26,9 @@ pub struct Module {
     pub halted: u16,
 }
 
+/// How many values that are.
+pub const WIDTH: usize = 9;
+
 impl Module {
     /// Setup gives zeros and nones.
     pub const SETUP: Module = Module {
@@ -40,7 +43,7 @@ impl Module {
         halted: 0,
     };
 
-    pub fn values(&self) -> [u16; 9] {
+    pub fn values(&self) -> [u16; WIDTH] {
         [
             self.status,
             self.level,

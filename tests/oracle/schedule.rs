@@ -41,6 +41,32 @@ pub fn read(bytes: &[u8]) -> Result<Vec<Step>, u32> {
     Ok(steps)
 }
 
+/// "The schedule reader keeps the lent bytes and its place in them": the number of the step that it reads next. It does
+/// not check: what follows the first three bytes is steps, as many as are whole.
+pub struct Reader<'a> {
+    steps: &'a [u8],
+    pub place: usize,
+}
+
+impl<'a> Reader<'a> {
+    /// The reader of these bytes at a place.
+    pub fn at(bytes: &'a [u8], place: usize) -> Reader<'a> {
+        Reader { steps: bytes.get(3..).unwrap_or(&[]), place }
+    }
+
+    /// How many steps it has not read.
+    pub fn left(&self) -> usize {
+        self.steps.chunks_exact(3).skip(self.place).count()
+    }
+
+    /// Reads a step and moves on; behind the last there is none, and it stays.
+    pub fn next(&mut self) -> Option<Step> {
+        let b = self.steps.chunks_exact(3).nth(self.place)?;
+        self.place += 1;
+        Some(Step { kind: b[0], number: be16(b, 1) })
+    }
+}
+
 pub fn encode(steps: &[Step]) -> Vec<u8> {
     let mut out = vec![1];
     out.extend_from_slice(&((3 * steps.len()) as u16).to_be_bytes());

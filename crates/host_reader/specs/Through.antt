@@ -10,7 +10,7 @@ use lib.Dec.{eqb, ltb}
 use borrow.Author.Tests.{ne-eqb}
 use denote.Ref.{RefT, now}
 use Rattle.base.specs.Test.{every, every-all}
-use Rattle.plan.specs.declared.Plan.{Plan}
+use Rattle.plan.specs.Links.{Plan}
 use Rattle.field.specs.State.{State}
 use Rattle.field_calls.specs.declared.Step.{Step}
 use Rattle.field_calls.specs.Schedule.{stepsIn, kindOf, lengthFits, kindListed, scheduleRefusal, scheduleRun, stepOf, stepsFrom, scheduleSteps, listRun, run-list}

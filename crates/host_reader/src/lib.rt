@@ -10,7 +10,7 @@ pub struct Schedule<'a> {
 }
 
 // How many steps stand from a place on.
-fn left_from(bytes: &[u8], at: usize) -> usize
+pub fn left_from(bytes: &[u8], at: usize) -> usize
     ensures { λ r. ⌜ r ≡ leftFrom (now (bytes .entry)) at ⌝ }
 {
     if bytes.len() < 3 {
@@ -24,7 +24,7 @@ fn left_from(bytes: &[u8], at: usize) -> usize
 }
 
 // The step at a place. Kind 0 is no step: there is none at that place.
-fn step_from(bytes: &[u8], at: usize) -> Step
+pub fn step_from(bytes: &[u8], at: usize) -> Step
     ensures { λ r. ⌜ r ≡ stepFrom (now (bytes .entry)) at ⌝ }
 {
     if left_from(bytes, at) == 0 {
@@ -36,7 +36,7 @@ fn step_from(bytes: &[u8], at: usize) -> Step
 }
 
 // The place after a place.
-fn place_after(bytes: &[u8], at: usize) -> usize
+pub fn place_after(bytes: &[u8], at: usize) -> usize
     ensures { λ r. ⌜ r ≡ placeAfter (now (bytes .entry)) at ⌝ }
 {
     if left_from(bytes, at) == 0 {

@@ -1,0 +1,68 @@
+// What the comparison with independent programs calls for setup and for schedules, under C names: setup of any plan value in any
+// words, the check of any bytes, and what the schedule reader finds at any place of them.
+ghost use mathlib.Core.Path.{_≡_};
+ghost use Rattle.field.specs.Held.{setUp};
+ghost use Rattle.field_calls.specs.Schedule.{scheduleRefusal};
+ghost use Rattle.host_reader.specs.Reader.{leftFrom, stepFrom, placeAfter};
+use field::Cells;
+use field::Marks;
+use plan::Plan;
+
+// Setup. The field that it hands back lies in its parts in `held`, `cells`, `marks` and `sent`, beside a refusal too.
+#[no_mangle]
+pub extern "C" fn muruapy_test_setup(
+    plan: &Plan,
+    words: &mut [u64],
+    held: &mut Plan,
+    cells: &mut Cells,
+    marks: &mut Marks,
+    sent: &mut u32,
+) -> u32
+    ensures { λ r. ⌜ record {
+      answer = r;
+      state = record {
+        field = record { plan = now (held .exit); cells = now (cells .exit); marks = now (marks .exit); sent = now (sent .exit) };
+        words = now (words .exit);
+      };
+    } ≡ setUp (now (plan .entry)) (now (words .entry)) ⌝ }
+{
+    let s = host_setup::setup(plan, words);
+    let f = s.field;
+    let own = f.plan;
+    let values = f.cells;
+    let ends = f.marks;
+    *held = own;
+    *cells = values;
+    *marks = ends;
+    *sent = f.sent;
+    s.refusal
+}
+
+// The check of a schedule's bytes: 51 to 54, or 0.
+#[no_mangle]
+pub extern "C" fn muruapy_test_schedule_check(bytes: &[u8]) -> u32
+    ensures { λ r. ⌜ r ≡ scheduleRefusal (now (bytes .entry)) ⌝ }
+{
+    host_schedule::check(bytes)
+}
+
+// The reader at a place: answers how many steps stand from there on; the step there goes into `kind` and `number`, the place
+// after it into `next`.
+#[no_mangle]
+pub extern "C" fn muruapy_test_read_step(
+    bytes: &[u8],
+    at: usize,
+    kind: &mut u8,
+    number: &mut u16,
+    next: &mut usize,
+) -> usize
+    ensures { λ r. ⌜ (r ≡ leftFrom (now (bytes .entry)) at)
+        × (record { kind = now (kind .exit); number = now (number .exit) } ≡ stepFrom (now (bytes .entry)) at)
+        × (now (next .exit) ≡ placeAfter (now (bytes .entry)) at) ⌝ }
+{
+    let step = host_reader::step_from(bytes, at);
+    *kind = step.kind;
+    *number = step.number;
+    *next = host_reader::place_after(bytes, at);
+    host_reader::left_from(bytes, at)
+}

@@ -1,0 +1,85 @@
+//! Compares the rounds of the benchmark's other side (tests/bench/rounds.rs, plain Rust on a field's record) with the
+//! oracle's: on fields from a woken module on, to rest, and on fields that a host may make up, valid and spoilt. Rounds
+//! completed, refusal, the whole record and all words must be the same. Prints counts, or panics at the first difference.
+
+#[path = "../fields/library.rs"]
+#[allow(dead_code)]
+mod fields;
+#[path = "../bench/plain.rs"]
+#[allow(dead_code)]
+mod plain;
+#[path = "../bench/rounds.rs"]
+mod rounds;
+
+use fields::Record;
+use oracle::field::{setup_value, Field, WAKE};
+use oracle::fields::{drawn, spoil};
+use oracle::plans;
+use oracle::rng::Rng;
+use std::collections::BTreeMap;
+
+const WOKEN: usize = 90;
+const MADE_UP: usize = 1200;
+
+/// How each run must end, and how often at least: about half as often as with the seed of main.
+const LEAST: [(u32, usize); 4] = [(0, 190), (31, 85), (32, 280), (33, 35)];
+
+/// One run on both sides: its rounds and its refusal, or 0.
+fn compare(rng: &mut Rng, field: &Field, words: &[u64], limit: u16) -> (usize, u32) {
+    let before = Record::of(field, rng);
+    let (mut record, mut words_there) = (before.clone(), words.to_vec());
+    let got = rounds::run(&mut record, &mut words_there, limit);
+    let (mut field_after, mut words_after) = (field.clone(), words.to_vec());
+    let answer = oracle::rounds::run(&mut field_after, &mut words_after, limit);
+    assert_eq!(got, (answer.done as usize, answer.refusal.unwrap_or(0)), "the answer, for {field:?}");
+    let mut expected = before;
+    expected.put(&field_after);
+    assert!(record == expected, "the record after {field:?} and words {words:x?}");
+    assert_eq!(words_there, words_after, "the words after {field:?}");
+    got
+}
+
+/// Runs from one woken module to rest, on good plans of every kind.
+fn woken(rng: &mut Rng) -> usize {
+    let mut completed = 0;
+    for i in 0..WOKEN {
+        let plan = plans::good(rng, plans::KINDS[i % plans::KINDS.len()]);
+        let mut words = vec![7; plan.ceiling() as usize + rng.below(3)];
+        let mut field = setup_value(plan, &mut words).expect("a good plan");
+        let v = rng.below(field.plan.modules as usize) as u16;
+        field.step(&mut words, WAKE, v).expect("a sleeper");
+        let (done, refusal) = compare(rng, &field, &words, 65535);
+        assert_eq!(refusal, 0, "a run from a woken module is not refused");
+        completed += done;
+    }
+    completed
+}
+
+/// Runs of a few rounds on fields that a host may make up; how they end.
+fn made_up(rng: &mut Rng) -> BTreeMap<u32, usize> {
+    let mut ends = BTreeMap::new();
+    for _ in 0..MADE_UP {
+        let kind = rng.pick(&plans::KINDS);
+        let plan = plans::good(rng, kind);
+        let (mut field, mut words) = drawn(rng, &plan);
+        if rng.once_in(4) {
+            spoil(rng, &mut field, &mut words);
+        }
+        let limit = rng.pick(&[0, 1, 2, 3, 10, 65535]);
+        *ends.entry(compare(rng, &field, &words, limit).1).or_default() += 1;
+    }
+    ends
+}
+
+fn main() {
+    let mut rng = Rng::new(44);
+    let completed = woken(&mut rng);
+    let ends = made_up(&mut rng);
+    let each: Vec<String> = ends.iter().map(|(refusal, times)| format!("{refusal} {times}")).collect();
+    println!("rounds: {WOKEN} runs to rest, {completed} rounds, and {MADE_UP} on made-up fields agree");
+    println!("rounds: made-up fields, by refusal: {}", each.join("; "));
+    for (refusal, least) in LEAST {
+        let times = ends.get(&refusal).copied().unwrap_or(0);
+        assert!(times >= least, "{refusal} came {times} times, {least} wanted");
+    }
+}

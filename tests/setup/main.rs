@@ -1,0 +1,201 @@
+//! Compares the compiled setup, schedule check and schedule reader with the oracle. Setup: on plan values good and
+//! damaged, in words that hold anything, fewer than M, M and more; the answer, every word, every number of the field.
+//! The reader: on schedules good and damaged, at every place and past the end. Prints counts, or panics at the first
+//! difference.
+
+mod library;
+
+use library::{numbers, read_step, schedule_check, Numbers, Parts};
+use oracle::field::{setup_value, Field, HAND_OVER, SERVE, WAKE};
+use oracle::plan::{Link, Plan};
+use oracle::plans;
+use oracle::rng::Rng;
+use oracle::rules::{Module, WIDTH};
+use oracle::schedule::{encode, read, Reader, Step};
+use std::collections::BTreeMap;
+
+const GOOD: usize = 450;
+const DAMAGED: usize = 3000;
+const SCHEDULES: usize = 3000;
+const LONG: usize = 12;
+
+/// How often each answer must come, about half as often as with the seed of main.
+type Least = [(u32, usize)];
+
+#[rustfmt::skip]
+const SETUPS: &Least =
+    &[(0, 2500), (14, 750), (15, 220), (16, 1600), (17, 700), (18, 400), (19, 900), (21, 1400)];
+const CHECKS: &Least = &[(0, 550), (51, 150), (52, 200), (53, 470), (54, 110)];
+
+/// How often each answer came.
+#[derive(Default)]
+struct Tally(BTreeMap<u32, usize>);
+
+impl Tally {
+    fn count(&mut self, answer: u32) {
+        *self.0.entry(answer).or_default() += 1;
+    }
+
+    fn report(&self, what: &str, least: &Least) {
+        let each: Vec<String> = self.0.iter().map(|(answer, times)| format!("{answer} {times}")).collect();
+        println!("setup: {what}, by answer: {}", each.join("; "));
+        for (answer, least) in least {
+            let times = self.0.get(answer).copied().unwrap_or(0);
+            assert!(times >= *least, "{what}: {answer} came {times} times, {least} wanted");
+        }
+        assert_eq!(self.0.len(), least.len(), "{what}: no other answer");
+    }
+}
+
+/// The field that setup hands back. It holds the plan as given and sets all cells and marks, past the plan's modules and
+/// links too; beside a refusal it is zeros.
+fn handed_back(plan: &Numbers, field: &Result<Field, u32>) -> Parts {
+    let mut parts = Parts::zeros();
+    if let Ok(field) = field {
+        parts.plan = *plan;
+        parts.cells.chunks_exact_mut(WIDTH).for_each(|values| values.copy_from_slice(&Module::SETUP.values()));
+        for (values, module) in parts.cells.chunks_exact_mut(WIDTH).zip(&field.modules) {
+            values.copy_from_slice(&module.values());
+        }
+        for (ends, marks) in parts.marks.chunks_exact_mut(2).zip(&field.marks) {
+            ends.copy_from_slice(marks);
+        }
+        parts.sent = field.sent;
+    }
+    parts
+}
+
+const GUARD: usize = 8;
+
+/// Setup of a plan value in `len` words on both sides, with other words beside the lent ones; some are zero before.
+fn compare_setup(rng: &mut Rng, tally: &mut Tally, plan: &Plan, len: usize) {
+    let given = numbers(plan, rng);
+    let mut words: Vec<u64> = (0..len + 2 * GUARD).map(|_| if rng.once_in(9) { 0 } else { rng.next() }).collect();
+    let mut expected = words.clone();
+    let field = setup_value(plan.clone(), &mut expected[GUARD..GUARD + len]);
+    let answer = field.as_ref().err().copied().unwrap_or(0);
+    let (mut parts, before) = (Parts::any(rng), given);
+    assert_eq!(parts.setup(&given, &mut words[GUARD..GUARD + len]), answer, "the answer, {len} words, for {plan:?}");
+    assert!(given == before, "the lent plan stays");
+    assert_eq!(words, expected, "the words, or those beside them, {len} of them, for {plan:?}");
+    assert!(parts == handed_back(&given, &field), "the field, {len} words, for {plan:?}");
+    tally.count(answer);
+}
+
+/// Setup of a plan value in words of several numbers: M, one more or fewer, many more, none.
+fn setups(rng: &mut Rng, tally: &mut Tally, plan: &Plan) {
+    let m = plan.ceiling().min(8000) as usize;
+    let some = rng.below(m + 1);
+    for len in [m.saturating_sub(1), m, m + 1, m + rng.range(2, 3000), some] {
+        compare_setup(rng, tally, plan, len);
+    }
+}
+
+/// Document 01's refusals at their bounds, as values.
+fn samples(rng: &mut Rng, tally: &mut Tally) {
+    let link = |lower, higher, at_lower, at_higher| Link { lower, higher, at_lower, at_higher };
+    let path = |n: u16| Plan { modules: n, links: (1..n).map(|v| link(v - 1, v, 2, 3)).collect() };
+    let pair = |near, far| Plan { modules: 2, links: vec![link(0, 1, near, far)] };
+    let none = |n| Plan { modules: n, links: vec![] };
+    for plan in [none(0), none(1), none(2), path(192), path(193), pair(2000, 0), pair(2001, 0), pair(0, 2001)] {
+        setups(rng, tally, &plan);
+    }
+}
+
+/// What the reader finds at a place, on both sides.
+fn compare_place(bytes: &[u8], place: usize) {
+    let mut reader = Reader::at(bytes, place);
+    let left = reader.left();
+    let step = reader.next().unwrap_or(Step { kind: 0, number: 0 });
+    assert_eq!(read_step(bytes, place), (left, step, reader.place), "place {place} of {bytes:02x?}");
+}
+
+/// A schedule's bytes, taken or refused: the check, every place of the reader, and all its steps read one after the other.
+fn compare_schedule(tally: &mut Tally, bytes: &[u8]) {
+    let steps = read(bytes);
+    let answer = steps.as_ref().err().copied().unwrap_or(0);
+    assert_eq!(schedule_check(bytes), answer, "the check of {bytes:02x?}");
+    tally.count(answer);
+    for place in (0..bytes.len() / 3 + 3).chain([usize::MAX / 3, usize::MAX / 3 + 1, usize::MAX - 1, usize::MAX]) {
+        compare_place(bytes, place);
+    }
+    if let Ok(steps) = steps {
+        let mut place = 0;
+        for (i, expected) in steps.iter().enumerate() {
+            let (left, step, next) = read_step(bytes, place);
+            assert_eq!((left, step), (steps.len() - i, *expected), "read {i} of {bytes:02x?}");
+            place = next;
+        }
+        assert_eq!(read_step(bytes, place).0, 0, "all of {bytes:02x?} is read");
+    }
+}
+
+fn some_steps(rng: &mut Rng, many: usize) -> Vec<Step> {
+    let step = |_| {
+        let any = rng.next() as u16;
+        Step { kind: rng.pick(&[WAKE, HAND_OVER, SERVE]), number: rng.pick(&[0, 1, 255, 256, 1199, 65535, any]) }
+    };
+    (0..many).map(step).collect()
+}
+
+/// Damages a schedule: a byte, its version or length, a kind; cut short, or with bytes behind it.
+fn damage(rng: &mut Rng, bytes: &mut Vec<u8>) {
+    let (at, steps) = (rng.below(bytes.len()), bytes.len() / 3 - 1);
+    match rng.below(7) {
+        0 => bytes[at] ^= 1 << rng.below(8),
+        1 => bytes[0] = rng.pick(&[0, 2, 128, 255]),
+        2 => bytes[1 + rng.below(2)] = rng.byte(),
+        3 if steps > 0 => bytes[3 + 3 * rng.below(steps)] = rng.pick(&[0, 4, 5, 255]),
+        4 => bytes.truncate(at),
+        5 => bytes.truncate(rng.below(5)),
+        _ => bytes.extend((0..rng.range(1, 7)).map(|_| 2)),
+    }
+}
+
+/// A schedule's bytes: good, damaged, or a few of any kind.
+fn some_schedule(rng: &mut Rng) -> Vec<u8> {
+    if rng.once_in(20) {
+        return (0..rng.below(20)).map(|_| rng.byte() & 3).collect();
+    }
+    let most = rng.pick(&[0, 1, 3, 20, 200]);
+    let many = rng.range(0, most);
+    let mut bytes = encode(&some_steps(rng, many));
+    if !rng.once_in(3) {
+        damage(rng, &mut bytes);
+    }
+    bytes
+}
+
+/// Schedules of as many steps as a length can tell of, and longer.
+fn long_schedule(rng: &mut Rng, i: usize) -> Vec<u8> {
+    let many = rng.pick(&[21_845, 21_844, 10_000]);
+    let mut bytes = encode(&some_steps(rng, many));
+    if i % 2 == 1 {
+        bytes.extend((0..rng.range(1, 9_000)).map(|_| 3));
+    }
+    bytes
+}
+
+fn main() {
+    let mut rng = Rng::new(21);
+    let (mut answers, mut checks) = (Tally::default(), Tally::default());
+    samples(&mut rng, &mut answers);
+    for i in 0..GOOD {
+        let plan = plans::good(&mut rng, plans::KINDS[i % plans::KINDS.len()]);
+        setups(&mut rng, &mut answers, &plan);
+    }
+    for i in 0..DAMAGED {
+        let plan = if i % 40 == 0 { plans::too_many(&mut rng) } else { plans::damaged_value(&mut rng) };
+        setups(&mut rng, &mut answers, &plan);
+    }
+    for _ in 0..SCHEDULES {
+        compare_schedule(&mut checks, &some_schedule(&mut rng));
+    }
+    for i in 0..LONG {
+        compare_schedule(&mut checks, &long_schedule(&mut rng, i));
+    }
+    println!("setup: {GOOD} good and {DAMAGED} damaged plan values agree, each in five numbers of words");
+    println!("setup: {SCHEDULES} schedules and {LONG} long ones agree, at every place");
+    answers.report("setups", SETUPS);
+    checks.report("schedules", CHECKS);
+}
