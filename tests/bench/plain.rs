@@ -79,14 +79,15 @@ fn links_check(n: u16, links: impl Iterator<Item = [u16; 4]>) -> u32 {
 }
 
 /// The plan of a record: 14 to 19, or 0.
-pub fn check_columns(r: &Record) -> u32 {
-    if r.modules == 0 || r.modules > 192 {
+pub fn check_plan(r: &Record) -> u32 {
+    if r.modules() == 0 || r.modules() > 192 {
         return 14;
     }
-    if r.links > 600 {
+    if r.links() > 600 {
         return 15;
     }
-    links_check(r.modules, (0..r.links as usize).map(|k| [r.lower[k], r.higher[k], r.near[k], r.far[k]]))
+    let links = r.plan[2..].chunks_exact(4).take(r.links() as usize);
+    links_check(r.modules(), links.map(|link| link.try_into().unwrap()))
 }
 
 /// The check, then Kruskal with the standard sort and union-find; 20 for a buffer that is not L bytes.

@@ -4,7 +4,7 @@
 //! inline, the ratios are the same.
 
 use crate::fields::Record;
-use crate::plain::check_columns;
+use crate::plain::check_plan;
 
 const NONE: u16 = 65535;
 const HANDED: u64 = 1 << 40;
@@ -52,17 +52,16 @@ fn header(kind: u8, level: u16, find: bool) -> u8 {
 
 impl Record {
     fn owns(&self, v: u16, k: u16) -> bool {
-        self.lower[k as usize] == v || self.higher[k as usize] == v
+        self.lower(k) == v || self.higher(k) == v
     }
 
     /// Module v's directed link over its link k, and the place of its mark.
     fn end(&self, v: u16, k: u16) -> u16 {
-        2 * k + (self.lower[k as usize] != v) as u16
+        2 * k + (self.lower(k) != v) as u16
     }
 
     fn target(&self, d: u16) -> u16 {
-        let ends = if d % 2 == 0 { &self.higher } else { &self.lower };
-        ends[d as usize / 2]
+        if d % 2 == 0 { self.higher(d / 2) } else { self.lower(d / 2) }
     }
 
     fn in_queue(&self, word: u64, v: u16) -> bool {
@@ -70,11 +69,11 @@ impl Record {
     }
 
     fn own(&self, v: u16) -> impl Iterator<Item = u16> + '_ {
-        (0..self.links).filter(move |k| self.owns(v, *k))
+        (0..self.links()).filter(move |k| self.owns(v, *k))
     }
 
     fn key(&self, k: u16) -> (u16, u16) {
-        (self.near[k as usize] + self.far[k as usize], k)
+        (self.plan[4 + 4 * k as usize] + self.plan[5 + 4 * k as usize], k)
     }
 
     /// Link a is earlier than b; none is later than all.
@@ -83,11 +82,11 @@ impl Record {
     }
 
     fn top_level(&self) -> u16 {
-        self.modules.ilog2() as u16
+        self.modules().ilog2() as u16
     }
 
     fn ceiling(&self) -> u32 {
-        5 * self.modules as u32 * self.top_level() as u32 + 2 * self.links as u32
+        5 * self.modules() as u32 * self.top_level() as u32 + 2 * self.links() as u32
     }
 }
 
@@ -397,12 +396,12 @@ impl Run<'_> {
     }
 
     fn round(&mut self) -> Result<(), u32> {
-        for d in 0..2 * self.record.links {
+        for d in 0..2 * self.record.links() {
             for _ in 0..self.many_in_air(d) {
                 self.hand_over(d)?;
             }
         }
-        for v in 0..self.record.modules {
+        for v in 0..self.record.modules() {
             for _ in 0..self.many_in_queue(v) {
                 self.serve(v)?;
             }
@@ -431,21 +430,21 @@ pub fn run(record: &mut Record, words: &mut [u64], limit: u16) -> (usize, u32) {
 /// Refusal 31; where it does not apply, how many words wait.
 #[inline(never)]
 pub fn valid(record: &Record, words: &[u64]) -> Option<usize> {
-    if check_columns(record) != 0 || words.len() < record.ceiling() as usize {
+    if check_plan(record) != 0 || words.len() < record.ceiling() as usize {
         return None;
     }
     let waiting = words.iter().position(|w| *w == 0).unwrap_or(words.len());
     let (front, rest) = words.split_at(waiting);
     let mut degrees = [0; 192];
-    for k in 0..record.links as usize {
-        degrees[record.lower[k] as usize] += 1;
-        degrees[record.higher[k] as usize] += 1;
+    for k in 0..record.links() {
+        degrees[record.lower(k) as usize] += 1;
+        degrees[record.higher(k) as usize] += 1;
     }
     let sent = record.sent;
     let ok = rest.iter().all(|w| *w == 0)
         && front.iter().all(|w| word_ok(record, *w))
-        && (0..record.modules).all(|v| module_ok(record, v, degrees[v as usize]))
-        && record.marks[..2 * record.links as usize].iter().all(|mark| *mark <= 2)
+        && (0..record.modules()).all(|v| module_ok(record, v, degrees[v as usize]))
+        && record.marks[..2 * record.links() as usize].iter().all(|mark| *mark <= 2)
         && waiting <= sent as usize
         && sent <= record.ceiling();
     ok.then_some(waiting)
@@ -454,7 +453,7 @@ pub fn valid(record: &Record, words: &[u64]) -> Option<usize> {
 fn word_ok(record: &Record, word: u64) -> bool {
     let (head, carried) = (word as u8, (word >> 8) as u16);
     let (level, find) = ((head >> 3 & 7) as u16, head >> 6 & 1 == 1);
-    let a_link = carried < record.links;
+    let a_link = carried < record.links();
     let listed = match head & 7 {
         1 => !find && carried == NONE,
         2 => level >= 1 && a_link,
@@ -463,13 +462,13 @@ fn word_ok(record: &Record, word: u64) -> bool {
         6 => level == 0 && !find && (a_link || carried == NONE),
         _ => false,
     };
-    word >> 41 == 1 && head < 128 && listed && level <= record.top_level() && link(word) < 2 * record.links
+    word >> 41 == 1 && head < 128 && listed && level <= record.top_level() && link(word) < 2 * record.links()
 }
 
 fn module_ok(record: &Record, v: u16, degree: u16) -> bool {
     let m = Module::load(&record.cells, v);
-    let link = |x: u16| x == NONE || x < record.links;
-    let own = |x: u16| x == NONE || x < record.links && record.owns(v, x);
+    let link = |x: u16| x == NONE || x < record.links();
+    let own = |x: u16| x == NONE || x < record.links() && record.owns(v, x);
     m.status <= 2
         && m.level <= record.top_level()
         && link(m.identity)

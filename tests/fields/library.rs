@@ -4,60 +4,59 @@
 use oracle::field::Field;
 use oracle::rng::Rng;
 
-/// A field as the compiled functions hold it: the plan's columns, nine cells for each module, link k's marks at 2 × k
-/// and 2 × k + 1. What stands past the plan's modules and links means nothing.
+/// A field as the compiled functions hold it: the plan's numbers in file order, nine cells for each module, link k's marks
+/// at 2 × k and 2 × k + 1. What stands past the plan's modules and links means nothing.
 #[derive(Clone, Debug, PartialEq, Eq)]
 pub struct Record {
-    pub modules: u16,
-    pub links: u16,
-    pub lower: [u16; 600],
-    pub higher: [u16; 600],
-    pub near: [u16; 600],
-    pub far: [u16; 600],
+    pub plan: [u16; 2402],
     pub cells: [u16; 1728],
     pub marks: [u8; 1200],
     pub sent: u32,
 }
 
-type Column = *const [u16; 600];
-
 #[rustfmt::skip]
 extern "C" {
     fn muruapy_test_step(
-        modules: u16, links: u16, lower: Column, higher: Column, near: Column, far: Column, cells: *mut [u16; 1728],
-        marks: *mut [u8; 1200], sent: *mut u32, words: *mut u64, words_len: usize, kind: u8, number: u16,
+        plan: *const [u16; 2402], cells: *mut [u16; 1728], marks: *mut [u8; 1200], sent: *mut u32, words: *mut u64, words_len: usize, kind: u8, number: u16,
     ) -> u32;
     fn muruapy_test_run(
-        modules: u16, links: u16, lower: Column, higher: Column, near: Column, far: Column, cells: *mut [u16; 1728],
-        marks: *mut [u8; 1200], sent: *mut u32, words: *mut u64, words_len: usize, bytes: *const u8, bytes_len: usize,
+        plan: *const [u16; 2402], cells: *mut [u16; 1728], marks: *mut [u8; 1200], sent: *mut u32, words: *mut u64, words_len: usize, bytes: *const u8, bytes_len: usize,
         done: *mut usize,
     ) -> u32;
     fn muruapy_test_rounds(
-        modules: u16, links: u16, lower: Column, higher: Column, near: Column, far: Column, cells: *mut [u16; 1728],
-        marks: *mut [u8; 1200], sent: *mut u32, words: *mut u64, words_len: usize, limit: u16, done: *mut u16,
+        plan: *const [u16; 2402], cells: *mut [u16; 1728], marks: *mut [u8; 1200], sent: *mut u32, words: *mut u64, words_len: usize, limit: u16, done: *mut u16,
     ) -> u32;
 }
 
 impl Record {
+    pub fn modules(&self) -> u16 {
+        self.plan[0]
+    }
+
+    pub fn links(&self) -> u16 {
+        self.plan[1]
+    }
+
+    pub fn lower(&self, k: u16) -> u16 {
+        self.plan[2 + 4 * k as usize]
+    }
+
+    pub fn higher(&self, k: u16) -> u16 {
+        self.plan[3 + 4 * k as usize]
+    }
+
     /// The record of a field, with anything past its modules and links.
     pub fn of(field: &Field, rng: &mut Rng) -> Record {
         let mut number = || rng.next() as u16;
         let mut record = Record {
-            modules: field.plan.modules,
-            links: field.plan.links.len() as u16,
-            lower: std::array::from_fn(|_| number()),
-            higher: std::array::from_fn(|_| number()),
-            near: std::array::from_fn(|_| number()),
-            far: std::array::from_fn(|_| number()),
+            plan: std::array::from_fn(|_| number()),
             cells: std::array::from_fn(|_| number()),
             marks: std::array::from_fn(|_| number() as u8),
             sent: 0,
         };
-        for (k, link) in field.plan.links.iter().enumerate().take(600) {
-            record.lower[k] = link.lower;
-            record.higher[k] = link.higher;
-            record.near[k] = link.at_lower;
-            record.far[k] = link.at_higher;
+        record.plan[..2].copy_from_slice(&[field.plan.modules, field.plan.links.len() as u16]);
+        for (numbers, link) in record.plan[2..].chunks_exact_mut(4).zip(&field.plan.links) {
+            numbers.copy_from_slice(&[link.lower, link.higher, link.at_lower, link.at_higher]);
         }
         record.put(field);
         record
@@ -79,8 +78,7 @@ impl Record {
     pub fn step(&mut self, words: &mut [u64], kind: u8, number: u16) -> u32 {
         unsafe {
             muruapy_test_step(
-                self.modules, self.links, &self.lower, &self.higher, &self.near, &self.far, &mut self.cells,
-                &mut self.marks, &mut self.sent, words.as_mut_ptr(), words.len(), kind, number,
+                &self.plan, &mut self.cells, &mut self.marks, &mut self.sent, words.as_mut_ptr(), words.len(), kind, number,
             )
         }
     }
@@ -91,8 +89,7 @@ impl Record {
         let mut done = usize::MAX;
         let refusal = unsafe {
             muruapy_test_run(
-                self.modules, self.links, &self.lower, &self.higher, &self.near, &self.far, &mut self.cells,
-                &mut self.marks, &mut self.sent, words.as_mut_ptr(), words.len(), bytes.as_ptr(), bytes.len(),
+                &self.plan, &mut self.cells, &mut self.marks, &mut self.sent, words.as_mut_ptr(), words.len(), bytes.as_ptr(), bytes.len(),
                 &mut done,
             )
         };
@@ -105,8 +102,7 @@ impl Record {
         let mut done = u16::MAX;
         let refusal = unsafe {
             muruapy_test_rounds(
-                self.modules, self.links, &self.lower, &self.higher, &self.near, &self.far, &mut self.cells,
-                &mut self.marks, &mut self.sent, words.as_mut_ptr(), words.len(), limit, &mut done,
+                &self.plan, &mut self.cells, &mut self.marks, &mut self.sent, words.as_mut_ptr(), words.len(), limit, &mut done,
             )
         };
         (done as usize, refusal)

@@ -15,6 +15,7 @@ use Rattle.field.specs.State.{State, putNode, posted, placed}
 use Rattle.field.specs.Step.{without, carryOut, backOf}
 use Rattle.field_cells.specs.Marks.{markPut}
 use Rattle.field_cells.proofs.Marks.{mark-put}
+use Rattle.field_place.specs.Posted.{sendsBy}
 use Rattle.field_words.specs.Laid.{Laid}
 use Rattle.field_words.specs.Hands.{lentState}
 use Rattle.field_serve.specs.declared.Done.{Done}
@@ -45,31 +46,28 @@ module _ (p : Plan) (cells marks lent : List ℕ) (b : Done) (v i : ℕ) (a : Re
   abbrev before : State
   before = lentState cells marks lent (b .waiting) (b .sent)
 
-  abbrev x : ℕ
-  x = wordAt lent (b .waiting) i
-
-  abbrev work : Work
-  work = workBy p v x a before
-
   -- a refused response alters nothing
   abbrev stays : ℕ → Done → Type 0
   stays answer d = d ≡ record { answer = answer; waiting = b .waiting; sent = b .sent } → CarriedOut p v i a cells marks lent b d cells marks lent
 
   pub out-32 : Laid lent (b .waiting) → a .answer ≡ REFUSED → {d : Done} → stays 32 d
-  out-32 l h q = rw q (record { is = λ ok. sym (carry-32 p v work before _ _ h); laid = l })
+  out-32 l h q = rw q (record { is = λ ok. sym (carry-32 p v (workBy p v (wordAt lent (b .waiting) i) a before) before _ _ h); laid = l })
 
-  -- the code has worked out the number of sends c
-  module _ (r : a .answer ≢ REFUSED) {c : ℕ} (es : c ≡ length (work .sends)) where
+  -- the code has read the word x and worked out the number of sends c
+  module _ (r : a .answer ≢ REFUSED) {x c : ℕ} (ex : x ≡ wordAt lent (b .waiting) i) (es : c ≡ length (sendsBy p marks v x a)) where
+    abbrev work : Work
+    work = workBy p v x a before
+
     pub out-33 : Laid lent (b .waiting) → ceilingOf p < b .sent + c → {d : Done} → stays 33 d
-    out-33 l h q = rw q (record { is = λ ok. sym (carry-33 p v work before _ _ r (omega arith)); laid = l })
+    out-33 l h q = rw q (record { is = λ ok. rw (← ex) (sym (carry-33 p v work before _ _ r (omega arith))); laid = l })
 
     pub out-placed : b .sent + c ≤ ceilingOf p → {cells′ marks′ mid last : List ℕ} {l k size : ℕ} → cells′ ≡ putNode cells v (a .node)
         → 2 * linksOf p ≤ length marks → marks′ ≡ markPut p marks v (a .edge) (a .mark)
-        → Holds mid l size (without i (take (b .waiting) lent) ++ posted p v (work .sends))
+        → Holds mid l size (without i (take (b .waiting) lent) ++ posted p v (sendsBy p marks v x a))
         → ((w : Work) → w .answer ≡ a .answer → Holds last k (length mid) (take l mid ++ backOf w x))
         → {d : Done} → d ≡ record { answer = 0; waiting = k; sent = b .sent + c } → CarriedOut p v i a cells marks lent b d cells′ marks′ last
     out-placed le e1 sized e2 h k q = rw q (record {
-      is = λ ok. ap taken (state-is e1 (e2 ∙ mark-put p ok marks v sized (a .edge) (a .mark)) (holds-on _ h (k work refl) .waits) (ap (λ (y : ℕ). b .sent + y) es))
-          ∙ sym (carry-placed p v work before _ _ r (omega arith));
+      is = λ ok. rw (← ex) (ap taken (state-is e1 (e2 ∙ mark-put p ok marks v sized (a .edge) (a .mark)) (holds-on _ h (k work refl) .waits) (ap (λ (y : ℕ). b .sent + y) es))
+          ∙ sym (carry-placed p v work before _ _ r (omega arith)));
       laid = k work refl .laid;
     })

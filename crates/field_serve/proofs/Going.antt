@@ -23,9 +23,9 @@ module _ (rest : State → Bool) (g : Plan → ℕ → State → After State) (p
   abbrev start : State
   start = lentState cells₀ marks₀ lent₀ (b .waiting) (b .sent)
 
-  pub not-gone : Ready p cells₀ marks₀ lent₀ (b .waiting) (b .sent) → {s : Done} → s ≡ record { answer = 0; waiting = b .waiting; sent = b .sent } → Going rest g p cells₀ marks₀ lent₀ b 0 s cells₀ marks₀ lent₀
+  pub not-gone : Ready p cells₀ marks₀ lent₀ (b .waiting) (b .sent) → b .answer ≡ 0 → Going rest g p cells₀ marks₀ lent₀ b 0 b cells₀ marks₀ lent₀
   unfolding runs
-  not-gone r e = rw e (refl, refl, record { is = refl; ready = r })
+  not-gone r e = (e, refl, record { is = ap (λ (a : ℕ). record { done = 0; answer = a; state = start }) e; ready = r })
 
   module _ (k : ℕ) {s : Done} {cells marks lent : List ℕ} (t : Going rest g p cells₀ marks₀ lent₀ b k s cells marks lent) where
     were : runs rest k (g p) start ≡ went k (lentState cells marks lent (s .waiting) (s .sent))

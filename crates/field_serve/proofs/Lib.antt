@@ -6,3 +6,4 @@ pub mod Ready
 pub mod Steps
 pub mod Turns
 pub mod Going
+pub mod Call

@@ -21,9 +21,10 @@ use Rattle.format_word.specs.Word.{headerIn, carriedIn, linkIn, laidOut, shaped
 use Rattle.plan.specs.Links.{Plan, modulesOf}
 use Rattle.node.specs.declared.Node.{Node}
 use Rattle.node.specs.Work.{Own, Work, Send, BACK, ASLEEP, TAKEN, earliest, anyEdge}
-use Rattle.node.specs.Rules.{wakeOn, wakes}
+use Rattle.node.specs.Rules.{respond, wakeOn, wakes}
+use Rattle.node_response.specs.declared.Packet.{Packet}
 use Rattle.node_response.specs.declared.Response.{Response}
-use Rattle.node_response.specs.Response.{workOf, Formed}
+use Rattle.node_response.specs.Response.{packetMsg, workOf, Formed}
 use Rattle.node_joining.specs.Copies.{copiesIn}
 use Rattle.node_dispatch.specs.Receives.{Receives}
 use Rattle.field.specs.Edges.{ownOf, linkOf, limitOf}
@@ -95,6 +96,15 @@ word-listed p x e =
     let b = and-eq-true-iff _ (linkFits p x) .0 (a .0) in
     let c = and-eq-true-iff (laidOut x) (carriedFits p x) .0 (b .0) in
     and-eq-true-iff (shaped x) (listed (headerIn x) (carriedIn x)) .0 (c .0) .1
+
+-- the same under equal names
+pub receives-as : {p : Plan} {v : ℕ} {x y : Packet} {m n : Node} → x ≡ y → m ≡ n → Receives p v y n → Receives p v x m
+receives-as e f h = rw (e, f) h
+
+pub responds-as : (o : Own) (m : ℕ → ℕ) (r : Response) (limit : ℕ) {x y : Packet} {n node : Node} → x ≡ y → n ≡ node
+    → workOf m (copiesIn o (x .edge) (packetMsg x) m) r ≡ respond o limit (packetMsg x) (x .edge) n m
+    → workOf m (copiesIn o (y .edge) (packetMsg y) m) r ≡ respond o limit (packetMsg y) (y .edge) node m
+responds-as o m r limit e f h = rw (← e, ← f) h
 
 -- ---- in lent arrays
 

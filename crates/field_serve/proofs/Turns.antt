@@ -29,8 +29,8 @@ module _ (g : Plan → ℕ → State → After State) (p : Plan) (cells₀ marks
   abbrev start : State
   start = lentState cells₀ marks₀ lent₀ (b .waiting) (b .sent)
 
-  pub no-turn : Ready p cells₀ marks₀ lent₀ (b .waiting) (b .sent) → {s : Done} → s ≡ record { answer = 0; waiting = b .waiting; sent = b .sent } → Turned g p cells₀ marks₀ lent₀ b 0 s cells₀ marks₀ lent₀
-  no-turn r e = rw e (refl, refl, record { is = sym (loop-zero (g p) start); ready = r })
+  pub no-turn : Ready p cells₀ marks₀ lent₀ (b .waiting) (b .sent) → b .answer ≡ 0 → Turned g p cells₀ marks₀ lent₀ b 0 b cells₀ marks₀ lent₀
+  no-turn r e = (e, refl, record { is = ap (λ (a : ℕ). record { answer = a; state = start }) e ∙ sym (loop-zero (g p) start); ready = r })
 
   module _ (k : ℕ) {s : Done} {cells marks lent : List ℕ} (t : Turned g p cells₀ marks₀ lent₀ b k s cells marks lent) where
     were : loop k (g p) start ≡ taken (lentState cells marks lent (s .waiting) (s .sent))

@@ -40,8 +40,8 @@ pub fn left(answer: u32, waiting: usize, sent: u32) -> Done
     }
 }
 
-// A step that is refused leaves what the step before left.
-pub fn refused(answer: u32, b: Done) -> Done
+// What the step before left, under this answer.
+pub fn with_answer(answer: u32, b: Done) -> Done
     ensures { λ r. ⌜ r ≡ record { answer = answer; waiting = b .waiting; sent = b .sent } ⌝ }
 {
     left(answer, b.waiting, b.sent)
@@ -101,12 +101,12 @@ fn carry_out<'a>(
     ensures { λ r. ⌜ CarriedOut (now (plan .entry)) v i a (now (cells .entry)) (now (marks .entry)) (now (lent .entry)) b r (now (cells .exit)) (now (marks .exit)) (now (lent .exit)) ⌝ }
 {
     if a.answer == REFUSED {
-        return refused(32, b);
+        return with_answer(32, b);
     }
     let x = word_at(lent, b.waiting, i);
     let c = field_place::many(plan, marks, v, x, a);
     if plan::ceiling_of(plan) - b.sent < c {
-        return refused(33, b);
+        return with_answer(33, b);
     }
     let l = take_out(lent, b.waiting, i);
     let m = field_place::place(plan, cells, marks, lent, l, v, x, a);
@@ -151,11 +151,11 @@ pub fn wake<'a>(
     ensures { λ r. ⌜ Advances (λ p. wake p v) (now (plan .entry)) (now (cells .entry)) (now (marks .entry)) (now (lent .entry)) b r (now (cells .exit)) (now (marks .exit)) (now (lent .exit)) ⌝ }
 {
     if plan::modules(plan) <= v {
-        return refused(41, b);
+        return with_answer(41, b);
     }
     let node = field_cells::load(cells, v);
     if node.status != ASLEEP {
-        return refused(43, b);
+        return with_answer(43, b);
     }
     let a = node_dispatch::wakeup(plan, marks, v, node);
     carry_out(plan, cells, marks, lent, b, v, b.waiting, a)
@@ -174,12 +174,12 @@ pub fn serve<'a>(
     ensures { λ r. ⌜ Advances (λ p. serve p v) (now (plan .entry)) (now (cells .entry)) (now (marks .entry)) (now (lent .entry)) b r (now (cells .exit)) (now (marks .exit)) (now (lent .exit)) ⌝ }
 {
     if plan::modules(plan) <= v {
-        return refused(41, b);
+        return with_answer(41, b);
     }
     let n = b.waiting;
     let i = field_words::first_in_queue(plan, &lent[..n], v);
     if n <= i {
-        return refused(45, b);
+        return with_answer(45, b);
     }
     let a = response(plan, cells, marks, v, lent[i]);
     carry_out(plan, cells, marks, lent, b, v, i, a)

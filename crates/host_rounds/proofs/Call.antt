@@ -1,6 +1,6 @@
 -- The call of a host: 31, then the rounds over the field's arrays, then the field put together again.
 use Prim.Native.Nat.{ℕ}
-use mathlib.Core.Path.{_≡_, refl, ap, _∙_}
+use mathlib.Core.Path.{_≡_, refl, _∙_}
 use mathlib.Core.Bool.{true, false, not}
 use mathlib.Core.List.{List}
 use lib.ListN.{length}
@@ -13,28 +13,27 @@ use Rattle.field_check.specs.declared.Checked.{Checked}
 use Rattle.field_check.specs.Checked.{checkOf}
 use Rattle.field_serve.specs.declared.Done.{Done}
 use Rattle.field_serve.specs.Lent.{Runs}
-use Rattle.field_admit.specs.Admitted.{invalid, passes, starts, again}
+use Rattle.field_check.proofs.Admitted.{invalid, passes}
+use Rattle.field_serve.proofs.Call.{run-stands}
 
 module _ (h : Held) (limit : ℕ) where
-  run-refused : valid h ≡ false → refusedRun 31 h ≡ runRounds limit h
+  rounds-refused : valid h ≡ false → refusedRun 31 h ≡ runRounds limit h
   unfolding runRounds
-  run-refused e = rw e refl
+  rounds-refused e = rw e refl
 
-  run-goes : valid h ≡ true → laidBack h (roundsRun (h .field .plan) limit (H.stateOf h)) ≡ runRounds limit h
+  rounds-go : valid h ≡ true → laidBack h (roundsRun (h .field .plan) limit (H.stateOf h)) ≡ runRounds limit h
   unfolding runRounds
-  run-goes e = rw e refl
+  rounds-go e = rw e refl
 
 module _ (f : Field) (lent : List ℕ) (c : Checked) (e : c ≡ checkOf (record { field = f; words = lent })) where
   abbrev h : Held
   h = record { field = f; words = lent }
 
-  pub run-31 : (limit : ℕ) → not (c .ok) ≡ true → refusedRun 31 h ≡ runRounds limit h
-  run-31 limit n = run-refused h limit (invalid f lent c e n)
+  pub rounds-31 : (limit : ℕ) → not (c .ok) ≡ true → refusedRun 31 h ≡ runRounds limit h
+  rounds-31 limit n = rounds-refused h limit (invalid f lent c e n)
 
   -- the rounds, done in the arrays
-  module _ (y : not (c .ok) ≡ false) (limit done : ℕ) (d : Done) (cells marks words : List ℕ) where
-    pub run-done : Runs (λ p. roundsRun p limit) (f .plan) (f .cells) (f .marks) lent (c .waiting) (f .sent) done d cells marks words → length words ≡ length lent
+  module _ (y : not (c .ok) ≡ false) {b : Done} (eb : b ≡ record { answer = 0; waiting = c .waiting; sent = f .sent }) (limit done : ℕ) (d : Done) (cells marks words : List ℕ) where
+    pub rounds-done : Runs (λ p. roundsRun p limit) (f .plan) (f .cells) (f .marks) lent b done d cells marks words → length words ≡ length lent
         → record { done = done; answer = d .answer; state = record { field = record { plan = f .plan; cells = cells; marks = marks; sent = d .sent }; words = words } } ≡ runRounds limit h
-    run-done q k =
-        ap (λ (x : Held). record { done = done; answer = d .answer; state = x }) (again f lent cells marks words (d .waiting) (d .sent) (q .ready .laid) k)
-        ∙ ap (laidBack h) (q .is ∙ ap (roundsRun (f .plan) limit) (starts f lent c e)) ∙ run-goes h limit (passes f lent c e y)
+    rounds-done q k = run-stands f lent c e eb (λ p. roundsRun p limit) done d cells marks words q k ∙ rounds-go h limit (passes f lent c e y)

@@ -10,7 +10,7 @@ use lib.Dec.{eqb}
 use borrow.Author.Tests.{eq-eqb, ne-eqb}
 use Rattle.base.specs.Loop.{After, then, loop}
 use Rattle.base.specs.LoopLaws.{then-on, then-off, loop-keeps}
-use Rattle.plan.specs.declared.Plan.{Plan}
+use Rattle.plan.specs.Links.{Plan, modulesOf, linksOf}
 use Rattle.plan.specs.Accepted.{Accepted}
 use Rattle.field.specs.State.{State}
 use Rattle.field.specs.Step.{inAir, inQueue, hand, serve}
@@ -22,8 +22,8 @@ use Rattle.field_words.specs.Laid.{Laid}
 
 -- a turn is its loop, over the count that the code has read; so is the phase, over the number of links that the code has
 module _ (p : Plan) (s : State) (q : ℕ) where
-  pub hand-phase : q ≡ p .links → loop (2 * q) (handTurn p) s ≡ handPhase p s
-  hand-phase e = ap (λ (n : ℕ). loop (2 * n) (handTurn p) s) e
+  pub hand-phase : q ≡ 2 * linksOf p → loop q (handTurn p) s ≡ handPhase p s
+  hand-phase e = ap (λ (n : ℕ). loop n (handTurn p) s) e
 
   pub hand-turn : (d : ℕ) → q ≡ many (inAir d) (s .words) → loop q (λ j. hand p d) s ≡ handTurn p d s
   unfolding handTurn
@@ -43,9 +43,13 @@ module _ (p : Plan) (s : State) (z : After State) (e : z ≡ handPhase p s) wher
   unfolding round
   round-off h = sym e ∙ sym (then-off z (servePhase p) h) ∙ ap (λ (a : After State). then a (servePhase p)) e
 
+-- the serving phase is its loop, over the number of modules that the code has
+pub serve-phase : (p : Plan) (s : State) (q : ℕ) → q ≡ modulesOf p → loop q (serveTurn p) s ≡ servePhase p s
+serve-phase p s q e = ap (λ (n : ℕ). loop n (serveTurn p) s) e
+
 -- hand-overs leave a sound state
 pub hand-phase-sound : (p : Plan) (s : State) → Accepted p → Sound p s → Sound p (handPhase p s .state)
-hand-phase-sound p s a h = loop-keeps (Sound p) (2 * p .links) (handTurn p) s h
+hand-phase-sound p s a h = loop-keeps (Sound p) (2 * linksOf p) (handTurn p) s h
     (λ d y l. hand-turn-tells p (λ x l y. Sound p x → Sound p y) (λ x h. h) (λ x y z l m f g h. g (f h)) (λ kind number s h. step-keeps p a s h kind number) d y)
 
 -- "At rest means no word waits."

@@ -4,7 +4,6 @@ mod queue;
 mod round;
 
 use field::Field;
-use field_admit;
 ghost use mathlib.Core.Path.{_≡_};
 ghost use Rattle.field_calls.specs.Call.{runRounds};
 
@@ -31,27 +30,14 @@ pub fn run(f: Field, words: &mut [u64], limit: u16) -> Rounds
     ensures { λ r. ⌜ record { done = r .rounds; answer = r .refusal; state = record { field = r .field; words = now (words .exit) } }
         ≡ runRounds limit (record { field = f; words = now (words .entry) }) ⌝ }
 {
-    let c = field_admit::admit(f, words);
+    let c = field_check::admit(f, words);
     if !c.ok {
         return after(0, 31, f);
     }
-    let p = f.plan;
     let mut cells = f.cells;
     let mut marks = f.marks;
-    let w = round::rounds(
-        p.modules,
-        p.links,
-        &p.lower,
-        &p.higher,
-        &p.near,
-        &p.far,
-        &mut cells,
-        &mut marks,
-        words,
-        c.waiting,
-        f.sent,
-        limit,
-    );
-    let g = field_admit::rebuilt(f, cells, marks, w.last.sent);
+    let b = field_serve::left(0, c.waiting, f.sent);
+    let w = round::rounds(&f.plan, &mut cells, &mut marks, words, b, limit);
+    let g = field_check::rebuilt(f, cells, marks, w.last.sent);
     after(w.done, w.last.answer, g)
 }

@@ -1,13 +1,14 @@
 // A round, and rounds until the field is at rest, the limit is reached or a step is refused.
 use crate::air;
 use crate::queue;
-use field::CELLS;
-use field_serve;
+use field::Cells;
+use field::Marks;
 use field_serve::Done;
+use plan::Plan;
 ghost use mathlib.Core.Path.{_≡_};
-ghost use Rattle.plan.specs.Links.{planOf};
 ghost use Rattle.field_calls.specs.Rounds.{round, roundsRun};
-ghost use Rattle.field_serve.specs.Lent.{Ready, Advances, Runs};
+ghost use Rattle.field_check.specs.Ready.{Ready};
+ghost use Rattle.field_serve.specs.Lent.{Advances, Runs};
 
 // done: rounds completed. last: what the last one answered and left.
 pub struct Went {
@@ -25,81 +26,45 @@ fn after(done: u16, last: Done) -> Went
     }
 }
 
-// One round, where n words wait.
+// One round; b is what the step before left.
 fn round<'a>(
-    modules: u16,
-    links: u16,
-    lower: &'a [u16; 600],
-    higher: &'a [u16; 600],
-    near: &'a [u16; 600],
-    far: &'a [u16; 600],
-    cells: &mut [u16; CELLS],
-    marks: &mut [u8; 1200],
+    plan: &'a Plan,
+    cells: &mut Cells,
+    marks: &mut Marks,
     lent: &mut [u64],
-    n: usize,
-    sent: u32,
+    b: Done,
 ) -> Done
-    requires { ⌜ Ready (planOf modules links (now lower) (now higher) (now near) (now far)) (now cells) (now marks) (now lent) n sent ⌝ }
-    ensures { λ r. ⌜ Advances round (planOf modules links (now (lower .entry)) (now (higher .entry)) (now (near .entry)) (now (far .entry)))
-        (now (cells .entry)) (now (marks .entry)) (now (lent .entry)) n sent r (now (cells .exit)) (now (marks .exit)) (now (lent .exit)) ⌝ }
+    requires { ⌜ Ready (now plan) (now cells) (now marks) (now lent) (b .waiting) (b .sent) × (b .answer ≡ 0) ⌝ }
+    ensures { λ r. ⌜ Advances round (now (plan .entry))
+        (now (cells .entry)) (now (marks .entry)) (now (lent .entry)) b r (now (cells .exit)) (now (marks .exit)) (now (lent .exit)) ⌝ }
 {
-    let a = air::hand_phase(lent, n, links);
+    let a = air::hand_phase(plan, lent, b.waiting);
     if a != 0 {
-        return field_serve::left(a, n, sent);
+        return field_serve::with_answer(a, b);
     }
-    queue::serve_phase(
-        modules,
-        links,
-        lower,
-        higher,
-        near,
-        far,
-        cells,
-        marks,
-        lent,
-        n,
-        sent,
-    )
+    queue::serve_phase(plan, cells, marks, lent, b)
 }
 
-// Rounds up to the limit, where n words wait.
+// Rounds up to the limit; b is what the step before left.
 pub fn rounds<'a>(
-    modules: u16,
-    links: u16,
-    lower: &'a [u16; 600],
-    higher: &'a [u16; 600],
-    near: &'a [u16; 600],
-    far: &'a [u16; 600],
-    cells: &mut [u16; CELLS],
-    marks: &mut [u8; 1200],
+    plan: &'a Plan,
+    cells: &mut Cells,
+    marks: &mut Marks,
     lent: &mut [u64],
-    n: usize,
-    sent: u32,
+    b: Done,
     limit: u16,
 ) -> Went
-    requires { ⌜ Ready (planOf modules links (now lower) (now higher) (now near) (now far)) (now cells) (now marks) (now lent) n sent ⌝ }
-    ensures { λ r. ⌜ Runs (λ p. roundsRun p limit) (planOf modules links (now (lower .entry)) (now (higher .entry)) (now (near .entry)) (now (far .entry)))
-        (now (cells .entry)) (now (marks .entry)) (now (lent .entry)) n sent (r .done) (r .last) (now (cells .exit)) (now (marks .exit)) (now (lent .exit)) ⌝ }
+    requires { ⌜ Ready (now plan) (now cells) (now marks) (now lent) (b .waiting) (b .sent) × (b .answer ≡ 0) ⌝ }
+    ensures { λ r. ⌜ Runs (λ p. roundsRun p limit) (now (plan .entry))
+        (now (cells .entry)) (now (marks .entry)) (now (lent .entry)) b (r .done) (r .last) (now (cells .exit)) (now (marks .exit)) (now (lent .exit)) ⌝ }
 {
-    let mut s = field_serve::left(0, n, sent);
+    let mut s = b;
     let mut k: u16 = 0;
     while k < limit {
         if s.waiting == 0 {
             return after(k, s);
         }
-        s = round(
-            modules,
-            links,
-            lower,
-            higher,
-            near,
-            far,
-            cells,
-            marks,
-            lent,
-            s.waiting,
-            s.sent,
-        );
+        s = round(plan, cells, marks, lent, s);
         if s.answer != 0 {
             return after(k, s);
         }

@@ -6,11 +6,10 @@ use mathlib.Core.Bool.{true, false, not}
 use mathlib.Core.List.{List}
 use lib.ListN.{length}
 use borrow.Author.Tests.{ne-eqb, eq-eqb}
-use Rattle.base.specs.Loop.{After, refused}
+use Rattle.base.specs.Loop.{refused}
 use Rattle.field.specs.declared.Field.{Field}
-use Rattle.field.specs.State.{State}
 use Rattle.field.specs.Step.{step}
-use Rattle.field.specs.Held.{Held, heldOf, valid, stepAlone}
+use Rattle.field.specs.Held.{Held, valid, stepAlone}
 use Rattle.field.specs.Held as H
 use Rattle.field_calls.specs.Schedule.{scheduleRefusal, scheduleRun}
 use Rattle.field_calls.specs.Call.{refusedRun, laidBack, runBytes}
@@ -18,11 +17,8 @@ use Rattle.field_check.specs.declared.Checked.{Checked}
 use Rattle.field_check.specs.Checked.{checkOf}
 use Rattle.field_serve.specs.declared.Done.{Done}
 use Rattle.field_serve.specs.Lent.{Advances, Runs}
-use Rattle.field_admit.specs.Admitted.{invalid, passes, starts, again}
-
--- a step's end, with the words laid out again
-abbrev put : Held → After State → After Held
-put h a = record { answer = a .answer; state = heldOf h (a .state) }
+use Rattle.field_check.proofs.Admitted.{invalid, passes}
+use Rattle.field_serve.proofs.Call.{put, step-stands, run-stands}
 
 module _ (h : Held) where
   step-refused : (kind number : ℕ) → valid h ≡ false → refused 31 h ≡ stepAlone kind number h
@@ -55,20 +51,18 @@ module _ (f : Field) (lent : List ℕ) (c : Checked) (e : c ≡ checkOf (record 
   pub run-31 : (bytes : List ℕ) → not (c .ok) ≡ true → refusedRun 31 h ≡ runBytes bytes h
   run-31 bytes n = run-refused h bytes (invalid f lent c e n)
 
-  module _ (y : not (c .ok) ≡ false) where
+  pub run-54 : not (c .ok) ≡ false → (bytes : List ℕ) (bad : ℕ) → bad ≡ scheduleRefusal bytes → bad ≢ 0 → refusedRun bad h ≡ runBytes bytes h
+  run-54 y bytes bad q n = ap (λ (x : ℕ). refusedRun x h) q ∙ run-bad h bytes (passes f lent c e y) (λ z. n (q ∙ z))
+
+  module _ (y : not (c .ok) ≡ false) {b : Done} (eb : b ≡ record { answer = 0; waiting = c .waiting; sent = f .sent }) where
     pub step-done : (kind number : ℕ) (d : Done) (cells marks words : List ℕ)
-        → Advances (λ p. step p kind number) (f .plan) (f .cells) (f .marks) lent (c .waiting) (f .sent) d cells marks words → length words ≡ length lent
+        → Advances (λ p. step p kind number) (f .plan) (f .cells) (f .marks) lent b d cells marks words → length words ≡ length lent
         → record { answer = d .answer; state = record { field = record { plan = f .plan; cells = cells; marks = marks; sent = d .sent }; words = words } } ≡ stepAlone kind number h
     step-done kind number d cells marks words q k =
-        ap (λ (x : Held). record { answer = d .answer; state = x }) (again f lent cells marks words (d .waiting) (d .sent) (q .ready .laid) k)
-        ∙ ap (put h) (q .is ∙ ap (step (f .plan) kind number) (starts f lent c e)) ∙ step-goes h kind number (passes f lent c e y)
-
-    pub run-54 : (bytes : List ℕ) (bad : ℕ) → bad ≡ scheduleRefusal bytes → bad ≢ 0 → refusedRun bad h ≡ runBytes bytes h
-    run-54 bytes bad b n = ap (λ (x : ℕ). refusedRun x h) b ∙ run-bad h bytes (passes f lent c e y) (λ z. n (b ∙ z))
+        step-stands f lent c e eb (λ p. step p kind number) d cells marks words q k ∙ step-goes h kind number (passes f lent c e y)
 
     pub run-done : (bytes : List ℕ) (bad : ℕ) → bad ≡ scheduleRefusal bytes → bad ≡ 0 → (done : ℕ) (d : Done) (cells marks words : List ℕ)
-        → Runs (λ p. scheduleRun p bytes) (f .plan) (f .cells) (f .marks) lent (c .waiting) (f .sent) done d cells marks words → length words ≡ length lent
+        → Runs (λ p. scheduleRun p bytes) (f .plan) (f .cells) (f .marks) lent b done d cells marks words → length words ≡ length lent
         → record { done = done; answer = d .answer; state = record { field = record { plan = f .plan; cells = cells; marks = marks; sent = d .sent }; words = words } } ≡ runBytes bytes h
-    run-done bytes bad b z done d cells marks words q k =
-        ap (λ (x : Held). record { done = done; answer = d .answer; state = x }) (again f lent cells marks words (d .waiting) (d .sent) (q .ready .laid) k)
-        ∙ ap (laidBack h) (q .is ∙ ap (scheduleRun (f .plan) bytes) (starts f lent c e)) ∙ run-goes h bytes (passes f lent c e y) (sym b ∙ z)
+    run-done bytes bad r z done d cells marks words q k =
+        run-stands f lent c e eb (λ p. scheduleRun p bytes) done d cells marks words q k ∙ run-goes h bytes (passes f lent c e y) (sym r ∙ z)

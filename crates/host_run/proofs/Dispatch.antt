@@ -5,11 +5,11 @@ use mathlib.Core.Logic.{_≢_}
 use mathlib.Core.List.{List}
 use borrow.Author.Tests.{ne-eqb}
 use Rattle.base.specs.Loop.{refused}
-use Rattle.plan.specs.declared.Plan.{Plan}
+use Rattle.plan.specs.Links.{Plan}
 use Rattle.field.specs.State.{State}
 use Rattle.field.specs.Step.{wake, hand, serve, step}
 use Rattle.field_calls.specs.Schedule.{kindOf, numberOf, stepAt}
-use Rattle.field_words.specs.Hands.{stateOf}
+use Rattle.field_words.specs.Hands.{lentState}
 use Rattle.field_serve.specs.declared.Done.{Done}
 use Rattle.field_serve.specs.Lent.{Advances}
 use Rattle.field_serve.proofs.Turns.{renamed}
@@ -32,9 +32,9 @@ module _ (p : Plan) (kind number : ℕ) (s : State) where
   is-none a b c = simp (ne-eqb kind 1 a, ne-eqb kind 2 b, ne-eqb kind 3 c)
 
 -- the step that was read from the bytes is the schedule's
-pub read-step : {p : Plan} (bytes : List ℕ) (k : ℕ) {kind number : ℕ} {cells marks lent cells′ marks′ lent′ : List ℕ} {n sent : ℕ} {d : Done}
-    → Advances (λ p. step p kind number) p cells marks lent n sent d cells′ marks′ lent′ → kind ≡ kindOf bytes k → number ≡ numberOf bytes k
-    → Advances (λ p. stepAt p bytes k) p cells marks lent n sent d cells′ marks′ lent′
-read-step {p} bytes k {kind} {number} {cells} {marks} {lent} {n = n} {sent = sent} x a b =
-    let s = stateOf cells marks lent n sent in
-    renamed x (ap (λ (y : ℕ). step p y number s) a ∙ ap (λ (y : ℕ). step p (kindOf bytes k) y s) b)
+pub read-step : {p : Plan} (bytes : List ℕ) (k : ℕ) {kind number : ℕ} {cells marks lent cells′ marks′ lent′ : List ℕ} {b d : Done}
+    → Advances (λ p. step p kind number) p cells marks lent b d cells′ marks′ lent′ → kind ≡ kindOf bytes k → number ≡ numberOf bytes k
+    → Advances (λ p. stepAt p bytes k) p cells marks lent b d cells′ marks′ lent′
+read-step {p} bytes k {kind} {number} {cells} {marks} {lent} {b = z} x ek en =
+    let s = lentState cells marks lent (z .waiting) (z .sent) in
+    renamed x (ap (λ (y : ℕ). step p y number s) ek ∙ ap (λ (y : ℕ). step p (kindOf bytes k) y s) en)

@@ -2,15 +2,13 @@
 mod steps;
 
 use field::Field;
-use field_admit;
-use host_schedule;
 ghost use mathlib.Core.Path.{_≡_};
 ghost use Rattle.field.specs.Held.{stepAlone};
 ghost use Rattle.field_calls.specs.Call.{runBytes};
 
-// answer: 0, or the refusal's number.
-pub struct Taken {
-    pub answer: u32,
+// refusal: its number, or 0.
+pub struct Stepped {
+    pub refusal: u32,
     pub field: Field,
 }
 
@@ -22,11 +20,11 @@ pub struct Ran {
 }
 
 // What a step answers, and the field that it leaves.
-fn with_answer(answer: u32, field: Field) -> Taken
-    ensures { λ r. ⌜ r ≡ record { answer = answer; field = field } ⌝ }
+fn after_step(refusal: u32, field: Field) -> Stepped
+    ensures { λ r. ⌜ r ≡ record { refusal = refusal; field = field } ⌝ }
 {
-    Taken {
-        answer: answer,
+    Stepped {
+        refusal: refusal,
         field: field,
     }
 }
@@ -43,34 +41,20 @@ fn after(steps: usize, refusal: u32, field: Field) -> Ran
 }
 
 // One step: kind 1 wakes module number, 2 hands over on directed link number, 3 lets module number serve.
-pub fn step(f: Field, words: &mut [u64], kind: u8, number: u16) -> Taken
-    ensures { λ r. ⌜ record { answer = r .answer; state = record { field = r .field; words = now (words .exit) } }
+pub fn step(f: Field, words: &mut [u64], kind: u8, number: u16) -> Stepped
+    ensures { λ r. ⌜ record { answer = r .refusal; state = record { field = r .field; words = now (words .exit) } }
         ≡ stepAlone kind number (record { field = f; words = now (words .entry) }) ⌝ }
 {
-    let c = field_admit::admit(f, words);
+    let c = field_check::admit(f, words);
     if !c.ok {
-        return with_answer(31, f);
+        return after_step(31, f);
     }
-    let p = f.plan;
     let mut cells = f.cells;
     let mut marks = f.marks;
-    let d = steps::step(
-        p.modules,
-        p.links,
-        &p.lower,
-        &p.higher,
-        &p.near,
-        &p.far,
-        &mut cells,
-        &mut marks,
-        words,
-        c.waiting,
-        f.sent,
-        kind,
-        number,
-    );
-    let g = field_admit::rebuilt(f, cells, marks, d.sent);
-    with_answer(d.answer, g)
+    let b = field_serve::left(0, c.waiting, f.sent);
+    let d = steps::step(&f.plan, &mut cells, &mut marks, words, b, kind, number);
+    let g = field_check::rebuilt(f, cells, marks, d.sent);
+    after_step(d.answer, g)
 }
 
 // A run of a schedule: 31, then 51 to 54, then its steps up to the first that is refused.
@@ -78,7 +62,7 @@ pub fn run(f: Field, words: &mut [u64], bytes: &[u8]) -> Ran
     ensures { λ r. ⌜ record { done = r .steps; answer = r .refusal; state = record { field = r .field; words = now (words .exit) } }
         ≡ runBytes (now (bytes .entry)) (record { field = f; words = now (words .entry) }) ⌝ }
 {
-    let c = field_admit::admit(f, words);
+    let c = field_check::admit(f, words);
     if !c.ok {
         return after(0, 31, f);
     }
@@ -86,24 +70,11 @@ pub fn run(f: Field, words: &mut [u64], bytes: &[u8]) -> Ran
     if bad != 0 {
         return after(0, bad, f);
     }
-    let p = f.plan;
     let mut cells = f.cells;
     let mut marks = f.marks;
-    let w = steps::steps(
-        p.modules,
-        p.links,
-        &p.lower,
-        &p.higher,
-        &p.near,
-        &p.far,
-        &mut cells,
-        &mut marks,
-        words,
-        c.waiting,
-        f.sent,
-        bytes,
-        (bytes.len() - 3) / 3,
-    );
-    let g = field_admit::rebuilt(f, cells, marks, w.last.sent);
+    let b = field_serve::left(0, c.waiting, f.sent);
+    let count = (bytes.len() - 3) / 3;
+    let w = steps::steps(&f.plan, &mut cells, &mut marks, words, b, bytes, count);
+    let g = field_check::rebuilt(f, cells, marks, w.last.sent);
     after(w.done, w.last.answer, g)
 }

@@ -1,14 +1,13 @@
 // Steps on lent arrays: one by its kind, and those of a schedule one after the other.
-use field::CELLS;
-use field_serve;
+use field::Cells;
+use field::Marks;
 use field_serve::Done;
-use field_words;
-use host_schedule;
+use plan::Plan;
 ghost use mathlib.Core.Path.{_≡_};
-ghost use Rattle.plan.specs.Links.{planOf};
 ghost use Rattle.field.specs.Step.{step};
 ghost use Rattle.field_calls.specs.Schedule.{stepsIn, scheduleRefusal, scheduleRun};
-ghost use Rattle.field_serve.specs.Lent.{Ready, Advances, Runs};
+ghost use Rattle.field_check.specs.Ready.{Ready};
+ghost use Rattle.field_serve.specs.Lent.{Advances, Runs};
 
 // done: steps done. last: what the last one answered and left.
 pub struct Went {
@@ -26,97 +25,47 @@ fn after(done: usize, last: Done) -> Went
     }
 }
 
-// One step, where n words wait: 0, or refused by 54, 41 to 45, 32 or 33.
+// One step; b is what the step before left: 0, or refused by 54, 41 to 45, 32 or 33.
 pub fn step<'a>(
-    modules: u16,
-    links: u16,
-    lower: &'a [u16; 600],
-    higher: &'a [u16; 600],
-    near: &'a [u16; 600],
-    far: &'a [u16; 600],
-    cells: &mut [u16; CELLS],
-    marks: &mut [u8; 1200],
+    plan: &'a Plan,
+    cells: &mut Cells,
+    marks: &mut Marks,
     lent: &mut [u64],
-    n: usize,
-    sent: u32,
+    b: Done,
     kind: u8,
     number: u16,
 ) -> Done
-    requires { ⌜ Ready (planOf modules links (now lower) (now higher) (now near) (now far)) (now cells) (now marks) (now lent) n sent ⌝ }
-    ensures { λ r. ⌜ Advances (λ p. step p kind number) (planOf modules links (now (lower .entry)) (now (higher .entry)) (now (near .entry)) (now (far .entry)))
-        (now (cells .entry)) (now (marks .entry)) (now (lent .entry)) n sent r (now (cells .exit)) (now (marks .exit)) (now (lent .exit)) ⌝ }
+    requires { ⌜ Ready (now plan) (now cells) (now marks) (now lent) (b .waiting) (b .sent) ⌝ }
+    ensures { λ r. ⌜ Advances (λ p. step p kind number) (now (plan .entry))
+        (now (cells .entry)) (now (marks .entry)) (now (lent .entry)) b r (now (cells .exit)) (now (marks .exit)) (now (lent .exit)) ⌝ }
 {
     match kind {
-        1 => field_serve::wake(
-            modules,
-            links,
-            lower,
-            higher,
-            near,
-            far,
-            cells,
-            marks,
-            lent,
-            n,
-            sent,
-            number,
-        ),
-        2 => field_serve::left(field_words::hand(lent, n, links, number), n, sent),
-        3 => field_serve::serve(
-            modules,
-            links,
-            lower,
-            higher,
-            near,
-            far,
-            cells,
-            marks,
-            lent,
-            n,
-            sent,
-            number,
-        ),
-        0 | 4..=255 => field_serve::left(54, n, sent),
+        1 => field_serve::wake(plan, cells, marks, lent, b, number),
+        2 => field_serve::with_answer(field_words::hand(plan, lent, b.waiting, number), b),
+        3 => field_serve::serve(plan, cells, marks, lent, b, number),
+        0 | 4..=255 => field_serve::with_answer(54, b),
     }
 }
 
 // The steps of a schedule that 51 to 54 do not refuse, up to the first that is refused.
 pub fn steps<'a>(
-    modules: u16,
-    links: u16,
-    lower: &'a [u16; 600],
-    higher: &'a [u16; 600],
-    near: &'a [u16; 600],
-    far: &'a [u16; 600],
-    cells: &mut [u16; CELLS],
-    marks: &mut [u8; 1200],
+    plan: &'a Plan,
+    cells: &mut Cells,
+    marks: &mut Marks,
     lent: &mut [u64],
-    n: usize,
-    sent: u32,
+    b: Done,
     bytes: &[u8],
     count: usize,
 ) -> Went
-    requires { ⌜ Ready (planOf modules links (now lower) (now higher) (now near) (now far)) (now cells) (now marks) (now lent) n sent
+    requires { ⌜ Ready (now plan) (now cells) (now marks) (now lent) (b .waiting) (b .sent) × (b .answer ≡ 0)
         × (scheduleRefusal (now bytes) ≡ 0) × (count ≡ stepsIn (now bytes)) ⌝ }
-    ensures { λ r. ⌜ Runs (λ p. scheduleRun p (now (bytes .entry))) (planOf modules links (now (lower .entry)) (now (higher .entry)) (now (near .entry)) (now (far .entry)))
-        (now (cells .entry)) (now (marks .entry)) (now (lent .entry)) n sent (r .done) (r .last) (now (cells .exit)) (now (marks .exit)) (now (lent .exit)) ⌝ }
+    ensures { λ r. ⌜ Runs (λ p. scheduleRun p (now (bytes .entry))) (now (plan .entry))
+        (now (cells .entry)) (now (marks .entry)) (now (lent .entry)) b (r .done) (r .last) (now (cells .exit)) (now (marks .exit)) (now (lent .exit)) ⌝ }
 {
-    let mut s = field_serve::left(0, n, sent);
+    let mut s = b;
     let mut k: usize = 0;
     while k < count {
-        s = step(
-            modules,
-            links,
-            lower,
-            higher,
-            near,
-            far,
-            cells,
-            marks,
-            lent,
-            s.waiting,
-            s.sent,
-            host_schedule::kind(bytes, k),
+        s = step(plan, cells, marks, lent, s, host_schedule::kind(bytes, k),
             host_schedule::number(bytes, k),
         );
         if s.answer != 0 {

@@ -3,13 +3,13 @@ use Prim.Native.Nat.{ℕ}
 use mathlib.Core.Path.{_≡_, refl, sym, ap, _∙_}
 use mathlib.Core.List.{List}
 use Rattle.base.specs.Cond.{bool-cases}
-use Rattle.base.specs.Loop.{After, Ran}
-use Rattle.plan.specs.declared.Plan.{Plan}
+use Rattle.base.specs.Loop.{Ran}
+use Rattle.plan.specs.Links.{Plan}
 use Rattle.field.specs.declared.Field.{Field}
 use Rattle.field.specs.Held.{Held, valid, stepAlone}
 use Rattle.field_calls.specs.Schedule.{scheduleRefusal}
 use Rattle.field_calls.specs.Call.{runBytes, runRounds}
-use Rattle.test_field.specs.Parts.{fieldOf, heldOf}
+use Rattle.test_field.specs.Parts.{fieldFrom, heldFrom}
 use lib.Dec.{eqb}
 
 module _ (h : Held) where
@@ -26,29 +26,29 @@ module _ (h : Held) where
   unfolding runRounds
   rounds-plan limit = bool-cases (valid h) (λ e. rw e refl) (λ e. rw e refl)
 
--- what is held, with the plan that it had
-held : (x : Held) (p : Plan) → x .field .plan ≡ p → heldOf p (x .field .cells) (x .field .marks) (x .field .sent) (x .words) ≡ x
-held x p e = ap (λ (q : Plan). heldOf q (x .field .cells) (x .field .marks) (x .field .sent) (x .words)) (sym e)
+-- One law for the three calls. A call's whole answer is made of what is held then, by `make`, and `state` reads that back.
+module _ {R : Type 0} (state : R → Held) (make : Held → R) (reads : (x : Held) → state (make x) ≡ x)
+    (call : Held → R) (keeps : (h : Held) → state (call h) .field .plan ≡ h .field .plan) where
+  pub parts : (p : Plan) (cells marks : List ℕ) (sent : ℕ) (lent : List ℕ) (f : Field) → f ≡ fieldFrom p cells marks sent → (g : Field) (words : List ℕ)
+      → make (record { field = g; words = words }) ≡ call (record { field = f; words = lent })
+      → make (heldFrom p (g .cells) (g .marks) (g .sent) words) ≡ call (heldFrom p cells marks sent lent)
+  parts p cells marks sent lent f is g words e =
+      let e′ = e ∙ ap (λ (x : Field). call (record { field = x; words = lent })) is in
+      let q = sym (ap (λ (x : Held). x .field .plan) (reads (record { field = g; words = words }))) ∙ ap (λ (a : R). state a .field .plan) e′ ∙ keeps _ in
+      ap (λ (x : Plan). make (heldFrom x (g .cells) (g .marks) (g .sent) words)) (sym q) ∙ e′
 
-module _ (p : Plan) (cells marks : List ℕ) (sent : ℕ) (lent : List ℕ) {f : Field} (is : f ≡ fieldOf p cells marks sent) (g : Field) (words : List ℕ) where
-  -- what the call left, as it is held
-  abbrev left : Held
-  left = record { field = g; words = words }
+pub step-parts : (kind number answer : ℕ) → (p : Plan) (cells marks : List ℕ) (sent : ℕ) (lent : List ℕ) (f : Field) → f ≡ fieldFrom p cells marks sent → (g : Field) (words : List ℕ)
+    → record { answer = answer; state = record { field = g; words = words } } ≡ stepAlone kind number (record { field = f; words = lent })
+    → record { answer = answer; state = heldFrom p (g .cells) (g .marks) (g .sent) words } ≡ stepAlone kind number (heldFrom p cells marks sent lent)
+step-parts kind number answer = parts (λ a. a .state) (λ x. record { answer = answer; state = x }) (λ x. refl) (stepAlone kind number) (λ h. step-plan h kind number)
 
-  pub step-parts : (kind number : ℕ) {answer : ℕ} → record { answer = answer; state = left } ≡ stepAlone kind number (record { field = f; words = lent })
-      → record { answer = answer; state = heldOf p (g .cells) (g .marks) (g .sent) words } ≡ stepAlone kind number (heldOf p cells marks sent lent)
-  step-parts kind number {answer} e =
-      let e′ = e ∙ ap (λ (x : Field). stepAlone kind number (record { field = x; words = lent })) is in
-      ap (λ (x : Held). record { answer = answer; state = x }) (held left p (ap (λ (a : After Held). a .state .field .plan) e′ ∙ step-plan _ kind number)) ∙ e′
+abbrev pub Told : (Held → Ran Held) → Type 0
+Told call = (done answer : ℕ) (p : Plan) (cells marks : List ℕ) (sent : ℕ) (lent : List ℕ) (f : Field) → f ≡ fieldFrom p cells marks sent → (g : Field) (words : List ℕ)
+    → record { done = done; answer = answer; state = record { field = g; words = words } } ≡ call (record { field = f; words = lent })
+    → record { done = done; answer = answer; state = heldFrom p (g .cells) (g .marks) (g .sent) words } ≡ call (heldFrom p cells marks sent lent)
 
-  pub run-parts : (bytes : List ℕ) {done answer : ℕ} → record { done = done; answer = answer; state = left } ≡ runBytes bytes (record { field = f; words = lent })
-      → record { done = done; answer = answer; state = heldOf p (g .cells) (g .marks) (g .sent) words } ≡ runBytes bytes (heldOf p cells marks sent lent)
-  run-parts bytes {done} {answer} e =
-      let e′ = e ∙ ap (λ (x : Field). runBytes bytes (record { field = x; words = lent })) is in
-      ap (λ (x : Held). record { done = done; answer = answer; state = x }) (held left p (ap (λ (a : Ran Held). a .state .field .plan) e′ ∙ run-plan _ bytes)) ∙ e′
+pub run-parts : (bytes : List ℕ) → Told (runBytes bytes)
+run-parts bytes done answer = parts (λ a. a .state) (λ x. record { done = done; answer = answer; state = x }) (λ x. refl) (runBytes bytes) (λ h. run-plan h bytes)
 
-  pub rounds-parts : (limit : ℕ) {done answer : ℕ} → record { done = done; answer = answer; state = left } ≡ runRounds limit (record { field = f; words = lent })
-      → record { done = done; answer = answer; state = heldOf p (g .cells) (g .marks) (g .sent) words } ≡ runRounds limit (heldOf p cells marks sent lent)
-  rounds-parts limit {done} {answer} e =
-      let e′ = e ∙ ap (λ (x : Field). runRounds limit (record { field = x; words = lent })) is in
-      ap (λ (x : Held). record { done = done; answer = answer; state = x }) (held left p (ap (λ (a : Ran Held). a .state .field .plan) e′ ∙ rounds-plan _ limit)) ∙ e′
+pub rounds-parts : (limit : ℕ) → Told (runRounds limit)
+rounds-parts limit done answer = parts (λ a. a .state) (λ x. record { done = done; answer = answer; state = x }) (λ x. refl) (runRounds limit) (λ h. rounds-plan h limit)

@@ -17,25 +17,31 @@ returns-2 c =
     let o = h .before in
     rw (c .after2 .ensures) (run-54 _ _ _ (o .before .before .admit .ensures .0) (o .if1 .left) _ _ (h .check .ensures) (b .if2 .taken))
 
-sub-steps : tie.Need-sub-steps
-sub-steps c =
-    let e = c .before .before .before .before .before .before .before .before .before .before .before in
+sub-count : tie.Need-sub-count
+sub-count c =
+    let e = c .before .before .before in
     omega (arith, taken-size _ (sym (e .before .check .ensures) ∙ e .if2 .left) .0)
 
 steps-requires : tie.Need-steps-requires
 steps-requires c κs =
-    let e = c .before .before .before .before .before .before .before .before .before .before .before in
-    let o = e .before .before in
-    (o .before .before .admit .ensures .1 (not-false _ (o .if1 .left)), sym (e .before .check .ensures) ∙ e .if2 .left, refl)
+    let l = c .before .before .before .before .before in
+    let e = l .before .before .before in
+    let o = e .before .before in (
+      rw (l .left .ensures) (o .before .before .admit .ensures .1 (not-false _ (o .if1 .left))),
+      rw (l .left .ensures) refl,
+      sym (e .before .check .ensures) ∙ e .if2 .left,
+      refl,
+    )
 
 returns-3 : tie.Need-returns-3
 returns-3 c =
     let g = c .before in
     let r = g .before .before .before in
-    let e = r .before .before .before .before .before .before .before .before .before .before .before .before in
+    let l = r .before .before .before .before .before .before in
+    let e = l .before .before .before in
     let o = e .before .before in
     rw (c .after3 .ensures, g .rebuilt .ensures)
-    (run-done _ _ _ (o .before .before .admit .ensures .0) (o .if1 .left) _ _ (e .before .check .ensures) (e .if2 .left) _ _ _ _ _ (r .steps .ensures) (search needs))
+    (run-done _ _ _ (o .before .before .admit .ensures .0) (o .if1 .left) (l .left .ensures) _ _ (e .before .check .ensures) (e .if2 .left) _ _ _ _ _ (r .steps .ensures) (search needs))
 
 pub run-spec : {M : Type 1} → statement M
 run-spec =
@@ -49,7 +55,8 @@ run-spec =
     (λ c κs. search needs)
     (λ c. search needs)
     returns-2
-    sub-steps
+    (λ c κs. search needs)
+    sub-count
     steps-requires
     (λ c κs. search needs)
     (λ c κs. search needs)

@@ -5,19 +5,22 @@ use Rattle.host_run.proofs.step.Statement.{statement}
 use Rattle.host_run.proofs.step.Tie as tie
 
 returns : tie.Need-returns
-returns c = let t = c .before in rw (c .with-answer .ensures) (step-31 _ _ _ (t .before .before .admit .ensures .0) _ _ (t .if1 .taken))
+returns c = let t = c .before in rw (c .after-step .ensures) (step-31 _ _ _ (t .before .before .admit .ensures .0) _ _ (t .if1 .taken))
 
 step-requires : tie.Need-step-requires
 step-requires c κs =
-    let o = c .before .before .before .before .before .before .before .before .before .before .before in
-    o .before .before .admit .ensures .1 (not-false _ (o .if1 .left))
+    let l = c .before .before .before .before .before in
+    let o = l .before .before .before in
+    rw (l .left .ensures) (o .before .before .admit .ensures .1 (not-false _ (o .if1 .left)))
 
 returns-2 : tie.Need-returns-2
 returns-2 c =
     let g = c .before in
     let r = g .before .before .before in
-    let o = r .before .before .before .before .before .before .before .before .before .before .before .before in
-    rw (c .with-answer2 .ensures, g .rebuilt .ensures) (step-done _ _ _ (o .before .before .admit .ensures .0) (o .if1 .left) _ _ _ _ _ _ (r .step .ensures) (search needs))
+    let l = r .before .before .before .before .before .before in
+    let o = l .before .before .before in
+    rw (c .after-step2 .ensures, g .rebuilt .ensures)
+    (step-done _ _ _ (o .before .before .admit .ensures .0) (o .if1 .left) (l .left .ensures) _ _ _ _ _ _ (r .step .ensures) (search needs))
 
 pub step-spec : {M : Type 1} → statement M
 step-spec =
@@ -27,6 +30,7 @@ step-spec =
     (λ c κs. search needs)
     (λ c. search needs)
     returns
+    (λ c κs. search needs)
     step-requires
     (λ c κs. search needs)
     (λ c κs. search needs)

@@ -9,16 +9,16 @@ use Rattle.host_rounds.proofs.air.hand_turn.Statement.{statement}
 use Rattle.host_rounds.proofs.air.hand_turn.Tie as tie
 
 abbrev Inv-loop : tie.InvT-loop
-Inv-loop lent₀ n links d q j₀ lent j = Handed (λ p i. hand p d) links n lent₀ j lent × (j ≤ q)
+Inv-loop plan lent₀ n d q j₀ lent j = Handed (λ i. hand plan d) n lent₀ j lent × (j ≤ q)
 
 abbrev μ-loop : tie.MeasureT-loop
-μ-loop lent₀ n links d q j₀ lent j = q - j
+μ-loop plan lent₀ n d q j₀ lent j = q - j
 
 slice-aggregate-many-in-air : tie.Need-slice-aggregate-many-in-air Inv-loop μ-loop
 slice-aggregate-many-in-air c = let s = c .before .before in sym (length-take-le (s .args .n) (s .args .lent .now) (s .pre .0 .within))
 
 loop-holds : tie.Need-loop-holds Inv-loop μ-loop
-loop-holds c = (none-handed _ _ _ _ (c .before .before .before .pre .0), search needs)
+loop-holds c = (none-handed _ _ _ (c .before .before .before .pre .0), search needs)
 
 hand-requires : tie.Need-hand-requires Inv-loop μ-loop
 hand-requires c κs = let i = c .before .before in (i .loop .inv .0 .1 .laid, i .before .before .before .before .pre .1)
@@ -28,18 +28,18 @@ returns c =
     let h = c .before .before .before in
     let t = h .before .before in
     let i = t .before in
-    renamed (handed-off _ _ _ _ _ (i .loop .inv .0) (h .hand .ensures) _ (t .loop-test .taken) (c .if1 .taken))
-    (λ p cells marks sent e. T.hand-turn p _ _ _ (i .before .many-in-air .ensures))
+    renamed (handed-off _ _ _ _ (i .loop .inv .0) (h .hand .ensures) _ (t .loop-test .taken) (c .if1 .taken))
+    (λ cells marks sent. T.hand-turn _ _ _ _ (i .before .many-in-air .ensures))
 
 loop-again : tie.Need-loop-again Inv-loop μ-loop
 loop-again c =
     let h = c .before .before .before in
-    (handed-on _ _ _ _ _ (h .before .before .before .loop .inv .0) (h .hand .ensures) (h .hand .kept .0) (c .if1 .left), search needs)
+    (handed-on _ _ _ _ (h .before .before .before .loop .inv .0) (h .hand .ensures) (h .hand .kept .1 .0) (c .if1 .left), search needs)
 
 returns-2 : tie.Need-returns-2 Inv-loop μ-loop
 returns-2 c =
     let i = c .before in
-    renamed (handed-all _ _ _ _ _ (i .loop .inv .0) _ (c .loop-test .left) (i .loop .inv .1)) (λ p cells marks sent e. T.hand-turn p _ _ _ (i .before .many-in-air .ensures))
+    renamed (handed-all _ _ _ _ (i .loop .inv .0) _ (c .loop-test .left) (i .loop .inv .1)) (λ cells marks sent. T.hand-turn _ _ _ _ (i .before .many-in-air .ensures))
 
 pub hand-turn-spec : {M : Type 1} → statement M
 hand-turn-spec =

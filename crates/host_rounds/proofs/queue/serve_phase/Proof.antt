@@ -1,39 +1,40 @@
 use Prim.Native.Nat.{_-_, _≤_}
-use mathlib.Core.Path.{refl}
 use borrow.Author.Needs.{needs}
-use Rattle.plan.specs.Links.{planOf}
+use mathlib.Core.Path.{_≡_}
+use Rattle.plan.specs.Links.{modulesOf}
 use Rattle.field_calls.specs.Rounds.{serveTurn}
 use Rattle.field_serve.proofs.Turns.{Turned, renamed, no-turn, turn-on, turn-off, turns-over}
+use Rattle.host_rounds.proofs.Turns as T
 use Rattle.host_rounds.proofs.queue.serve_phase.Statement.{statement}
 use Rattle.host_rounds.proofs.queue.serve_phase.Tie as tie
 
 abbrev Inv-loop : tie.InvT-loop
-Inv-loop modules links lower higher near far cells₀ marks₀ lent₀ n sent s₀ v₀ cells marks lent s v =
-    Turned serveTurn (planOf modules links lower higher near far) cells₀ marks₀ lent₀ n sent v s cells marks lent × (v ≤ modules)
+Inv-loop plan cells₀ marks₀ lent₀ s₀ modules v₀ cells marks lent s v =
+    Turned serveTurn plan cells₀ marks₀ lent₀ s₀ v s cells marks lent × (v ≤ modules) × (modules ≡ modulesOf plan)
 
 abbrev μ-loop : tie.MeasureT-loop
-μ-loop modules links lower higher near far cells₀ marks₀ lent₀ n sent s₀ v₀ cells marks lent s v = modules - v
+μ-loop plan cells₀ marks₀ lent₀ s₀ modules v₀ cells marks lent s v = modules - v
 
 loop-holds : tie.Need-loop-holds Inv-loop μ-loop
-loop-holds c = (no-turn _ _ _ _ _ _ _ (c .before .before .pre) (c .left .ensures), search needs)
+loop-holds c = let s = c .before .before in (no-turn _ _ _ _ _ _ (s .pre .0) (s .pre .1), search needs, c .modules .ensures)
 
 serve-turn-requires : tie.Need-serve-turn-requires Inv-loop μ-loop
-serve-turn-requires c κs = c .before .before .before .before .loop .inv .0 .2 .ready
+serve-turn-requires c κs = let i = c .before .before .before .before .loop .inv .0 in (i .2 .ready, i .0)
 
 returns : tie.Need-returns Inv-loop μ-loop
 returns c =
     let h = c .before .before .before .before in
     let t = h .before .before .before .before in
-    renamed (turn-off _ _ _ _ _ _ _ _ (t .before .loop .inv .0) (h .serve-turn .ensures) _ (t .loop-test .taken) (c .if1 .taken)) refl
+    renamed (turn-off _ _ _ _ _ _ _ (t .before .loop .inv .0) (h .serve-turn .ensures) _ (t .loop-test .taken) (c .if1 .taken)) (T.serve-phase _ _ _ (t .before .loop .inv .2))
 
 loop-again : tie.Need-loop-again Inv-loop μ-loop
 loop-again c =
     let h = c .before .before .before .before in
     let i = h .before .before .before .before .before in
-    (turn-on _ _ _ _ _ _ _ _ (i .loop .inv .0) (h .serve-turn .ensures) (search needs) (c .if1 .left), search needs)
+    (turn-on _ _ _ _ _ _ _ (i .loop .inv .0) (h .serve-turn .ensures) (search needs) (c .if1 .left), search needs, i .loop .inv .2)
 
 returns-2 : tie.Need-returns-2 Inv-loop μ-loop
-returns-2 c = let i = c .before .loop .inv in renamed (turns-over _ _ _ _ _ _ _ _ (i .0) _ (c .loop-test .left) (i .1)) refl
+returns-2 c = let i = c .before .loop .inv in renamed (turns-over _ _ _ _ _ _ _ (i .0) _ (c .loop-test .left) (i .1)) (T.serve-phase _ _ _ (i .2))
 
 pub serve-phase-spec : {M : Type 1} → statement M
 serve-phase-spec =

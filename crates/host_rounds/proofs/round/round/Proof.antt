@@ -1,5 +1,6 @@
 use mathlib.Core.Path.{refl, _∙_}
 use borrow.Author.Needs.{needs}
+use Rattle.field_calls.specs.Rounds.{handPhase}
 use Rattle.field_serve.proofs.Ready.{hands}
 use Rattle.field_serve.proofs.Turns.{renamed}
 use Rattle.host_rounds.proofs.Turns.{hand-phase-sound, round-on, round-off}
@@ -7,28 +8,30 @@ use Rattle.host_rounds.proofs.round.round.Statement.{statement}
 use Rattle.host_rounds.proofs.round.round.Tie as tie
 
 hand-phase-requires : tie.Need-hand-phase-requires
-hand-phase-requires c κs = let r = c .before .before .pre in (r .laid, r .plan .linksOk)
+hand-phase-requires c κs = let r = c .before .before .pre .0 in (r .laid, r .plan .linksOk)
 
 returns : tie.Need-returns
 returns c =
     let t = c .before in
     let h = t .before .before .before in
-    let r = h .before .before .before .pre in
-    renamed (hands _ _ _ _ _ _ r _ (hand-phase-sound _ _ (r .plan) (r .sound)) (h .hand-phase .ensures) (search needs) (c .left .ensures))
-    (round-off _ _ _ (h .hand-phase .ensures .is _ _ _ _ refl) (t .if1 .taken))
+    let s = h .before .before .before in
+    let r = s .pre .0 in
+    renamed (hands _ _ _ _ (s .args .b) r handPhase (hand-phase-sound _ _ (r .plan) (r .sound)) (h .hand-phase .ensures) (search needs) (c .with-answer .ensures))
+    (round-off _ _ _ (h .hand-phase .ensures .is _ _ _) (t .if1 .taken))
 
 serve-phase-requires : tie.Need-serve-phase-requires
 serve-phase-requires c κs =
     let h = c .before .before .before .before .before .before in
-    let r = h .before .before .before .pre in
-    hands _ _ _ _ _ _ r _ (hand-phase-sound _ _ (r .plan) (r .sound)) (h .hand-phase .ensures) (search needs) refl .ready
+    let s = h .before .before .before in
+    let r = s .pre .0 in
+    (hands _ _ _ _ (s .args .b) r handPhase (hand-phase-sound _ _ (r .plan) (r .sound)) (h .hand-phase .ensures) (search needs) refl .ready, s .pre .1)
 
 returns-2 : tie.Need-returns-2
 returns-2 c =
     let t = c .before .before in
     let i = t .before .before .before .before in
     let h = i .before .before .before in
-    record { is = t .serve-phase .ensures .is ∙ round-on _ _ _ (h .hand-phase .ensures .is _ _ _ _ refl) (i .if1 .left); ready = t .serve-phase .ensures .ready }
+    record { is = t .serve-phase .ensures .is ∙ round-on _ _ _ (h .hand-phase .ensures .is _ _ _) (i .if1 .left); ready = t .serve-phase .ensures .ready }
 
 pub round-spec : {M : Type 1} → statement M
 round-spec =

@@ -1,6 +1,7 @@
 use native.Mathlib.Omega.{arith}
 use mathlib.Core.Logic.{⊎-elim}
 use borrow.Author.Needs.{needs}
+use Rattle.field.specs.Step.{hand}
 use Rattle.field_serve.proofs.Ready.{stays, hands, hand-sound}
 use Rattle.field_serve.proofs.Turns.{renamed}
 use Rattle.host_run.proofs.Dispatch.{is-wake, is-hand, is-serve, is-none}
@@ -18,7 +19,7 @@ returns-2 c =
     let w = c .before .before .before in
     let k = w .before .before in
     let r = k .before .before .pre in
-    renamed (hands _ _ _ _ _ _ r _ (hand-sound _ _ _ _ _ _ r _) (w .hand .ensures) (search needs) (c .left .ensures)) (is-hand _ _ _ _ (k .match .keys2))
+    renamed (hands _ _ _ _ (k .before .before .args .b) r (λ p. hand p (k .before .before .args .number)) (hand-sound _ _ _ _ (k .before .before .args .b) r _) (w .hand .ensures) (search needs) (c .with-answer .ensures)) (is-hand _ _ _ _ (k .match .keys2))
 
 returns-3 : tie.Need-returns-3
 returns-3 c =
@@ -29,12 +30,12 @@ returns-3 c =
 returns-4 : tie.Need-returns-4
 returns-4 c =
     let m = c .before in
-    stays _ _ _ _ _ _ (m .before .before .pre) _ 54
+    stays _ _ _ _ (m .before .before .args .b) (m .before .before .pre) _ 54
     (⊎-elim
     (λ z. let q = z .keys4 in is-none _ _ _ _ (λ e. omega arith) (λ e. omega arith) (λ e. omega arith))
     (λ z. is-none _ _ _ _ (z .rest .0 .0 .0 .1) (z .rest .0 .0 .1) (z .rest .0 .1))
     (m .match .came))
-    (c .left2 .ensures)
+    (c .with-answer2 .ensures)
 
 pub step-spec : {M : Type 1} → statement M
 step-spec =

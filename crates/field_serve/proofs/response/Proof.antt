@@ -1,0 +1,23 @@
+use Prim.Native.Nat.{ℕ}
+use mathlib.Core.Path.{sym, ap, ap₂, subst, _∙_}
+use borrow.Author.Needs.{needs}
+use Rattle.node.specs.declared.Node.{Node}
+use Rattle.node_response.specs.declared.Packet.{Packet}
+use Rattle.node_dispatch.specs.Receives.{Receives}
+use Rattle.field_serve.proofs.Steps.{receives-as, responds-as}
+use Rattle.field_serve.proofs.response.Statement.{statement}
+use Rattle.field_serve.proofs.response.Tie as tie
+
+respond-requires : tie.Need-respond-requires
+respond-requires c κs = receives-as (c .before .received .ensures) (c .load .ensures) (c .before .before .pre .1)
+
+returns : tie.Need-returns
+returns c =
+    let l = c .before in
+    record {
+      is = λ lent n sent. responds-as _ _ _ _ (l .before .received .ensures) (l .load .ensures) (c .respond .ensures .0);
+      formed = c .respond .ensures .1;
+    }
+
+pub response-spec : {M : Type 1} → statement M
+response-spec = tie.close (tie.spec (λ c κs. search needs) (λ c κs. search needs) respond-requires returns)
