@@ -1,6 +1,6 @@
 //! What the pages name is there. docs/PROOF.md: each definition, theorem, function and test of a row; the table of must-fail edits by crate
-//! has the edits of the tree, no more and no fewer, and the tables with a column "Must-fail edits" name some of them. docs/PROTOCOL.md: in
-//! every table with a column "Theorem" and a column "File" each name of the one is defined in a file of the other. README.md: the map is the
+//! has the edits of the tree, no more and no fewer, and the tables with a column "Must-fail edits" name some of them. docs/PROTOCOL.md and
+//! docs/TOUR.md: in every table with a column "Theorem" and a column "File" each name of the one is defined in a file of the other. README.md: the map is the
 //! groups of crates.txt. docs/TRUST.md is the page that the tree gives. `docs trust`, `docs edits` and `docs map` print what is compared.
 use scan::Tree;
 use std::fs;
@@ -38,8 +38,8 @@ fn check(tree: &Tree, made: &str) -> bool {
         tables::claims(row, &by, &mut found);
         tables::functions(row, tree, &mut found);
     }
-    for row in proof.iter().chain(&tables::page_rows("docs/PROTOCOL.md")) {
-        tables::theorems(row, &by, &mut found);
+    for row in ["docs/PROTOCOL.md", "docs/TOUR.md"].into_iter().flat_map(tables::page_rows) {
+        tables::theorems(&row, &by, &mut found);
     }
     edits::compare(&proof, &mut found);
     map::compare(&tables::page_rows("README.md"), &listing(), &mut found);
