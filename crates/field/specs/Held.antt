@@ -6,13 +6,14 @@ use mathlib.Core.Bool.{Bool, cond, not, _&&_}
 use mathlib.Core.List.{List, [], _++_}
 use lib.ListN.{length, replicate}
 use lib.Dec.{eqb, ltb}
+use Rattle.base.specs.Limits.{maxModules, maxEnds}
 use Rattle.base.specs.Loop.{After, taken, refused}
 use Rattle.plan.specs.Refusal.{planRefusal}
-use Rattle.plan.specs.Links.{Plan}
+use Rattle.plan.specs.Links.{Plan, blank}
 use Rattle.node.specs.Work.{setup}
 use Rattle.field.specs.declared.Field.{Field}
 use Rattle.field.specs.Edges.{ceilingOf}
-use Rattle.field.specs.State.{State, WIDTH, values}
+use Rattle.field.specs.State.{State, WIDTH, CELLS, values}
 use Rattle.field.specs.Step.{step}
 use Rattle.field.specs.Valid.{waitingIn, zeroAfter, enough, fits}
 
@@ -51,14 +52,25 @@ unfolding freshCells
 fresh-length zero = refl
 fresh-length (suc n) = omega (arith, fresh-length n)
 
-abbrev pub fresh : Plan → Field
-fresh p = record { plan = p; cells = freshCells 192; marks = replicate 1200 0; sent = 0 }
+-- "The sent count starts at 0": all marks Basic, nothing sent
+abbrev pub unmarked : Plan → List ℕ → Field
+unmarked p cells = record { plan = p; cells = cells; marks = replicate maxEnds 0; sent = 0 }
 
--- "Setup needs M words or more and zeroes all of them. The sent count starts at 0". "21 fewer words than M .. (.. after the plan's checks)"
+abbrev pub fresh : Plan → Field
+fresh p = unmarked p (freshCells maxModules)
+
+-- "every refusal answers its number alone": a field of zeros beside it, and the words as they were
+abbrev pub blankField : Field
+blankField = unmarked blank (replicate CELLS 0)
+
+abbrev pub notSetUp : ℕ → List ℕ → After Held
+notSetUp number lent = refused number (record { field = blankField; words = lent })
+
+-- "Setup needs M words or more and zeroes all of them". "21 fewer words than M .. (.. after the plan's checks)"
 unfoldable pub setUp : Plan → List ℕ → After Held
 setUp p lent =
-    cond (not (eqb (planRefusal p) 0)) (refused (planRefusal p) (record { field = fresh p; words = lent }))
-    (cond (ltb (length lent) (ceilingOf p)) (refused 21 (record { field = fresh p; words = lent }))
+    cond (not (eqb (planRefusal p) 0)) (notSetUp (planRefusal p) lent)
+    (cond (ltb (length lent) (ceilingOf p)) (notSetUp 21 lent)
     (taken (record { field = fresh p; words = replicate (length lent) 0 })))
 
 -- A step given alone: 31 "before all else", then 54, 41 to 45, 32, 33.

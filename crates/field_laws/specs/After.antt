@@ -10,7 +10,7 @@ use lib.Seq.{getD-append-add}
 use lib.Dec.{ltb}
 use borrow.Author.Tests.{le-leb, eq-eqb}
 use Rattle.base.specs.Cond.{eqb-cases, ltb-cases}
-use Rattle.base.specs.Loop.{After, taken, refused}
+use Rattle.base.specs.Loop.{After, taken}
 use Rattle.base.specs.Pool.{nil}
 use Rattle.plan.specs.Refusal.{planRefusal}
 use Rattle.plan.specs.Accepted.{Accepted, accepted}
@@ -21,7 +21,7 @@ use Rattle.node.specs.Values.{node-by}
 use Rattle.field.specs.State.{State, WIDTH, values, cellOf, nodeIn}
 use Rattle.field.specs.Step.{step}
 use Rattle.field.specs.Valid.{zeroAfter}
-use Rattle.field.specs.Held.{Held, stateOf, valid, freshCells, fresh-length, fresh, setUp}
+use Rattle.field.specs.Held.{Held, stateOf, valid, freshCells, fresh-length, fresh, notSetUp, setUp}
 use Rattle.field_calls.specs.Call.{Call, does, after}
 use Rattle.field_calls.specs.Trail.{Taken, stepsOf, trail, ifTaken}
 use Rattle.field_laws.specs.Lists.{NodeOk, ok-fresh}
@@ -54,15 +54,14 @@ pub record Started (p : Plan) (lent : List ℕ) (h : Held) : Type 0 where
 pub started : (p : Plan) (lent : List ℕ) → setUp p lent .answer ≡ 0 → Started p lent (setUp p lent .state)
 unfolding setUp
 started p lent = eqb-cases (planRefusal p) 0
-    (λ b. (cond (not b) (refused (planRefusal p) (record { field = fresh p; words = lent })) rest) .answer ≡ 0
-    → Started p lent ((cond (not b) (refused (planRefusal p) (record { field = fresh p; words = lent })) rest) .state))
+    (λ b. (cond (not b) (notSetUp (planRefusal p) lent) rest) .answer ≡ 0 → Started p lent ((cond (not b) (notSetUp (planRefusal p) lent) rest) .state))
     (λ e. ltb-cases (length lent) (ceilingOf p) (λ b. (enoughOr b) .answer ≡ 0 → Started p lent ((enoughOr b) .state))
     (λ l z. absurd (omega arith))
     (λ l z. record { plan = e; room = l; is = refl }))
     (λ n z. absurd (n z))
   where
     enoughOr : Bool → After Held
-    enoughOr b = cond b (refused 21 (record { field = fresh p; words = lent })) (taken (record { field = fresh p; words = replicate (length lent) 0 }))
+    enoughOr b = cond b (notSetUp 21 lent) (taken (record { field = fresh p; words = replicate (length lent) 0 }))
 
     rest : After Held
     rest = enoughOr (ltb (length lent) (ceilingOf p))

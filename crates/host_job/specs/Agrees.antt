@@ -4,27 +4,25 @@ use Prim.Native.Nat.{ℕ, _+_, _≤_, _<_}
 use native.Mathlib.Omega.{arith}
 use mathlib.Core.Path.{_≡_, refl, sym, ap, subst, _∙_}
 use mathlib.Core.Logic.{_≢_, _⊎_, inl, inr}
-use mathlib.Core.Bool.{true, false, not}
+use mathlib.Core.Bool.{true, false}
 use mathlib.Core.List.{List, [], _∷_}
 use lib.ListN.{length, getD}
 use lib.Dec.{eqb, ltb}
 use borrow.Author.Tests.{eq-eqb, lt-leb}
 use Rattle.base.specs.Cond.{bool-cases}
-use Rattle.base.specs.Loop.{After, Ran}
-use Rattle.base.specs.Pool.{All, nil, con}
-use Rattle.plan.specs.declared.Plan.{Plan}
-use Rattle.plan.specs.Refusal.{planRefusal}
+use Rattle.base.specs.Pool.{All, con}
+use Rattle.plan.specs.Links.{Plan, modulesOf, linksOf}
 use Rattle.plan.specs.Accepted.{accepted}
 use Rattle.plan.specs.Ceiling.{ceiling-small}
 use Rattle.node.specs.Work.{Work, ASLEEP, REFUSED, BRANCH, REJECTED}
 use Rattle.field.specs.Edges.{ceilingOf}
 use Rattle.field.specs.State.{State, nodeAt}
-use Rattle.field.specs.Step.{settle, wake, step}
+use Rattle.field.specs.Step.{carryOut, wake, step}
 use Rattle.field.specs.Held.{Held, stateOf, setUp, stepAlone}
 use Rattle.field_calls.specs.Call.{Call, one, rounds, after, answers, does, runRounds}
 use Rattle.field_calls.specs.Trail.{trail, stepsOf, ifTaken, messagesSent, wokenIn, wakesOne}
-use Rattle.field_calls.specs.Demand.{TreeLink, BothSay, Agreed, Allowed, Settles, Claim}
-use Rattle.field_laws.specs.After.{Started, started, begun-live, fresh-node}
+use Rattle.field_calls.specs.Demand.{BothSay, Agreed, Allowed, Settles, Claim}
+use Rattle.field_laws.specs.After.{started, begun-live, fresh-node}
 use Rattle.field_laws.specs.Laid.{Live}
 use Rattle.demand.specs.Demand.{demand3}
 use Rattle.plan_tree.specs.Tree.{centralTree}
@@ -36,21 +34,21 @@ abbrev pub calls : List Call
 calls = one 1 0 ∷ rounds 65535 ∷ []
 
 -- 0, 32 or 33
-abbrev Settling : ℕ → Type 0
-Settling r = (r ≡ 0) ⊎ (r ≡ 32) ⊎ (r ≡ 33)
+abbrev CarriedAs : ℕ → Type 0
+CarriedAs r = (r ≡ 0) ⊎ (r ≡ 32) ⊎ (r ≡ 33)
 
 -- a wake of a sleeper is refused by 32 or 33, if at all
-settle-only : (p : Plan) (v : ℕ) (w : Work) (s : State) (words back : List ℕ) → Settling (settle p v w s words back .answer)
-unfolding settle
-settle-only p v w s words back = bool-cases (eqb (w .answer) REFUSED) (λ e. rw e (inr (inl refl)))
+carry-only : (p : Plan) (v : ℕ) (w : Work) (s : State) (words back : List ℕ) → CarriedAs (carryOut p v w s words back .answer)
+unfolding carryOut
+carry-only p v w s words back = bool-cases (eqb (w .answer) REFUSED) (λ e. rw e (inr (inl refl)))
     (λ e. rw e (bool-cases (ltb (ceilingOf p) (s .sent + length (w .sends))) (λ b. rw b (inr (inr refl))) (λ b. rw b (inl refl))))
 
-wake-only : (h : Held) → Live h → 0 < h .field .plan .modules → nodeAt (stateOf h) 0 .status ≡ ASLEEP → Settling (stepAlone 1 0 h .answer)
+wake-only : (h : Held) → Live h → 0 < modulesOf (h .field .plan) → nodeAt (stateOf h) 0 .status ≡ ASLEEP → CarriedAs (stepAlone 1 0 h .answer)
 unfolding stepAlone step wake
-wake-only h i l e = rw (i .valid, lt-leb (modulesOf (h .field .plan)) 0 l, eq-eqb _ ASLEEP e) (settle-only (h .field .plan) 0 _ (stateOf h) (stateOf h .words) [])
+wake-only h i l e = rw (i .valid, lt-leb (modulesOf (h .field .plan)) 0 l, eq-eqb _ ASLEEP e) (carry-only (h .field .plan) 0 _ (stateOf h) (stateOf h .words) [])
 
 -- what demand 3 leaves of these
-unrefused : (r : ℕ) → Settling r → Allowed (one 1 0) r → r ≡ 0
+unrefused : (r : ℕ) → CarriedAs r → Allowed (one 1 0) r → r ≡ 0
 unrefused r (inl e) a = e
 unrefused r (inr (inl e)) (inl z) = z
 unrefused r (inr (inl e)) (inr (inl h)) = omega (arith, h .0)
@@ -89,7 +87,7 @@ module _ (p : Plan) (lent : List ℕ) (ok : setUp p lent .answer ≡ 0) where
   wakes =
       let q = started p lent ok in
       let asleep : nodeAt (stateOf start) 0 .status ≡ ASLEEP = ap (λ h. nodeAt (stateOf h) 0 .status) (q .is) ∙ ap (λ n. n .status) (fresh-node 0 (omega arith)) in
-      let some : 0 < start .field .plan .modules = subst (λ (h : Held). 0 < h .field .plan .modules) (sym (q .is)) (accepted p (q .plan) .someone) in
+      let some : 0 < modulesOf (start .field .plan) = subst (λ (h : Held). 0 < modulesOf (h .field .plan)) (sym (q .is)) (accepted p (q .plan) .someone) in
       unrefused _ (wake-only start live some asleep) (head (first .refusals))
 
   -- M + N is below the limit

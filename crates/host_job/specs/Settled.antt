@@ -8,7 +8,7 @@ use mathlib.Core.List.{List}
 use lib.Dec.{eqb}
 use Rattle.base.specs.Cond.{eqb-diff}
 use Rattle.base.specs.Loop.{After, Ran}
-use Rattle.plan.specs.declared.Plan.{Plan}
+use Rattle.plan.specs.Links.{Plan}
 use Rattle.field.specs.Held.{Held, setUp, stepAlone}
 use Rattle.field_calls.specs.Call.{refusedRun, runRounds}
 

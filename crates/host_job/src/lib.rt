@@ -11,9 +11,9 @@ pub struct Settled {
     pub field: Field,
 }
 
-pub fn settle(p: Plan, words: &mut [u64]) -> Settled
+pub fn settle(p: &Plan, words: &mut [u64]) -> Settled
     ensures { λ r. ⌜ record { done = r .rounds; answer = r .refusal; state = record { field = r .field; words = now (words .exit) } }
-        ≡ settled p (now (words .entry)) ⌝ }
+        ≡ settled (now (p .entry)) (now (words .entry)) ⌝ }
 {
     let s = host_setup::setup(p, words);
     let start = s.field;
@@ -26,10 +26,10 @@ pub fn settle(p: Plan, words: &mut [u64]) -> Settled
     }
     let w = host_run::step(start, words, 1, 0);
     let woken = w.field;
-    if w.answer != 0 {
+    if w.refusal != 0 {
         return Settled {
             rounds: 0,
-            refusal: w.answer,
+            refusal: w.refusal,
             field: woken,
         };
     }

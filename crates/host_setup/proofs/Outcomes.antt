@@ -6,26 +6,31 @@ use mathlib.Core.List.{List}
 use lib.ListN.{length, replicate}
 use borrow.Author.Tests.{eq-eqb, ne-eqb, lt-ltb, le-ltb}
 use Rattle.base.specs.Loop.{After}
-use Rattle.plan.specs.declared.Plan.{Plan}
+use Rattle.plan.specs.Links.{Plan}
 use Rattle.plan.specs.Refusal.{planRefusal}
-use Rattle.field.specs.declared.Field.{Field}
 use Rattle.field.specs.Edges.{ceilingOf}
-use Rattle.field.specs.Held.{Held, fresh, setUp}
+use Rattle.field.specs.Held.{Held, fresh, blankField, setUp}
+use Rattle.host_setup.specs.declared.NewField.{NewField}
 
--- what the code answers
-abbrev pub answered : ℕ → Field → List ℕ → After Held
-answered refusal f words = record { answer = refusal; state = record { field = f; words = words } }
+-- what the code answers, with the words that it leaves
+abbrev pub answered : NewField → List ℕ → After Held
+answered a words = record { answer = a .refusal; state = record { field = a .field; words = words } }
 
-module _ (p : Plan) (lent : List ℕ) (r : ℕ) (f : Field) (e : r ≡ planRefusal p) (g : f ≡ fresh p) where
-  pub setup-bad : r ≢ 0 → answered r f lent ≡ setUp p lent
+-- what it answers where `number` refuses
+abbrev blankBeside : ℕ → NewField
+blankBeside number = record { refusal = number; field = blankField }
+
+module _ (p : Plan) (lent : List ℕ) (r : ℕ) (e : r ≡ planRefusal p) (a : NewField) where
+  pub setup-bad : r ≢ 0 → a ≡ blankBeside r → answered a lent ≡ setUp p lent
   unfolding setUp
-  setup-bad n = sym (simp (ne-eqb (planRefusal p) 0 (λ q. n (e ∙ q))) (rw (e, g)))
+  setup-bad n b = rw b (sym (simp (ne-eqb (planRefusal p) 0 (λ q. n (e ∙ q))) (rw e)))
 
   module _ (z : r ≡ 0) where
-    pub setup-few : length lent < ceilingOf p → answered 21 f lent ≡ setUp p lent
+    pub setup-few : length lent < ceilingOf p → a ≡ blankBeside 21 → answered a lent ≡ setUp p lent
     unfolding setUp
-    setup-few l = sym (simp (eq-eqb (planRefusal p) 0 (sym e ∙ z), lt-ltb _ _ l) (rw g))
+    setup-few l b = rw b (sym (simp (eq-eqb (planRefusal p) 0 (sym e ∙ z), lt-ltb _ _ l)))
 
-    pub setup-done : ceilingOf p ≤ length lent → (words : List ℕ) → words ≡ replicate (length lent) 0 → answered 0 f words ≡ setUp p lent
+    pub setup-done : ceilingOf p ≤ length lent → a .refusal ≡ 0 → a .field ≡ fresh p → (words : List ℕ) → words ≡ replicate (length lent) 0
+        → answered a words ≡ setUp p lent
     unfolding setUp
-    setup-done l words w = sym (simp (eq-eqb (planRefusal p) 0 (sym e ∙ z), le-ltb _ _ l) (rw (g, w)))
+    setup-done l o g words w = rw (o, g, w) (sym (simp (eq-eqb (planRefusal p) 0 (sym e ∙ z), le-ltb _ _ l)))

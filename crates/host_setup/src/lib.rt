@@ -1,28 +1,34 @@
 // Setup: the field of a plan, all modules asleep, no word waiting.
+use base::MAX_ENDS;
+use base::MAX_MODULES;
 use base::NONE;
 use field::CELLS;
+use field::Cells;
 use field::Field;
+use node::ASLEEP;
+use node::BASIC;
 use node::Node;
+use plan::NUMBERS;
 use plan::Plan;
-ghost use Prim.Native.Nat.{ℕ, _*_, _<_, _≤_};
 ghost use mathlib.Core.Path.{_≡_};
 ghost use lib.ListN.{length, replicate};
+ghost use Rattle.base.specs.Limits.{maxModules};
 ghost use Rattle.field.specs.State.{CELLS};
-ghost use Rattle.field.specs.Held.{freshCells, fresh, setUp};
+ghost use Rattle.field.specs.Held.{freshCells, unmarked, fresh, blankField, setUp};
 
-// refusal: 14 to 19, 21 or 0
-pub struct Outcome {
+// What setup answers: the refusal, 14 to 19 or 21, or 0 and the plan's field.
+pub struct NewField {
     pub refusal: u32,
     pub field: Field,
 }
 
 // Each module's values at setup, in cells of zeros.
-fn lay_cells(cells: &mut [u16; CELLS])
+fn lay_cells(cells: &mut Cells)
     requires { ⌜ now cells ≡ replicate CELLS 0 ⌝ }
-    ensures { λ _. ⌜ now (cells .exit) ≡ freshCells 192 ⌝ }
+    ensures { λ _. ⌜ now (cells .exit) ≡ freshCells maxModules ⌝ }
 {
     let n = Node {
-        status: 0,
+        status: ASLEEP,
         level: 0,
         identity: NONE,
         weight: NONE,
@@ -33,24 +39,40 @@ fn lay_cells(cells: &mut [u16; CELLS])
         halted: 0,
     };
     let mut v: u16 = 0;
-    while v < 192 {
+    while v < MAX_MODULES {
         field_cells::put_node(cells, v, n);
         v += 1;
     }
 }
 
-// The field of plan p at setup.
-fn fresh_field(p: Plan) -> Field
-    ensures { λ r. ⌜ r ≡ fresh p ⌝ }
+// The field of a plan and cells, all marks Basic, nothing sent.
+fn unmarked(p: Plan, cells: Cells) -> Field
+    ensures { λ r. ⌜ r ≡ unmarked p cells ⌝ }
 {
-    let mut cells = [0u16; CELLS];
-    lay_cells(&mut cells);
-    let marks = [0u8; 1200];
     Field {
         plan: p,
         cells: cells,
-        marks: marks,
+        marks: [BASIC; MAX_ENDS],
         sent: 0,
+    }
+}
+
+// The field of a plan at setup.
+fn fresh_field(p: &Plan) -> Field
+    ensures { λ r. ⌜ r ≡ fresh (now (p .entry)) ⌝ }
+{
+    let mut cells = [0u16; CELLS];
+    lay_cells(&mut cells);
+    unmarked(*p, cells)
+}
+
+// A refusal's number, beside a field of zeros.
+fn refused(number: u32) -> NewField
+    ensures { λ r. ⌜ r ≡ record { refusal = number; field = blankField } ⌝ }
+{
+    NewField {
+        refusal: number,
+        field: unmarked([0u16; NUMBERS], [0u16; CELLS]),
     }
 }
 
@@ -66,24 +88,19 @@ fn zero_all(words: &mut [u64])
 }
 
 // Setup of a plan in lent words. A refusal leaves the words as they were.
-pub fn setup(p: Plan, words: &mut [u64]) -> Outcome
-    ensures { λ r. ⌜ record { answer = r .refusal; state = record { field = r .field; words = now (words .exit) } } ≡ setUp p (now (words .entry)) ⌝ }
+pub fn setup(p: &Plan, words: &mut [u64]) -> NewField
+    ensures { λ r. ⌜ record { answer = r .refusal; state = record { field = r .field; words = now (words .exit) } }
+        ≡ setUp (now (p .entry)) (now (words .entry)) ⌝ }
 {
-    let bad = plan::check(p);
+    let bad = plan_check::check(p);
     if bad != 0 {
-        return Outcome {
-            refusal: bad,
-            field: fresh_field(p),
-        };
+        return refused(bad);
     }
-    if words.len() < plan::ceiling(p.modules, p.links) as usize {
-        return Outcome {
-            refusal: 21,
-            field: fresh_field(p),
-        };
+    if words.len() < plan::ceiling_of(p) as usize {
+        return refused(21);
     }
     zero_all(words);
-    Outcome {
+    NewField {
         refusal: 0,
         field: fresh_field(p),
     }

@@ -1,7 +1,7 @@
 -- A plan value and its links, as a graph.
 use Prim.Native.Nat.{ℕ, _+_, _*_}
 use mathlib.Core.List.{List}
-use lib.ListN.{getD}
+use lib.ListN.{getD, replicate}
 use Rattle.base.specs.Limits.{maxLinks}
 use Rattle.graph.specs.Graph.{Graph}
 
@@ -12,6 +12,10 @@ Plan = List ℕ
 -- how many numbers an array for any plan has
 abbrev pub planSize : ℕ
 planSize = 2 + 4 * maxLinks
+
+-- the plan of zeros that stands beside a refusal
+abbrev pub blank : Plan
+blank = replicate planSize 0
 
 abbrev pub modulesOf : Plan → ℕ
 modulesOf p = getD p 0 0

@@ -6,6 +6,7 @@ use Rattle.base.specs.Limits.{maxLinks}
 use Rattle.base.specs.Table.{tabulate}
 use Rattle.format_int16.specs.Int16.{at16, bytes16}
 use Rattle.plan.specs.Links.{Plan, linksOf}
+pub use Rattle.plan.specs.Links.{blank}
 
 -- "N; L; for each link lower module, higher module, reading at the lower, reading at the higher": how many numbers
 abbrev pub planNumbers : ℕ → ℕ
@@ -37,7 +38,3 @@ decode s = padded (planNumbers (number s 2)) (λ i. number s (suc i))
 unfoldable pub trimmed : Plan → Plan
 unfolding padded
 trimmed p = padded (planNumbers (linksOf p)) (λ i. getD p i 0)
-
--- a plan of zeros
-abbrev pub blank : Plan
-blank = replicate (planNumbers maxLinks) 0

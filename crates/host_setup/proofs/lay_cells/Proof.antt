@@ -3,6 +3,7 @@ use native.Mathlib.Omega.{arith}
 use mathlib.Core.List.{List}
 use mathlib.Core.Path.{_≡_, ap, _∙_}
 use borrow.Author.Needs.{needs}
+use Rattle.base.specs.Limits.{maxModules}
 use Rattle.field.specs.Held.{freshCells}
 use Rattle.field.specs.State.{CELLS, putNode}
 use Rattle.node.specs.Work.{setup}
@@ -11,10 +12,10 @@ use Rattle.host_setup.proofs.lay_cells.Statement.{statement}
 use Rattle.host_setup.proofs.lay_cells.Tie as tie
 
 abbrev Inv-loop : tie.InvT-loop
-Inv-loop cells₀ n v₀ cells v = (v ≤ 192) × (cells ≡ laid CELLS v)
+Inv-loop cells₀ n v₀ cells v = (v ≤ maxModules) × (cells ≡ laid CELLS v)
 
 abbrev μ-loop : tie.MeasureT-loop
-μ-loop cells₀ n v₀ cells v = 192 - v
+μ-loop cells₀ n v₀ cells v = maxModules - v
 
 loop-holds : tie.Need-loop-holds Inv-loop μ-loop
 loop-holds c = (search needs, c .pre ∙ laid-none CELLS)
@@ -26,7 +27,7 @@ loop-again c =
 
 returns : tie.Need-returns Inv-loop μ-loop
 returns c =
-    let e : c .before .loop .v ≡ 192 = omega arith in
+    let e : c .before .loop .v ≡ maxModules = omega arith in
     c .before .loop .inv .1 ∙ laid-all CELLS (c .before .loop .v) (omega arith) ∙ ap freshCells e
 
 pub lay-cells-spec : {M : Type 1} → statement M

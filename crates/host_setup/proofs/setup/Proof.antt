@@ -1,28 +1,24 @@
 use native.Mathlib.Omega.{arith}
+use mathlib.Core.Path.{refl}
 use borrow.Author.Needs.{needs}
 use Rattle.host_setup.proofs.Outcomes.{setup-bad, setup-few, setup-done}
 use Rattle.host_setup.proofs.setup.Statement.{statement}
 use Rattle.host_setup.proofs.setup.Tie as tie
 
 returns : tie.Need-returns
-returns c =
-    let t = c .before in
-    setup-bad _ _ _ _ (t .before .check .ensures) (c .fresh-field .ensures) (t .if1 .taken)
+returns c = setup-bad _ _ _ (c .before .before .check .ensures) _ (c .before .if1 .taken) (c .refused .ensures)
 
 returns-2 : tie.Need-returns-2
 returns-2 c =
-    let t = c .before in
-    let m = t .before in
-    let k = m .before .before in
-    setup-few _ _ _ _ (k .check .ensures) (c .fresh-field2 .ensures) (m .before .if1 .left) (omega (arith, m .ceiling .ensures))
+    let m = c .before .before in
+    setup-few _ _ _ (m .before .before .check .ensures) _ (m .before .if1 .left) (omega (arith, m .ceiling-of .ensures, c .before .if2 .taken)) (c .refused2 .ensures)
 
 returns-3 : tie.Need-returns-3
 returns-3 c =
     let z = c .before .before .before in
     let o = z .before .before in
     let m = o .before in
-    let k = m .before .before in
-    setup-done _ _ _ _ (k .check .ensures) (c .fresh-field3 .ensures) (m .before .if1 .left) (omega (arith, m .ceiling .ensures, o .if2 .left)) _ (z .zero-all .ensures)
+    setup-done _ _ _ (m .before .before .check .ensures) (record { refusal = 0; field = c .fresh-field .result }) (m .before .if1 .left) (omega (arith, m .ceiling-of .ensures, o .if2 .left)) refl (c .fresh-field .ensures) _ (z .zero-all .ensures)
 
 pub setup-spec : {M : Type 1} → statement M
 setup-spec =
