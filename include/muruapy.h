@@ -1,7 +1,8 @@
 /* Checks of Muruapy's plans and radio frames, for C.
  *
- * Link with libhost_console.a, which `rt staticlib host_console` writes to target/staticlib. It needs no other library, keeps no
- * state and allocates nothing. Each function is proved to answer the number that document 01 gives for the bytes. */
+ * Link with libhost_console.a, which `rt staticlib host_console` writes to target/staticlib. It needs nothing else but memcpy, memmove and
+ * memset, which its compiled code may call (the C library has them); it keeps no state and allocates nothing. Each function is proved to answer
+ * the number that document 01 gives for the bytes. */
 #ifndef MURUAPY_H
 #define MURUAPY_H
 

@@ -1,6 +1,6 @@
-//! The must-fail edits that docs/PROOF.md names are those of the tree.
+//! The must-fail edits that docs/PROOF.md names are those of the tree; their table by crate.
 use crate::tables::{Found, Row};
-use std::collections::BTreeSet;
+use std::collections::{BTreeMap, BTreeSet};
 use std::fs;
 
 /// The edits of the tree, "crate/edit".
@@ -19,12 +19,23 @@ fn there() -> BTreeSet<String> {
 
 /// The edits that a row names: those of one crate, or any.
 fn named(row: &Row) -> (Vec<String>, Vec<String>) {
-    let split = |cell: &String| cell.split(", ").map(str::to_string).collect::<Vec<_>>();
+    let split = |cell: &String| cell.split(", ").filter(|e| *e != "-").map(str::to_string).collect::<Vec<_>>();
     let listed = match (row.cells.get("Crate"), row.cells.get("Edits")) {
         (Some(of), Some(edits)) => split(edits).iter().map(|e| format!("{of}/{e}")).collect(),
         _ => Vec::new(),
     };
     (listed, row.cells.get("Must-fail edits").map(split).unwrap_or_default())
+}
+
+/// The table of the edits by crate.
+pub fn table() -> String {
+    let mut by: BTreeMap<String, Vec<String>> = BTreeMap::new();
+    for name in there() {
+        let (of, edit) = name.split_once('/').unwrap_or((&name, ""));
+        by.entry(of.to_string()).or_default().push(edit.to_string());
+    }
+    let rows: Vec<String> = by.iter().map(|(of, edits)| format!("| {of} | {} |\n", edits.join(", "))).collect();
+    format!("| Crate | Edits |\n|---|---|\n{}", rows.concat())
 }
 
 pub fn compare(rows: &[Row], found: &mut Found) {

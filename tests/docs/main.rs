@@ -1,12 +1,13 @@
-//! What the pages name is there: in every table of docs/PROOF.md and docs/PROTOCOL.md with a column "Theorem" and a column
-//! "File" each name of the one is defined in a file of the other; the table of must-fail edits by crate has the edits of
-//! the tree, no more and no fewer, and the tables with a column "Must-fail edits" name some of them. And docs/TRUST.md is
-//! the page that the tree gives; `docs trust` prints that page.
+//! What the pages name is there. docs/PROOF.md: each definition, theorem, function and test of a row; the table of must-fail edits by crate
+//! has the edits of the tree, no more and no fewer, and the tables with a column "Must-fail edits" name some of them. docs/PROTOCOL.md and
+//! docs/TOUR.md: in every table with a column "Theorem" and a column "File" each name of the one is defined in a file of the other. README.md: the map is the
+//! groups of crates.txt. docs/TRUST.md is the page that the tree gives. `docs trust`, `docs edits` and `docs map` print what is compared.
 use scan::Tree;
 use std::fs;
 use std::path::Path;
 
 mod edits;
+mod map;
 mod tables;
 #[cfg(test)]
 mod tests;
@@ -25,14 +26,23 @@ fn difference(page: &str, made: &str) -> Option<String> {
         })
 }
 
+fn listing() -> String {
+    fs::read_to_string("crates.txt").unwrap_or_default()
+}
+
 fn check(tree: &Tree, made: &str) -> bool {
     let mut found = tables::Found::default();
     let by = tables::defined(tree);
     let proof = tables::page_rows("docs/PROOF.md");
-    for row in proof.iter().chain(&tables::page_rows("docs/PROTOCOL.md")) {
-        tables::theorems(row, &by, &mut found);
+    for row in &proof {
+        tables::claims(row, &by, &mut found);
+        tables::functions(row, tree, &mut found);
+    }
+    for row in ["docs/PROTOCOL.md", "docs/TOUR.md"].into_iter().flat_map(tables::page_rows) {
+        tables::theorems(&row, &by, &mut found);
     }
     edits::compare(&proof, &mut found);
+    map::compare(&tables::page_rows("README.md"), &listing(), &mut found);
     found.faults.extend(difference(&fs::read_to_string("docs/TRUST.md").unwrap_or_default(), made));
     found.faults.iter().for_each(|fault| println!("{fault}"));
     println!("docs: {} names, {} faults", found.names, found.faults.len());
@@ -48,6 +58,10 @@ fn main() {
         }
         (Ok(page), Some("trust")) => {
             print!("{page}");
+            true
+        }
+        (Ok(_), Some(asked @ ("edits" | "map"))) => {
+            print!("{}", if asked == "map" { map::table(&listing()) } else { edits::table() });
             true
         }
         (Ok(page), _) => check(&tree, &page),

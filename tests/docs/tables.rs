@@ -1,7 +1,9 @@
-//! The tables of docs/PROOF.md and docs/PROTOCOL.md: each theorem is in the file that its row gives.
+//! The tables of docs/PROOF.md and docs/PROTOCOL.md: each theorem is in the file that its row gives; on the page of claims each
+//! definition and each function too, and each test.
 use scan::Tree;
 use std::collections::{BTreeMap, BTreeSet};
 use std::fs;
+use std::path::Path;
 
 /// A row of a table: where it stands, the crates that its section's heading has in brackets, and its cells by the titles
 /// of the columns.
@@ -64,8 +66,8 @@ fn files_named(cell: &str) -> Vec<(Option<String>, String)> {
 }
 
 /// The names that each file defines, fields and constructors among them, by crate and by the file's name.
-pub fn defined(tree: &Tree) -> BTreeMap<(String, String), BTreeSet<String>> {
-    let mut by: BTreeMap<(String, String), BTreeSet<String>> = BTreeMap::new();
+pub fn defined(tree: &Tree) -> Names {
+    let mut by = Names::new();
     for (_, _, file, item) in tree.all().filter(|(_, _, file, _)| file.path.ends_with(".antt")) {
         let stem = file.module.last().cloned().unwrap_or_default();
         let names = by.entry((file.of.clone(), stem)).or_default();
@@ -81,9 +83,50 @@ pub struct Found {
     pub faults: Vec<String>,
 }
 
+/// The names that a file defines, by crate and by the file's name.
+pub type Names = BTreeMap<(String, String), BTreeSet<String>>;
+
+/// A row of the page of claims: its cells "Definition" and "Theorem" have names in backquotes and behind them the file that defines them
+/// (`name`, `name` crate/File; `name` crate/File).
+pub fn claims(row: &Row, by: &Names, found: &mut Found) {
+    let cells = ["Definition", "Theorem"].iter().filter_map(|title| row.cells.get(*title));
+    for part in cells.filter(|_| !row.cells.contains_key("File")).flat_map(|cell| cell.split(';')) {
+        let outside: Vec<&str> = part.split('`').step_by(2).collect();
+        let places = files_named(&outside.join(" "));
+        for name in quoted(part) {
+            found.names += 1;
+            let there = |(of, stem): &(Option<String>, String)| {
+                by.get(&(of.clone().unwrap_or_default(), stem.clone())).is_some_and(|names| names.contains(name))
+            };
+            if !places.iter().any(there) {
+                found.faults.push(format!("{}: {name} is not where \"{}\" says", row.at, part.trim()));
+            }
+        }
+    }
+}
+
+/// Each function of a row, `crate::name`, is in the sources of that crate; each test is a folder of tests/ with a script to run.
+pub fn functions(row: &Row, tree: &Tree, found: &mut Found) {
+    let cell = |title: &str| row.cells.get(title).cloned().unwrap_or_default();
+    for path in cell("Function").split('`').skip(1).step_by(2) {
+        found.names += 1;
+        let (of, name) = (path.split("::").next(), path.rsplit("::").next());
+        let here = tree.files.iter().filter(|file| Some(file.of.as_str()) == of);
+        if !here.flat_map(|file| &file.functions).any(|f| Some(f.name.as_str()) == name) {
+            found.faults.push(format!("{}: there is no function {path}", row.at));
+        }
+    }
+    for test in cell("Tests").split(", ").filter(|t| !t.is_empty() && *t != "-") {
+        found.names += 1;
+        if !Path::new("tests").join(test).join("run").exists() {
+            found.faults.push(format!("{}: there is no tests/{test}/run", row.at));
+        }
+    }
+}
+
 /// Each name of a row's theorems is defined in one of the row's files: of the crate that the row gives, or else of one that
 /// the heading gives.
-pub fn theorems(row: &Row, by: &BTreeMap<(String, String), BTreeSet<String>>, found: &mut Found) {
+pub fn theorems(row: &Row, by: &Names, found: &mut Found) {
     let (Some(theorem), Some(file)) = (row.cells.get("Theorem"), row.cells.get("File")) else {
         return;
     };

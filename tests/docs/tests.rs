@@ -1,5 +1,6 @@
 use crate::difference;
-use crate::tables::{defined, rows, theorems, Found};
+use crate::map;
+use crate::tables::{claims, defined, functions, rows, theorems, Found};
 use crate::trust::closure;
 use scan::Tree;
 
@@ -40,6 +41,38 @@ fn the_heading_names_the_crates() {
     assert!(faults("Part (b, a)", "`n-law`", "F").is_empty());
     assert_eq!(faults("Part (b)", "`n-law`", "specs/F").len(), 1);
     assert_eq!(faults("Part", "`n-law`", "F").len(), 1);
+}
+
+#[test]
+fn a_claim_names_its_files() {
+    let (_made, tree) = tree();
+    let faults = |definition: &str, function: &str| {
+        let page = format!("| Definition | Function | Theorem |\n|---|---|---|\n| {definition} | {function} | `n-law` a/F |\n");
+        let mut found = Found::default();
+        for row in rows("PAGE", &page) {
+            claims(&row, &defined(&tree), &mut found);
+            functions(&row, &tree, &mut found);
+        }
+        found.faults.len()
+    };
+    assert_eq!(faults("`R`, `same` a/F; `other` b/F", "-"), 0);
+    assert_eq!(faults("`R` a/F; `other` a/F", "-"), 1);
+    assert_eq!(faults("`R` a/F", "`a::gone`"), 1);
+}
+
+#[test]
+fn the_map_is_compared() {
+    let listing = "# Of all.\n# Ground.\na:\nb: a\n# Above.\nc: a b\n";
+    let faults = |page: &str| {
+        let mut found = Found::default();
+        map::compare(&rows("README", page), listing, &mut found);
+        found.faults.len()
+    };
+    let page = map::table(listing);
+    assert_eq!(page, "| Crates | What they hold |\n|---|---|\n| a, b | Ground. |\n| c | Above. |\n");
+    assert_eq!(faults(&page), 0);
+    assert_eq!(faults(&page.replace("a, b", "a")), 1);
+    assert_eq!(faults(&format!("{page}| a | Ground. |\n")), 1);
 }
 
 #[test]

@@ -11,7 +11,7 @@ const CLAIM: (&str, &str) = ("crates/field_calls/specs/Demand.antt", "Demand3");
 /// The functions that a host calls, by crate; no names: all public ones of the crate.
 const CALLED: [(&str, &[&str]); 11] = [
     ("plan_file", &["check", "read", "write"]),
-    ("plan", &["check"]),
+    ("plan_check", &["check"]),
     ("plan_tree", &["build"]),
     ("format_frame", &["check", "read", "write"]),
     ("host_setup", &["setup"]),

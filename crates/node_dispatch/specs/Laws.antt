@@ -1,4 +1,4 @@
--- What a listed message carries, by its kind.
+-- What a listed message carries, by its kind, and which rule answers it: a sleeper that refuses (`as-deaf`), else `as-connect` to `as-change`.
 use Prim.Native.Nat.{ℕ, _<_}
 use mathlib.Core.Path.{_≡_, refl, sym, ap, _∙_}
 use mathlib.Core.Logic.{_≢_, _⊎_, inl, inr}

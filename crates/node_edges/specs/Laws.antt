@@ -1,4 +1,4 @@
--- One law for each outcome of each definition of `Own`, as the code's tests meet them.
+-- One law for each outcome of the definitions of `Own`, and for a turn of the search (`earliest-turn`) and of the count (`number-turn`), as the code's tests meet them.
 use Prim.Native.Nat.{ℕ, _+_}
 use native.Mathlib.Numerals.{add-one}
 use mathlib.Core.Path.{_≡_, refl, ap, _∙_}

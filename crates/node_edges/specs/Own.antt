@@ -1,4 +1,4 @@
--- The edges that a search or a count of one node's own edges looks at.
+-- Marks with one changed (`marked`); the edges that a search (`looked`) or a count (`counted`) of one node's own edges looks at.
 use Prim.Native.Nat.{ℕ}
 use mathlib.Core.Bool.{Bool, not, cond, _&&_, _||_}
 use lib.Dec.{eqb}

@@ -1,4 +1,4 @@
--- Laws of the labels of parts, as the code keeps them.
+-- The labels of parts that the code has at the end say whether the plan is connected (`one-part-is`).
 use Prim.Native.Nat.{ℕ, _≤_, _<_}
 use native.Mathlib.Omega.{arith}
 use mathlib.Core.Path.{_≡_, ap₂}

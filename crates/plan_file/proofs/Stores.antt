@@ -1,4 +1,4 @@
--- What the stores of the writer leave.
+-- What the stores of the writer leave, and its outcomes: a plan refused (`w-refused`), 22 (`w-short`), written (`w-written`).
 use Prim.Native.Nat.{ℕ, zero, suc, _+_, _*_, _≤_, _<_}
 use native.Mathlib.Omega.{arith}
 use native.Mathlib.Numerals.{add-one}

@@ -1,4 +1,4 @@
--- The bytes of a plan: a version byte, then integers.
+-- The bytes of a plan, a version byte and then integers: of a plan value (`encode`), and back (`decode`, with zeros past the links).
 use Prim.Native.Nat.{ℕ, suc, _+_, _*_, _-_}
 use mathlib.Core.List.{List, [], _∷_, _++_}
 use lib.ListN.{getD, replicate}
