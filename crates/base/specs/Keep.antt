@@ -83,14 +83,6 @@ module _ {A : Type 0} where
       (λ e. rw e (first e))
       (λ e. rw e (later e (place-first p l z (le-of-suc-le-suc (rw e at h)))))
 
-  -- nobody passes
-  pub place-none : (p : A → Bool) (l : List A) → length l ≤ place p l → keep p l ≡ []
-  unfolding place
-  place-none p [] h = keep-nil p
-  place-none p (x ∷ l) h = bool-cases (p x)
-      (λ e. absurd (not-suc-le-zero (rw e at h)))
-      (λ e. keep-no p x l e ∙ place-none p l (le-of-suc-le-suc (rw e at h)))
-
   pub place-some : (p : A → Bool) (l : List A) → 1 ≤ length (keep p l) → place p l < length l
   unfolding place keep
   place-some p [] h = absurd (not-suc-le-zero h)

@@ -1,5 +1,5 @@
 -- The channel of a directed link: its handed-over words in store order, then its others. Four laws connect it with the store.
-use Prim.Native.Nat.{ℕ, _+_, _/_, _^_}
+use Prim.Native.Nat.{ℕ, _/_, _^_}
 use mathlib.Core.Path.{_≡_, refl, sym, ap, ap₂, subst, _∙_}
 use mathlib.Core.Logic.{_≢_}
 use mathlib.Core.Bool.{Bool, true, false, not, _&&_, and-eq-true-iff, true≢false}

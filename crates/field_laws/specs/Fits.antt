@@ -22,7 +22,7 @@ use Rattle.format_word.specs.Laws.{over, over-laid-out, packs-laid-out}
 use Rattle.node.specs.declared.Node.{Node}
 use Rattle.node.specs.Work.{Own, Send, FOUND, REJECTED}
 use Rattle.field.specs.Edges as O
-use Rattle.field.specs.Edges.{isOwn, ownOf, limitOf, ceilingOf, endOf}
+use Rattle.field.specs.Edges.{isOwn, ownOf, limitOf, ceilingOf}
 use Rattle.field.specs.State.{State, nodeAt, msgIn, wordOf, posted}
 use Rattle.field.specs.Valid.{allOf, linkOrNone, ownOrNone, carriedFits, linkFits, levelFits, wordFits, valuesListed, levelWithin, countWithin, identityFits, nodeFits, markFits, fits}
 use Rattle.plan.specs.Accepted.{Accepted}

@@ -1,6 +1,6 @@
 -- The lent words and the field: waiting words are laid out and read back, a call on what the host holds is the call on its state, and a field
 -- that passes 31 passes it ever after.
-use Prim.Native.Nat.{ℕ, zero, suc, _+_, _-_, _≤_}
+use Prim.Native.Nat.{ℕ, zero, suc, _-_, _≤_}
 use native.Mathlib.Omega.{arith}
 use mathlib.Core.Path.{_≡_, refl, sym, ap, ap₂, _∙_}
 use mathlib.Core.Logic.{_≢_}

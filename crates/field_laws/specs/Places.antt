@@ -120,11 +120,6 @@ module _ (p : Plan) (a : Accepted p) (d : ℕ) (l : d < 2 * linksOf p) where
       (λ e. a .each (linkOf d) link-below .inside)
       (λ n. omega (arith, a .each (linkOf d) link-below .ordered, a .each (linkOf d) link-below .inside))
 
-  pub from-below : from p d < modulesOf p
-  from-below = eqb-cases (d % 2) 0 (λ b. cond b (lowerOf p (linkOf d)) (higherOf p (linkOf d)) < modulesOf p)
-      (λ e. omega (arith, a .each (linkOf d) link-below .ordered, a .each (linkOf d) link-below .inside))
-      (λ n. a .each (linkOf d) link-below .inside)
-
   -- its two ends differ, so nothing that a module sends comes back to it
   pub ends-apart : from p d ≢ dest p d
   ends-apart = eqb-cases (d % 2) 0 (λ b. cond b (lowerOf p (linkOf d)) (higherOf p (linkOf d)) ≢ cond b (higherOf p (linkOf d)) (lowerOf p (linkOf d)))

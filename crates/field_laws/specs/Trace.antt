@@ -1,5 +1,5 @@
 -- From steps to calls: what holds of each step, taken or refused, holds of each turn, round, run and call.
-use Prim.Native.Nat.{ℕ, _+_, _*_}
+use Prim.Native.Nat.{ℕ, _*_}
 use mathlib.Core.Bool.{cond}
 use mathlib.Core.List.{List, [], _++_}
 use lib.Dec.{eqb}

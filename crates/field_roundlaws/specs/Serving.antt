@@ -19,7 +19,6 @@ use Rattle.node.specs.Work.{Work, Send}
 use Rattle.field.specs.Edges.{dest}
 use Rattle.field.specs.State.{State, wordOf, posted}
 use Rattle.field.specs.Step.{inQueue, serveWork, backOf, serve, step}
-use Rattle.base.specs.Keep.{many}
 use Rattle.field_calls.specs.Rounds.{serveTurn, servePhase}
 use Rattle.field_laws.specs.Cases.{Served, serves, took-it, serve-fine}
 use Rattle.field_laws.specs.Chan.{queue-parts, not-left, not-right}

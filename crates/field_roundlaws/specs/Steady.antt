@@ -11,7 +11,7 @@ use Rattle.format_message.specs.Msg.{Msg, none, connect, initiate, test, accept
 use Rattle.format_message.specs.Header.{msgOf}
 use Rattle.node.specs.declared.Node.{Node}
 use Rattle.node.specs.Work.{Own, Work, ASLEEP, FIND, FOUND, BASIC, BRANCH, BACK, REFUSED, before, putBack, refused, send, withNode, setTest, setCount, number, earliest, anyEdge, branches, degree}
-use Rattle.node.specs.Rules.{wakeOn, wakeup, awake, doReport, testOn, doTest, changeRoot, countUp, absorb, coreEnd, onConnect, told, seek, onInitiate, strike, onTest, childReport, coreReport, onReport, unlessAsleep, respondTo}
+use Rattle.node.specs.Rules.{wakeOn, wakeup, doReport, testOn, doTest, changeRoot, countUp, absorb, coreEnd, onConnect, told, seek, onInitiate, strike, onTest, childReport, coreReport, onReport, unlessAsleep, respondTo}
 use Rattle.node.specs.Laws.{awake-wakes, awake-is, asleep-refused, asleep-not}
 
 -- not put back, and awake

@@ -88,10 +88,6 @@ module _ {p : Network} {s : State} (i : Inv p s) where
   pub joined-level : (k v u : ℕ) → Ends p k v u → Jn s k v u → 1 ≤ GL s v
   joined-level k v u e j = by-eq (GL s v) 0 (λ z. absurd (ends-irr p e (sym (i.G4.g4s v u z (sym (i.M1.m3 k v u e j)))))) (λ n. omega arith)
 
-  -- an edge that leaves the fragment is not joined
-  pub out-joined : (k v u : ℕ) → Ends p k v u → s.fr v ≢ s.fr u → ¬ Jn s k v u
-  out-joined k v u e n j = n (i.M1.m3 k v u e j)
-
   -- ---- the decision, with its ends
 
   pub half-of : (v : ℕ) → DK s v ≡ 3 → (z : ℕ) × (k : ℕ) × (y : ℕ) × Ends p k z y × Half s z k × (s.fr z ≡ s.fr v)

@@ -210,9 +210,6 @@ some-answer c h = some isA c h (λ l i. no) (λ l f x i. no) (λ l f i. no) (λ 
 pub some-call : (c : List Msg) → 1 ≤ sumL isCI c → ((l : ℕ) × In (connect l) c) ⊎ ((l : ℕ) × (f : ℕ) × (x : ℕ) × In (initiate l f x) c)
 some-call c h = some isCI c h (λ l i o. inl (l, i)) (λ l f x i o. inr (l, f, x, i)) (λ l f i. no) (λ i. no) (λ i. no) (λ w i. no) (λ i. no)
 
-pub no-connects : (c : List Msg) → ((l : ℕ) → ¬ In (connect l) c) → sumL isC c ≡ 0
-no-connects c h = by-eq (sumL isC c) 0 (λ e. e) (λ n. let t = some-connect c (omega arith) in absurd (h (t .0) (t .1)))
-
 pub no-tests : (c : List Msg) → ((l f : ℕ) → ¬ In (test l f) c) → sumL isT c ≡ 0
 no-tests c h = by-eq (sumL isT c) 0 (λ e. e) (λ n. let t = some-test c (omega arith) in absurd (h (t .0) (t .1) (t .2)))
 

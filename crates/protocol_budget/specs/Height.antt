@@ -58,9 +58,6 @@ module _ {p : Network} {s : State} (i : Inv p s) {tb : ℕ → ℕ} (h : Heights
   pub tb-le : (v : ℕ) → tb v ≤ GL s v
   tb-le v = bounds v .1
 
-  pub tb-lev : (v : ℕ) → s.lev v ≤ tb v
-  tb-lev v = bounds v .0
-
   -- an Initiate on its way
   pub tb-init : (k u v l f x : ℕ) → Ends p k u v → In (initiate l f x) (s.ch u k) → l ≤ tb v
   tb-init k u v l f x e n =

@@ -2,7 +2,7 @@
 use Rattle.protocol.specs.Prelude.{ℕ, suc, _-_, _≤_, arith, _≡_, refl, sym, ap, subst, _∙_, _≢_, _⊎_, inl, inr, ⊎-elim, by-eq}
 use Rattle.protocol.specs.Prelude.{List, _∷_, upd, upd-elim, upd-other, upd2, upd2-elim, sumL, sum, sum-row, row-else}
 use Rattle.protocol.specs.Prelude.{Msg, none, report}
-use Rattle.protocol.specs.Prelude.{Network, Ends, key, rank, joins-lt, flip, ends-two, other-end}
+use Rattle.protocol.specs.Prelude.{Network, Ends, key, rank, joins-lt, flip, other-end}
 use Rattle.protocol.specs.Prelude.{State, Idle, Better, pop, bested, set-ch, set-fc, set-owe, set-op}
 use Rattle.protocol.specs.Prelude.{isR, kinds, In, else-same, pop-in, in-pop, pop-le, pop-all}
 use Rattle.protocol.specs.Prelude.{GL, GC, Inf, Jn, Outst, Live, Covered, Child, Inv, no-root, reports-same, reports-best, take-alike, outst-ch, live-ch, last}
@@ -40,9 +40,6 @@ module _ {p : Network} {s : State} (i : Inv p s) {u v k w b e : ℕ} {r : List M
   pub best-u : s.bw u ≡ w
   best-u = child .4
 
-  pub inf-v : Inf s v
-  inf-v = child .5
-
   pub find : s.st v ≡ 1
   find = child .6
 
@@ -65,13 +62,6 @@ module _ {p : Network} {s : State} (i : Inv p s) {u v k w b e : ℕ} {r : List M
         t .6,
         t .7 ∙ i.T1.t1p k u v ends inf-u (child .1) (child .2) .2,
       )
-
-  -- so it is not k, which is joined
-  k-inner : w ≢ none → k ≢ w
-  k-inner n z =
-      let t = leaves n in
-      let f = C.inside i ends q in
-      ⊎-elim (λ o. t .4 (ap s.fr (sym (o .1)))) (λ o. t .4 (ap s.fr (sym (o .0)) ∙ f)) (ends-two ends (subst (λ j. Ends p j (t .0) (t .1)) (sym z) (t .2)))
 
   F2′ : Pending s.st s.te S′.fc s.ot (suc v)
   F2′ = record {

@@ -42,9 +42,6 @@ module _ {p : Network} {s : State} (i : Inv p s) {u v k l f x a b d e : ℕ} {r 
   pub fc-none : s.fc v ≡ 0
   fc-none = i.F2.f3c v not-find
 
-  pub inside : s.fr u ≡ s.fr v
-  inside = i.M1.m3 k u v act.ends (ok.i1j)
-
   pub u≢v : u ≢ v
   u≢v = ends-irr p act.ends
 

@@ -1,8 +1,8 @@
 -- The Connect at the head of the channel from u over k is taken, and v answers it by Initiate (a, f, x) over k: the channels.
 use Rattle.protocol.specs.Prelude.{ℕ, _≤_, arith, _≡_, refl, sym, ap, subst, _∙_, _≢_, _⊎_, inl, inr, ⊎-elim}
 use Rattle.protocol.specs.Prelude.{List, [], _∷_, upd2, by-eq, All, sumL}
-use Rattle.protocol.specs.Prelude.{Msg, none, connect, initiate}
-use Rattle.protocol.specs.Prelude.{Network, Ends, flip, other-end, ends-irr, State, set-ch}
+use Rattle.protocol.specs.Prelude.{Msg, connect, initiate}
+use Rattle.protocol.specs.Prelude.{Network, Ends, flip, other-end, State, set-ch}
 use Rattle.protocol.specs.Prelude.{isC, Fits, top, top-app, pop-top}
 use Rattle.protocol.specs.Prelude.{In, Bef, in-nil, at2, else-same, here-new, pop-head, pop-in, in-pop, pop-bef, pop-sum, pop-all}
 use Rattle.protocol.specs.Prelude.{snoc, snoc-elim, snoc-in, in-snoc2, in-new, snoc-bef, snoc-sum, snoc-else, snoc-all}
@@ -18,9 +18,6 @@ module _ {p : Network} {s : State} (i : Inv p s) {u v k l : ℕ} {r : List Msg} 
 
   abbrev pub answered : ℕ → ℕ → List Msg
   answered = snoc c₁ v k reply
-
-  pub u≢v : u ≢ v
-  u≢v = ends-irr p ends
 
   pub calling : In (connect l) (s.ch u k)
   calling = pop-head s.ch u k q

@@ -2,7 +2,7 @@
 use Rattle.protocol.specs.Prelude.{ℕ, _≤_, _<_, arith, _≡_, refl, sym, ap, subst, _∙_, _≢_, _⊎_, inl, inr, ⊎-elim}
 use Rattle.protocol.specs.Prelude.{List, _∷_, upd2-elim, by-eq}
 use Rattle.protocol.specs.Prelude.{Msg, connect, initiate}
-use Rattle.protocol.specs.Prelude.{Network, Ends, flip, same-edge, ends-irr, State, Idle, Flag, absorbed, pop}
+use Rattle.protocol.specs.Prelude.{Network, Ends, flip, same-edge, State, Idle, Flag, absorbed, pop}
 use Rattle.protocol.specs.Prelude.{bulk-elim, bulk-in, bulk-out, relabel-keep, relabel-cases}
 use Rattle.protocol.specs.Prelude.{In, at2, here-new, else-same, all-in, pop-head}
 use Rattle.protocol.specs.Prelude.{Bounding, Decision, GL, GC, DK, Inf, Jn, Half, Changing, Inv}
@@ -50,9 +50,6 @@ module _ {p : Network} {s : State} (i : Inv p s) {u v k l x : ℕ} {r : List Msg
 
   pub apart : s.fr v ≢ s.fr u
   apart = ok.d1o
-
-  pub u≢v : u ≢ v
-  u≢v = ends-irr p act.ends
 
   -- ---- labels: D, the fragment of u, gets v's
 
