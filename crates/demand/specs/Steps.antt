@@ -9,9 +9,9 @@ use lib.ListN.{length}
 use lib.Dec.{leb}
 use borrow.Author.Tests.{leb-false, eq-eqb, ne-eqb, le-ltb}
 use Rattle.base.specs.Cond.{bool-cases, eqb-cases, by-eq, eqb-diff}
-use Rattle.base.specs.Loop.{After, taken, refused}
+use Rattle.base.specs.Loop.{After, takenTo, refusedBy}
 use Rattle.base.specs.Pool.{All-here}
-use Rattle.base.specs.Keep.{First, first-out, first-passes, place, place-first}
+use Rattle.base.specs.Keep.{FirstThat, first-out, first-passes, place, place-first}
 use Rattle.format_message.specs.Msg.{Msg}
 use Rattle.format_word.specs.Word.{linkIn, handOver}
 use Rattle.plan.specs.Accepted.{Accepted}
@@ -47,10 +47,10 @@ pub record Fine (p : Plan) (a : Accepted p) (r : After State) : Type 0 where
 
 module _ (p : Plan) (a : Accepted p) (s : State) (i : Sound p s) (g : Good p a s) where
   -- refused by another number
-  other : (r : ℕ) → 41 ≤ r → Fine p a (refused r s)
+  other : (r : ℕ) → 41 ≤ r → Fine p a (refusedBy r s)
   other r l = record { good = g; no32 = λ e. omega arith; no33 = λ e. omega arith }
 
-  done : (s′ : State) → Good p a s′ → Fine p a (taken s′)
+  done : (s′ : State) → Good p a s′ → Fine p a (takenTo s′)
   done s′ h = record { good = h; no32 = λ e. omega arith; no33 = λ e. omega arith }
 
   -- a response that is not refused, for whose messages there is room
@@ -75,7 +75,7 @@ module _ (p : Plan) (a : Accepted p) (s : State) (i : Sound p s) (g : Good p a s
   unfolding wake
   wake-fine v = bool-cases (leb (modulesOf p) v)
       (λ b. rw b (other 41 (omega arith)))
-      (λ b. rw b (eqb-cases (nodeAt s v .status) ASLEEP (λ t. Fine p a (cond (not t) (refused 43 s) (carryOut p v (wakeWork p v s) s (s .words) [])))
+      (λ b. rw b (eqb-cases (nodeAt s v .status) ASLEEP (λ t. Fine p a (cond (not t) (refusedBy 43 s) (carryOut p v (wakeWork p v s) s (s .words) [])))
       (λ e. woken v (leb-false _ _ b) e)
       (λ n. other 43 (omega arith))))
 
@@ -100,7 +100,7 @@ module _ (p : Plan) (a : Accepted p) (s : State) (i : Sound p s) (g : Good p a s
   -- ---- serve
 
   -- x, the first word of v's queue, is served; r are the other words
-  module _ (v : ℕ) (l : v < modulesOf p) (x : ℕ) (r : List ℕ) (o : First (inQueue p v) (s .words) x r) where
+  module _ (v : ℕ) (l : v < modulesOf p) (x : ℕ) (r : List ℕ) (o : FirstThat (inQueue p v) (s .words) x r) where
     abbrev u : ℕ
     u = from p (linkIn x)
 

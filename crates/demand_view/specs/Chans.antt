@@ -6,7 +6,7 @@ use mathlib.Core.Bool.{true, false, cond, true≢false}
 use mathlib.Core.List.{List, [], _∷_, _++_, append-assoc, append-nil}
 use Rattle.base.specs.Cond.{bool-cases, upd2, upd2-elim}
 use Rattle.base.specs.Pool.{All, nil, con}
-use Rattle.base.specs.Keep.{First, first-passes}
+use Rattle.base.specs.Keep.{FirstThat, first-passes}
 use Rattle.format_message.specs.Msg.{Msg}
 use Rattle.format_word.specs.Word.{linkIn, shaped, handOver}
 use Rattle.plan.specs.Accepted.{Accepted}
@@ -75,7 +75,7 @@ module _ (p : Plan) where
         (λ b. chans-not (words ++ posted p v l) u k b ∙ sym (post-none (chans p words) o u k b ∙ chans-not words u k b))))
 
 -- LAW 2: a hand-over leaves the channels
-pub chans-hand : (p : Plan) (d x : ℕ) (s r : List ℕ) → First (inAir d) s x r → shaped x ≡ true → chans p (r ++ (handOver x ∷ [])) ≡ chans p s
+pub chans-hand : (p : Plan) (d x : ℕ) (s r : List ℕ) → FirstThat (inAir d) s x r → shaped x ≡ true → chans p (r ++ (handOver x ∷ [])) ≡ chans p s
 chans-hand p d x s r o h = chans-same p (r ++ (handOver x ∷ [])) s (hand-chan d x s r o h)
 
 -- ---- a service
@@ -93,7 +93,7 @@ ahead p v x r sends = ups (linkIn x) (r ++ posted p v sends)
 abbrev pub behind : Plan → ℕ → ℕ → List ℕ → List Send → List Msg
 behind p v x r sends = downs (linkIn x) (r ++ posted p v sends)
 
-module _ (p : Plan) (a : Accepted p) (v x : ℕ) (s r : List ℕ) (o : First (inQueue p v) s x r) (l : linkIn x < 2 * linksOf p) where
+module _ (p : Plan) (a : Accepted p) (v x : ℕ) (s r : List ℕ) (o : FirstThat (inQueue p v) s x r) (l : linkIn x < 2 * linksOf p) where
   abbrev d : ℕ
   d = linkIn x
 

@@ -5,7 +5,7 @@ use mathlib.Core.Bool.{true, false}
 use mathlib.Core.List.{List, [], _∷_, _++_, append-nil}
 use Rattle.base.specs.Cond.{upd}
 use Rattle.base.specs.Pool.{All, All-map}
-use Rattle.base.specs.Keep.{First}
+use Rattle.base.specs.Keep.{FirstThat}
 use Rattle.format_message.specs.Msg.{Msg}
 use Rattle.format_word.specs.Word.{linkIn}
 use Rattle.plan.specs.Accepted.{Accepted}
@@ -31,7 +31,7 @@ module _ (p : Plan) (a : Accepted p) (v : ℕ) (w : Work) (ok : WorkOk (ownOf p 
   owns = All-map (λ x h. h .own) (ok .sends)
 
   -- x was served, r are the other words: the rest of its channel, cut where it goes when it is put back
-  pub rest-cut : (x : ℕ) (s r : List ℕ) → First (inQueue p v) s x r → linkIn x < 2 * linksOf p
+  pub rest-cut : (x : ℕ) (s r : List ℕ) → FirstThat (inQueue p v) s x r → linkIn x < 2 * linksOf p
       → chans p r (from p (linkIn x)) (linkOf (linkIn x)) ≡ ahead p v x r (w .sends) ++ behind p v x r (w .sends)
   rest-cut x s r o f = split p a v x s r o f (w .sends) packs owns
 
@@ -48,7 +48,7 @@ module _ (p : Plan) (a : Accepted p) (v : ℕ) (w : Work) (ok : WorkOk (ownOf p 
     pub view-woken : view p (placed p v w s (s .words) []) ≡ place (view p s) v w
     view-woken = view-put (s .words) [] (chans p (s .words)) (ap (chans p) (append-nil (s .words ++ posted p v (w .sends))) ∙ chans-post p v (s .words) packs owns)
 
-    module _ (x : ℕ) (r : List ℕ) (o : First (inQueue p v) (s .words) x r) (f : linkIn x < 2 * linksOf p) where
+    module _ (x : ℕ) (r : List ℕ) (o : FirstThat (inQueue p v) (s .words) x r) (f : linkIn x < 2 * linksOf p) where
       pub view-taken : view p (placed p v w s r [])
           ≡ place (toPop (from p (linkIn x)) (linkOf (linkIn x)) (chans p r (from p (linkIn x)) (linkOf (linkIn x))) (view p s)) v w
       view-taken = view-put r [] _ (ap (chans p) (append-nil (r ++ posted p v (w .sends))) ∙ chans-taken p a v x (s .words) r o f (w .sends) packs owns)

@@ -6,7 +6,7 @@ use mathlib.Core.Bool.{Bool, cond, not, _&&_}
 use mathlib.Core.List.{List, [], _++_}
 use lib.ListN.{length, replicate}
 use lib.Dec.{eqb, ltb}
-use Rattle.base.specs.Loop.{After, taken, refused}
+use Rattle.base.specs.Loop.{After, takenTo, refusedBy}
 use Rattle.plan.specs.Refusal.{planRefusal}
 use Rattle.plan.specs.Links.{Plan}
 use Rattle.node.specs.Work.{setup}
@@ -57,12 +57,12 @@ fresh p = record { plan = p; cells = freshCells 192; marks = replicate 1200 0; s
 -- "Setup needs M words or more and zeroes all of them. The sent count starts at 0". "21 fewer words than M .. (.. after the plan's checks)"
 unfoldable pub setUp : Plan → List ℕ → After Held
 setUp p lent =
-    cond (not (eqb (planRefusal p) 0)) (refused (planRefusal p) (record { field = fresh p; words = lent }))
-    (cond (ltb (length lent) (ceilingOf p)) (refused 21 (record { field = fresh p; words = lent }))
-    (taken (record { field = fresh p; words = replicate (length lent) 0 })))
+    cond (not (eqb (planRefusal p) 0)) (refusedBy (planRefusal p) (record { field = fresh p; words = lent }))
+    (cond (ltb (length lent) (ceilingOf p)) (refusedBy 21 (record { field = fresh p; words = lent }))
+    (takenTo (record { field = fresh p; words = replicate (length lent) 0 })))
 
 -- A step given alone: 31 "before all else", then 54, 41 to 45, 32, 33.
 unfoldable pub stepAlone : ℕ → ℕ → Held → After Held
 stepAlone kind number h =
-    cond (not (valid h)) (refused 31 h)
+    cond (not (valid h)) (refusedBy 31 h)
     (let a = step (h .field .plan) kind number (stateOf h) in record { answer = a .answer; state = heldOf h (a .state) })

@@ -10,7 +10,7 @@ use lib.Seq.{getD-append-add}
 use lib.Dec.{ltb}
 use borrow.Author.Tests.{le-leb, eq-eqb}
 use Rattle.base.specs.Cond.{eqb-cases, ltb-cases}
-use Rattle.base.specs.Loop.{After, taken, refused}
+use Rattle.base.specs.Loop.{After, takenTo, refusedBy}
 use Rattle.base.specs.Pool.{nil}
 use Rattle.plan.specs.Refusal.{planRefusal}
 use Rattle.plan.specs.Accepted.{Accepted, accepted}
@@ -54,15 +54,15 @@ pub record Started (p : Plan) (lent : List ℕ) (h : Held) : Type 0 where
 pub started : (p : Plan) (lent : List ℕ) → setUp p lent .answer ≡ 0 → Started p lent (setUp p lent .state)
 unfolding setUp
 started p lent = eqb-cases (planRefusal p) 0
-    (λ b. (cond (not b) (refused (planRefusal p) (record { field = fresh p; words = lent })) rest) .answer ≡ 0
-    → Started p lent ((cond (not b) (refused (planRefusal p) (record { field = fresh p; words = lent })) rest) .state))
+    (λ b. (cond (not b) (refusedBy (planRefusal p) (record { field = fresh p; words = lent })) rest) .answer ≡ 0
+    → Started p lent ((cond (not b) (refusedBy (planRefusal p) (record { field = fresh p; words = lent })) rest) .state))
     (λ e. ltb-cases (length lent) (ceilingOf p) (λ b. (enoughOr b) .answer ≡ 0 → Started p lent ((enoughOr b) .state))
     (λ l z. absurd (omega arith))
     (λ l z. record { plan = e; room = l; is = refl }))
     (λ n z. absurd (n z))
   where
     enoughOr : Bool → After Held
-    enoughOr b = cond b (refused 21 (record { field = fresh p; words = lent })) (taken (record { field = fresh p; words = replicate (length lent) 0 }))
+    enoughOr b = cond b (refusedBy 21 (record { field = fresh p; words = lent })) (takenTo (record { field = fresh p; words = replicate (length lent) 0 }))
 
     rest : After Held
     rest = enoughOr (ltb (length lent) (ceilingOf p))

@@ -9,8 +9,8 @@ use lib.ListN.{length, getD}
 use lib.Dec.{eqb, ltb, leb}
 use borrow.Author.Tests.{leb-false, lt-leb}
 use Rattle.base.specs.Cond.{bool-cases, eqb-cases, ltb-cases, eqb-diff, by-eq}
-use Rattle.base.specs.Loop.{After, taken, refused}
-use Rattle.base.specs.Keep.{keep, First, place, place-first, place-some}
+use Rattle.base.specs.Loop.{After, takenTo, refusedBy}
+use Rattle.base.specs.Keep.{keep, FirstThat, place, place-first, place-some}
 use Rattle.format_word.specs.Word.{handOver}
 use Rattle.plan.specs.Links.{Plan, modulesOf, linksOf}
 use Rattle.node.specs.Work.{Work, ASLEEP, REFUSED}
@@ -33,14 +33,14 @@ pub record Handed (p : Plan) (d : ℕ) (s s′ : State) : Type 0 where
   pub within : d < 2 * linksOf p
   pub word : ℕ
   pub rest : List ℕ
-  pub first : First (inAir d) (s .words) word rest
+  pub first : FirstThat (inAir d) (s .words) word rest
   pub is : s′ ≡ record { cells = s .cells; marks = s .marks; words = rest ++ (handOver word ∷ []); sent = s .sent }
 
 pub record Served (p : Plan) (v : ℕ) (s s′ : State) : Type 0 where
   pub within : v < modulesOf p
   pub word : ℕ
   pub rest : List ℕ
-  pub first : First (inQueue p v) (s .words) word rest
+  pub first : FirstThat (inQueue p v) (s .words) word rest
   pub at : word ≡ getD (s .words) (place (inQueue p v) (s .words)) 0
   pub responds : Placed p v (serveWork p v word s) s rest (backOf (serveWork p v word s) word) s′
 
@@ -58,15 +58,15 @@ usual : (r : ℕ) → 41 ≤ r → r ≤ 45 → Refusal r
 usual r l h = inr (inr (inl (l, h)))
 
 pub data Outcome (s : State) (Took : State → Type 0) : After State → Type 0 where
-  took : {s′ : State} → Took s′ → Outcome s Took (taken s′)
-  kept : (r : ℕ) → Refusal r → Outcome s Took (refused r s)
+  took : {s′ : State} → Took s′ → Outcome s Took (takenTo s′)
+  kept : (r : ℕ) → Refusal r → Outcome s Took (refusedBy r s)
 
 module _ (p : Plan) (v : ℕ) (w : Work) (s : State) (words back : List ℕ) where
   pub carried-out : Outcome s (Placed p v w s words back) (carryOut p v w s words back)
   unfolding carryOut
-  carried-out = eqb-cases (w .answer) REFUSED (λ b. Outcome s (Placed p v w s words back) (cond b (refused 32 s) (cond (ltb (ceilingOf p) (s .sent + length (w .sends))) (refused 33 s) (taken (placed p v w s words back)))))
+  carried-out = eqb-cases (w .answer) REFUSED (λ b. Outcome s (Placed p v w s words back) (cond b (refusedBy 32 s) (cond (ltb (ceilingOf p) (s .sent + length (w .sends))) (refusedBy 33 s) (takenTo (placed p v w s words back)))))
       (λ e. kept 32 (inl refl))
-      (λ n. ltb-cases (ceilingOf p) (s .sent + length (w .sends)) (λ b. Outcome s (Placed p v w s words back) (cond b (refused 33 s) (taken (placed p v w s words back))))
+      (λ n. ltb-cases (ceilingOf p) (s .sent + length (w .sends)) (λ b. Outcome s (Placed p v w s words back) (cond b (refusedBy 33 s) (takenTo (placed p v w s words back))))
       (λ l. kept 33 (inr (inl refl)))
       (λ l. took (record { fine = n; room = l; is = refl })))
 
@@ -85,7 +85,7 @@ module _ (p : Plan) (s : State) where
   unfolding wake
   wakes v = bool-cases (leb (modulesOf p) v)
       (λ b. rw b (kept 41 (usual 41 (omega arith) (omega arith))))
-      (λ b. rw b (eqb-cases (nodeAt s v .status) ASLEEP (λ t. Outcome s (Woke p v s) (cond (not t) (refused 43 s) (carryOut p v (wakeWork p v s) s (s .words) [])))
+      (λ b. rw b (eqb-cases (nodeAt s v .status) ASLEEP (λ t. Outcome s (Woke p v s) (cond (not t) (refusedBy 43 s) (carryOut p v (wakeWork p v s) s (s .words) [])))
       (λ e. outcome-map (λ s′ h. record { within = leb-false _ _ b; asleep = e; responds = h }) (carried-out p v (wakeWork p v s) s (s .words) []))
       (λ n. kept 43 (usual 43 (omega arith) (omega arith)))))
 

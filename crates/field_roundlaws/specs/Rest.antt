@@ -9,7 +9,7 @@ use lib.ListN.{length}
 use lib.Dec.{eqb}
 use borrow.Author.Tests.{eqb-true, eq-eqb}
 use Rattle.base.specs.Cond.{bool-cases, eqb-cases}
-use Rattle.base.specs.Loop.{Ran, runs, counted}
+use Rattle.base.specs.Loop.{Ran, runs, countedTurn}
 use Rattle.base.specs.LoopLaws.{Ok, then-on}
 use Rattle.base.specs.Pool.{All, nil, con, All-map}
 use Rattle.base.specs.Keep.{keep, keep-yes, keep-no}
@@ -110,9 +110,9 @@ module _ (p : Plan) (a : Accepted p) (Good : State → Type 0) (calm : Calm p Go
   no-words (x ∷ l) e = absurd (omega arith)
 
   going-on : (f : State) (n : ℕ) (r : Ran State) → Going f n r
-      → Going f (suc n) (cond (eqb (r .answer) 0 && not (atRest (r .state))) (counted (r .done) (round p (r .state))) r)
+      → Going f (suc n) (cond (eqb (r .answer) 0 && not (atRest (r .state))) (countedTurn (r .done) (round p (r .state))) r)
   going-on f n r k = rw (eq-eqb (r .answer) 0 (k .answer)) (eqb-cases (length (r .state .words)) 0
-      (λ b. Going f (suc n) (cond (not b) (counted (r .done) (round p (r .state))) r))
+      (λ b. Going f (suc n) (cond (not b) (countedTurn (r .done) (round p (r .state))) r))
       (λ e. record { answer = k .answer; sound = k .sound; good = k .good; risen = k .risen; ended = inr (no-words _ e) })
       (λ z. let o = rounded (r .state) (k .sound) (k .good) in
       rw (o .fine)

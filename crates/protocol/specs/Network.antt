@@ -33,7 +33,7 @@ Tree p k = InTree p.g (p.order.earlier) k
 
 -- place of an edge in the order: smaller is earlier
 abbrev pub rank : Network → ℕ → ℕ
-rank p k = R.rank p.order k
+rank p k = R.rankIn p.order k
 
 -- the same for an edge or none: none is later than all
 unfoldable pub key : Network → ℕ → ℕ
@@ -55,7 +55,7 @@ module _ (p : Network) where
   rank-lt k l = R.rank-bound p.order k l
 
   pub rank-inj : (e f : ℕ) → e < p.g.L → f < p.g.L → rank p e ≡ rank p f → e ≡ f
-  rank-inj e f a b q = R.rank-inj p.order e f a b q
+  rank-inj e f a b q = R.rankIn-inj p.order e f a b q
 
   -- an edge of the graph is not none, and its ends differ
   pub edge-some : {k u v : ℕ} → Ends p k u v → k ≢ none

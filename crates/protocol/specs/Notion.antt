@@ -3,7 +3,7 @@ use Prim.Native.Nat.{ℕ, suc, _≤_, _<_}
 use mathlib.Core.Path.{_≡_}
 use mathlib.Core.Logic.{_≢_, _⊎_}
 use Rattle.base.specs.Pool.{sumL}
-use Rattle.graph.specs.Size.{size}
+use Rattle.graph.specs.Size.{partSize}
 use Rattle.format_message.specs.Msg.{Msg, none, initiate, report}
 use Rattle.protocol.specs.Network.{Network, Ends, key, rank}
 use Rattle.protocol.specs.State.{State}
@@ -40,7 +40,7 @@ Awaits te ot u k = (te u ≡ k) × (ot ≢ suc u)
 
 -- the number of nodes of label a
 abbrev pub members : Network → (ℕ → ℕ) → ℕ → ℕ
-members p fr a = size p.N fr a
+members p fr a = partSize p.N fr a
 
 -- ---- over the state
 

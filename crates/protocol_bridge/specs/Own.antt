@@ -59,7 +59,7 @@ module _ (p : Network) (v : ℕ) where
         ends = t .1;
         holds = e .holds;
         least = λ j u h q. by-eq j k (λ z. omega (arith, ap (rank p) z))
-            (λ d. omega (arith, R.rank-lt p.order k j (e .below) (e .least j (joins-lt h) (ends-own h) q d)));
+            (λ d. omega (arith, R.rankIn-lt p.order k j (e .below) (e .least j (joins-lt h) (ends-own h) q d)));
       }))
       (first (ownP p v) f p.order.trans p.order.total p.small p.g.L (omega arith))
     where
@@ -74,7 +74,7 @@ module _ (p : Network) (v : ℕ) where
         (λ e. absurd (true≢false (sym h ∙ (rw e (none-before (ownP p v) b)))))
         (λ n. by-eq b none
         (λ e. omega (arith, key-edge p a (la n), rank-lt p a (la n), ap (key p) e, key-none p))
-        (λ m. omega (arith, key-edge p a (la n), key-edge p b (lb m), R.rank-lt p.order a b (la n) (sym (before-edges (ownP p v) a b n m) ∙ h))))
+        (λ m. omega (arith, key-edge p a (la n), key-edge p b (lb m), R.rankIn-lt p.order a b (la n) (sym (before-edges (ownP p v) a b n m) ∙ h))))
 
     pub before-ge : before (ownP p v) a b ≡ false → key p b ≤ key p a
     before-ge h = by-eq a none

@@ -3,7 +3,7 @@ use Rattle.protocol.specs.Prelude.{ℕ, suc, _^_, _≤_, arith, _≡_, sym, ap,
 use Rattle.protocol.specs.Prelude.{upd, upd-elim, upd2-elim, at2, relabel-cases}
 use Rattle.protocol.specs.Prelude.{Network, Ends, Tree, key, rank, Way, go, join, both-joined, joins-lt, flip, same-edge, other-end, end-lt, State}
 use Rattle.protocol.specs.Prelude.{Both, Decision, GL, GC, DK, Half, waits-find}
-use Rattle.graph.specs.Size.{size, size-mono, level-merge}
+use Rattle.graph.specs.Size.{partSize, size-mono, level-merge}
 use Rattle.protocol.specs.Fragments.{Ranges, Levels, Sizes, Cores, Sleepers, Marks, Inbounds}
 use Rattle.protocol.specs.Decisions.{Halves, ChangeRoots, Rootings, Finishes}
 use Rattle.protocol.specs.Search.{Parents, LowOk, Kids, Finds, Tests, Weights}
@@ -63,15 +63,15 @@ module _ {p : Network} {s : State} {v k y l : ℕ} (r : Ready p s v k y l) where
   pub G4′ : Sizes p S′.fr S′.gl
   G4′ = record {
     g4 = λ w n. U.sort r w
-        (λ e. subst (λ a. 2 ^ GL S′ w ≤ size p.N S′.fr a) (sym (U.fr-in r w e)) (subst (λ a. 2 ^ a ≤ size p.N S′.fr (s.fr v)) (sym (U.gl-in r w e)) whole))
+        (λ e. subst (λ a. 2 ^ GL S′ w ≤ partSize p.N S′.fr a) (sym (U.fr-in r w e)) (subst (λ a. 2 ^ a ≤ partSize p.N S′.fr (s.fr v)) (sym (U.gl-in r w e)) whole))
         (λ o. omega (arith, ap (λ a. 2 ^ a) (U.gl-out r w o), r.inv.G4.g4 w n, size-mono p.N s.fr S′.fr (s.fr w) (S′.fr w) (λ x b q. U.keep r x w q)));
     g4s = λ w u g q. let o = zero-out w g in r.inv.G4.g4s w u (o .1) (U.apart r w u (o .0) q);
   }
     where
-      whole : 2 ^ suc (GL s v) ≤ size p.N S′.fr (s.fr v)
+      whole : 2 ^ suc (GL s v) ≤ partSize p.N S′.fr (s.fr v)
       whole = level-merge p.N s.fr S′.fr (s.fr v) (s.fr y) (s.fr v) (GL s v) (λ q. r.leave.out (sym q)) (λ x b q. U.fr-in r x (inl q)) (λ x b q. U.fr-in r x (inr q))
           (r.inv.G4.g4 v (end-lt p (r.leave.ends)))
-          (subst (λ n. 2 ^ n ≤ size p.N s.fr (s.fr y)) (U.even-y r) (r.inv.G4.g4 y (end-lt p (flip (r.leave.ends)))))
+          (subst (λ n. 2 ^ n ≤ partSize p.N s.fr (s.fr y)) (U.even-y r) (r.inv.G4.g4 y (end-lt p (flip (r.leave.ends)))))
 
   pub G5′ : Cores p S′.fr S′.gl S′.gc S′.mark
   G5′ = record {
