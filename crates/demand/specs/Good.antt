@@ -23,7 +23,7 @@ use Rattle.demand_view.specs.Start.{view-start}
 
 pub record Good (p : Plan) (a : Accepted p) (s : State) : Type 0 where
   -- a state of the protocol, between two responses, whose tables are the field's
-  pub at : protocol.State
+  pub at : protocol.ProtocolState
   pub is : real at ≡ view p s
   pub idle : Idle at
   -- it has the invariant, and the messages sent are paid for
@@ -31,7 +31,7 @@ pub record Good (p : Plan) (a : Accepted p) (s : State) : Type 0 where
 
 module _ (p : Plan) (a : Accepted p) where
   pub good-start : (lent : List ℕ) → Good p a (stateOf (record { field = fresh p; words = replicate (length lent) 0 }))
-  good-start lent = record { at = protocol.setup; is = sym (view-start p a lent); idle = (refl, refl, refl); reach = reach-setup (net p a) }
+  good-start lent = record { at = protocol.setupState; is = sym (view-start p a lent); idle = (refl, refl, refl); reach = reach-setup (net p a) }
 
   module _ (s : State) (g : Good p a s) where
     -- the values of a module, the marks and the channels, read from the protocol's state

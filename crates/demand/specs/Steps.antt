@@ -26,7 +26,7 @@ use Rattle.field_laws.specs.Lists.{WorkOk}
 use Rattle.field_laws.specs.Fits.{word-link, word-shaped}
 use Rattle.field_laws.specs.Cases.{Handed}
 use Rattle.field_laws.specs.Keeps.{Sound, wake-ok, serve-ok}
-use Rattle.protocol.specs.Network.{Ends}
+use Rattle.protocol.specs.Network.{Edge}
 use Rattle.protocol_bridge.specs.Real.{Real, real}
 use Rattle.protocol_bridge.specs.Place.{toPop}
 use Rattle.protocol_bridge.specs.Fin.{st-is}
@@ -113,8 +113,8 @@ module _ (p : Plan) (a : Accepted p) (s : State) (i : Sound p s) (g : Good p a s
     fits : linkIn x < 2 * linksOf p
     fits = word-link p x (All-here (first-out o) (i .fits .words))
 
-    ends : Ends (net p a) k u v
-    ends = subst (λ y. Ends (net p a) k u y) (queue-parts p v x (first-passes o) .1) (ends-of p a (linkIn x) fits)
+    ends : Edge (net p a) k u v
+    ends = subst (λ y. Edge (net p a) k u y) (queue-parts p v x (first-passes o) .1) (ends-of p a (linkIn x) fits)
 
     head : g.at.ch u k ≡ msgIn x ∷ chans p r u k
     head = ap (λ (t : Real). t.ch u k) (g.is) ∙ chans-head p a v x (s .words) r o fits

@@ -4,12 +4,12 @@ use Prim.Native.Nat.{ℕ}
 use mathlib.Core.List.{List}
 use Rattle.format_message.specs.Msg.{Msg}
 use Rattle.protocol.specs.Network.{Network}
-use Rattle.protocol.specs.State.{State, set-te, set-ch, set-ot, set-op}
+use Rattle.protocol.specs.State.{ProtocolState, set-te, set-ch, set-ot, set-op}
 use Rattle.protocol.specs.Search.{Pending, Tests}
 use Rattle.protocol.specs.Traffic.{Hush, Tokens, Connects, Initiates, Telling, Testing, Answers, Reports, Owing, Bests, Ordered}
 use Rattle.protocol.specs.Inv.{Inv}
 
-pub record Flow (p : Network) (s : State) : Type 0 where
+pub record Flow (p : Network) (s : ProtocolState) : Type 0 where
   pub G6c : Hush p s
   pub Dc : Tokens p s
   pub C1 : Connects p s
@@ -19,13 +19,13 @@ pub record Flow (p : Network) (s : State) : Type 0 where
   pub F4c : Owing p s
   pub Q1 : Ordered p s
 
-module _ {p : Network} {s : State} (i : Inv p s) where
+module _ {p : Network} {s : ProtocolState} (i : Inv p s) where
   pub flow : Flow p s
   flow = record { G6c = i.G6c; Dc = i.Dc; C1 = i.C1; I1 = i.I1; T4 = i.T4; R1 = i.R1; F4c = i.F4c; Q1 = i.Q1 }
 
   -- test edges, open procedures and channels change, and no other table
   module _ (te : ℕ → ℕ) (ot op : ℕ) (c : ℕ → ℕ → List Msg) where
-    abbrev asking : State
+    abbrev asking : ProtocolState
     asking = set-op (set-ot (set-te (set-ch s c) te) ot) op
 
     pub inv-asking : Pending s.st te s.fc ot op → Tests p te s.ib s.mark ot → Flow p asking → Testing p asking → Answers p asking → Bests p asking → Inv p asking

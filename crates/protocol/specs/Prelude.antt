@@ -16,13 +16,13 @@ pub use Rattle.graph.specs.Ways.{joins-lt, flip, ends-two, ends-same, join, hop
 pub use Rattle.graph.specs.Cut.{cut-rank}
 pub use Rattle.graph.specs.Size.{size-mono}
 pub use Rattle.format_message.specs.Msg.{Msg, none, connect, initiate, test, accept, reject, report, change}
-pub use Rattle.protocol.specs.Network.{Network, Ends, Tree, rank, key-none, key-edge, rank-lt, rank-inj, edge-some, ends-irr, ends-key, ends-rank, end-lt}
+pub use Rattle.protocol.specs.Network.{Network, Edge, Tree, rank, key-none, key-edge, rank-lt, rank-inj, edge-some, ends-irr, ends-key, ends-rank, end-lt}
 unfoldable pub use Rattle.protocol.specs.Network.{key}
-pub use Rattle.protocol.specs.State.{State, setup, set-st, set-bw, set-be, set-te, set-fc, set-halt, set-mark, set-ch}
+pub use Rattle.protocol.specs.State.{ProtocolState, setupState, set-st, set-bw, set-be, set-te, set-fc, set-halt, set-mark, set-ch}
 pub use Rattle.protocol.specs.State.{set-dk, set-dn, set-ub, set-owe, set-ot, set-op, set-oo}
-pub use Rattle.protocol.specs.Step.{Step, Idle, Blocked, First, FirstBasic, Flag, Better, Strike, Mode, Place}
-pub use Rattle.protocol.specs.Step.{send, pop, marked, woken, decided, halved, merged, absorbed, informed, bested, rooted, reported}
-unfoldable pub use Rattle.protocol.specs.Step.{bulk, copy, fan, fill}
+pub use Rattle.protocol.specs.Step.{Step, Idle, Blocked, FirstOwn, FirstBasic, Flag, Better, Strike, Mode, Place}
+pub use Rattle.protocol.specs.Step.{sendOver, pop, remarked, wokenUp, decided, halved, merged, absorbed, initiated, bested, rooted, reportSent}
+unfoldable pub use Rattle.protocol.specs.Step.{bulk, copy, fan, fillEdges}
 pub use Rattle.protocol.specs.Kind.{isC, isI, isCI, isT, isA, isY, isR, isK, arg1, arg2, arg3, Only, Rouse, Fits, top, kinds}
 pub use Rattle.protocol.specs.Kind.{fits-connect, fits-test, fits-accept, fits-reject, fits-report, fits-change, fits-initiate}
 pub use Rattle.protocol.specs.Chan.{In, first, next, Bef, heads, tails, in-nil, in-cons, bef-before, bef-behind}
@@ -35,19 +35,19 @@ pub use Rattle.protocol.specs.Lemmas.{fan-elim, fan-in, in-fan, fan-new,
 pub use Rattle.protocol.specs.Lemmas.{top-app, pop-top, snoc-top, rot-top, top-none, top-in, top-max, other-end, same-edge, joined-both, both-joined}
 pub use Rattle.protocol.specs.Lemmas.{some-connect, some-test, some-report, some-change}
 pub use Rattle.protocol.specs.Lemmas.{no-tests, no-reports, no-answers, no-calls, none-in}
-pub use Rattle.protocol.specs.Notion.{Both, Joined, Bounding, Decision, Rooting, Awaits, members, GL, GC, DK, Inf, Jn, Bounds}
-pub use Rattle.protocol.specs.Notion.{Half, Changing, Root, Waits, Outst, Live, Covered, Child, CoreEnds, Spent}
+pub use Rattle.protocol.specs.Notion.{Both, JoinedEdge, Bounding, Decision, Rooting, Awaits, members, GL, GC, DK, Inf, Jn, Bounds}
+pub use Rattle.protocol.specs.Notion.{Half, Changing, Root, Waits, Outst, Counting, Covered, Child, CoreEnds, Spent}
 pub use Rattle.protocol.specs.Inv.{Inv}
 pub use Rattle.protocol.specs.Facts.{sleep-lev, sleep-id, sleep-te, sleep-fc, sleep-halt, sleep-ib, sleep-ub, mark-awake}
 pub use Rattle.protocol.specs.Facts.{inf-cases, inf-awake, inf-found, te-find, fc-find, waits-find, low-find, decided-find, no-waits, no-answer}
 pub use Rattle.protocol.specs.Facts.{joined-level, half-of, changing-of, root-of, no-root, half-at, up-other, down-core, core-informed}
 pub use Rattle.protocol.specs.Facts.{no-initiate, no-connect, no-connect-decided, decided-initiate, decided-report, decided-test, rest-none}
-pub use Rattle.protocol.specs.Same.{outst-ch, live-ch, last, live-to, covered-to, owing-same, bests-same, connects-same, initiates-same, init-ok, answers-same, testing-same}
+pub use Rattle.protocol.specs.Same.{outst-ch, counting-ch, last-case, counting-to, covered-to, owing-same, bests-same, connects-same, initiates-same, init-ok, answers-same, testing-same}
 pub use Rattle.protocol.specs.Same.{around-same, Alike, core-same, reports-same}
 pub use Rattle.protocol.specs.Flow.{Flow, flow, inv-asking, inv-passing}
 pub use Rattle.protocol.specs.Reopen.{flow-open}
 pub use Rattle.protocol.specs.Take.{take-alike, take-hush, take-connects, take-initiates, take-telling, take-ordered, Plain, plain-test, plain-accept, plain-reject, flow-take}
-pub use Rattle.protocol.specs.Post.{before, post-telling, flow-post}
+pub use Rattle.protocol.specs.Post.{post-before, post-telling, flow-post}
 pub use Rattle.protocol.specs.Quiet.{parent-find, no-find, no-due}
 pub use Rattle.protocol.specs.Wake.{upd-id, woken-same}
 pub use Rattle.protocol.specs.Best.{rated, reports-best, flow-best}

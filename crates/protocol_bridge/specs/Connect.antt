@@ -14,7 +14,7 @@ use Rattle.node.specs.Work as W
 use Rattle.node.specs.Rules.{joinOver, countUp, onConnect}
 use Rattle.node.specs.Rules as N
 use Rattle.node.specs.Laws.{count-rises, absorb-find, absorb-found, core-answers, connect-absorbed, connect-waits, connect-core}
-use Rattle.protocol.specs.Prelude.{Network, State, Step, Blocked, pop-head, pop, absorbed}
+use Rattle.protocol.specs.Prelude.{Network, ProtocolState, Step, Blocked, pop-head, pop, absorbed}
 use Rattle.protocol.specs.Step.{absorb, core-reply}
 use Rattle.protocol_invariant.specs.Safe.{reply-le}
 use Rattle.protocol_bridge.specs.Real.{Real, real, ownP}
@@ -22,7 +22,7 @@ use Rattle.protocol_bridge.specs.Place.{toCount, toMark, toSend}
 use Rattle.protocol_bridge.specs.Own.{count-le}
 use Rattle.protocol_bridge.specs.Fin.{At, Fin, Keeps, Serving, last, same, one-more, st-is, lev-is, id-is, fc-is, mark-at, at-count, at-mark, at-send}
 
-module _ {p : Network} (keeps : Keeps p) {s : State} {r : Real} {u v k l : ℕ} {rest : List Msg} {w : Work} (sv : Serving p s r u v k (connect l) rest w) where
+module _ {p : Network} (keeps : Keeps p) {s : ProtocolState} {r : Real} {u v k l : ℕ} {rest : List Msg} {w : Work} (sv : Serving p s r u v k (connect l) rest w) where
   abbrev o : W.Own
   o = ownP p v
 

@@ -12,8 +12,8 @@ use Rattle.node.specs.Work.{Work, FOUND, BRANCH, basic, withNode, setMark, setS
 use Rattle.node.specs.Work as W
 use Rattle.node.specs.Rules.{doReport, doTest, changeRoot}
 use Rattle.node.specs.Laws.{report-counts, report-tests, report-sends, test-over, test-sends, root-told, root-connects}
-use Rattle.protocol.specs.Network.{Network, Ends, edge-some}
-use Rattle.protocol.specs.State.{State, set-te, set-ot, set-op}
+use Rattle.protocol.specs.Network.{Network, Edge, edge-some}
+use Rattle.protocol.specs.State.{ProtocolState, set-te, set-ot, set-op}
 use Rattle.protocol.specs.Step.{test-next, test-none, report-now, report-later, root-branch, root-half, root-merge}
 use Rattle.protocol.specs.Inv.{Inv}
 use Rattle.protocol_invariant.specs.Safe.{test-level, report-branch, root-edge}
@@ -21,10 +21,10 @@ use Rattle.protocol_bridge.specs.Real.{Real, real, ownP}
 use Rattle.protocol_bridge.specs.Own.{Lacks, Finds, searched}
 use Rattle.protocol_bridge.specs.Fin.{At, Fin, Keeps, after, last, same, one-more, lev-is, id-is, bw-is, be-is, te-is, ib-is, fc-is, mark-at, at-status, at-test, at-mark, at-send}
 
-module _ {p : Network} {s : State} (i : Inv p s) {r : Real} {v : ℕ} {w : Work} (a : At r v w (real s)) (z : w .answer ≡ 0) where
+module _ {p : Network} {s : ProtocolState} (i : Inv p s) {r : Real} {v : ℕ} {w : Work} (a : At r v w (real s)) (z : w .answer ≡ 0) where
   -- (9) procedure report
   module _ (t : s.ot ≡ 0) (o : s.op ≡ suc v) (c : s.oo ≡ 0) where
-    branch : (u : ℕ) × Ends p (s.ib v) v u
+    branch : (u : ℕ) × Edge p (s.ib v) v u
     branch = report-branch i v o
 
     later : (s.fc v ≢ 0) ⊎ (s.te v ≢ none) → doReport w ≡ w → Fin p r v 0 (length (w .sends)) (doReport w) s
@@ -45,7 +45,7 @@ module _ {p : Network} {s : State} (i : Inv p s) {r : Real} {v : ℕ} {w : Work}
     abbrev k : ℕ
     k = s.be v
 
-    ends : (u : ℕ) × Ends p k v u
+    ends : (u : ℕ) × Edge p k v u
     ends = root-edge i v c
 
     is-k : w .node .best ≡ k
@@ -75,7 +75,7 @@ module _ {p : Network} {s : State} (i : Inv p s) {r : Real} {v : ℕ} {w : Work}
     root-fin = by-eq (s.mark v k) 1 told connects
 
 -- (5) procedure test
-module _ {p : Network} (keeps : Keeps p) {s : State} (i : Inv p s) {r : Real} {v : ℕ} {w : Work} (a : At r v w (real s)) (z : w .answer ≡ 0)
+module _ {p : Network} (keeps : Keeps p) {s : ProtocolState} (i : Inv p s) {r : Real} {v : ℕ} {w : Work} (a : At r v w (real s)) (z : w .answer ≡ 0)
     (t : s.ot ≡ suc v) (o : s.op ≡ 0) (c : s.oo ≡ 0) where
   abbrev edge : ℕ
   edge = earliest (ownP p v) (basic w) p.g.L

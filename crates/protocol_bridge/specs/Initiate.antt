@@ -15,7 +15,7 @@ use Rattle.node.specs.Work as W
 use Rattle.node.specs.Rules.{told, copies, onInitiate}
 use Rattle.node.specs.Rules as N
 use Rattle.node.specs.Laws.{seek-tests, initiate-find, initiate-found}
-use Rattle.protocol.specs.Prelude.{Network, State, Step, Mode, Place, GC, pop-head, pop, copy, fan, informed, copy-yes}
+use Rattle.protocol.specs.Prelude.{Network, ProtocolState, Step, Mode, Place, GC, pop-head, pop, copy, fan, initiated, copy-yes}
 use Rattle.protocol.specs.Step.{tell}
 use Rattle.protocol_invariant.specs.Safe.{initiate-ok}
 use Rattle.protocol_bridge.specs.Real.{Real, real, ownP, post}
@@ -25,11 +25,11 @@ use Rattle.protocol_bridge.specs.Copies.{copies-fan, copies-number, copi
 use Rattle.protocol_bridge.specs.Fin.{At, Fin, Keeps, Serving, after, last, same, fc-is, mark-is, at-count, at-told, at-copied}
 use Rattle.protocol_bridge.specs.Finish.{test-fin}
 
-module _ {p : Network} (keeps : Keeps p) {s : State} {r : Real} {u v k l f x : ℕ} {rest : List Msg} {w : Work} (sv : Serving p s r u v k (initiate l f x) rest w) where
+module _ {p : Network} (keeps : Keeps p) {s : ProtocolState} {r : Real} {u v k l f x : ℕ} {rest : List Msg} {w : Work} (sv : Serving p s r u v k (initiate l f x) rest w) where
   abbrev o : W.Own
   o = ownP p v
 
-  abbrev s₀ : State
+  abbrev s₀ : ProtocolState
   s₀ = pop s u k rest
 
   -- the edges that get a copy, as the small step and as the rules have them
@@ -66,8 +66,8 @@ module _ {p : Network} (keeps : Keeps p) {s : State} {r : Real} {u v k l f x : �
   chans = copies-fan p v (copy s₀ v k) mine m (s₀.ch) ∙ ap (λ g. post (s₀.ch) v (onEach o g m p.g.L)) same-copy
 
   -- the state after the step; d, e are the ghosts depth and side, b the open test
-  abbrev next : ℕ → ℕ → ℕ → State
-  next d e b = informed p s₀ v k l f x (cond (eqb x 1) FIND FOUND) d e b
+  abbrev next : ℕ → ℕ → ℕ → ProtocolState
+  next d e b = initiated p s₀ v k l f x (cond (eqb x 1) FIND FOUND) d e b
 
   told-at : (c d e b : ℕ) → s.fc v + x * many ≡ c → At r v (withNode (setCount c (told o l f x k w .node)) (told o l f x k w)) (real (next d e b))
   told-at c d e b h =

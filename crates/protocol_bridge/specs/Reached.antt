@@ -11,7 +11,7 @@ use Rattle.format_message.specs.Msg.{Msg}
 use Rattle.node.specs.declared.Node.{Node}
 use Rattle.node.specs.Work.{Work}
 use Rattle.node.specs.Rules.{wakes}
-use Rattle.protocol.specs.Prelude.{Network, Ends, State, Idle, pop}
+use Rattle.protocol.specs.Prelude.{Network, Edge, ProtocolState, Idle, pop}
 use Rattle.protocol_invariant.specs.Step.{inv-step}
 use Rattle.protocol_invariant.specs.Reach.{Reach, reach-steps, reach-ceiling}
 use Rattle.protocol_bridge.specs.Real.{Real, real, ownP, place}
@@ -24,13 +24,13 @@ keeps p s s′ t i = inv-step t i
 
 -- after the response w of v, which answers c: the tables are r with w placed at v
 pub record After (p : Network) (r : Real) (v c n : ℕ) (w : Work) : Type 0 where
-  pub to : State
+  pub to : ProtocolState
   pub reach : Reach p to (n + length (w .sends))
   pub idle : Idle to
   pub answer : w .answer ≡ c
   pub is : real to ≡ place r v w
 
-ends-at : {p : Network} {s : State} {r : Real} {v c n : ℕ} {w : Work} → Reach p s n → Fin p r v c 0 w s → After p r v c n w
+ends-at : {p : Network} {s : ProtocolState} {r : Real} {v c n : ℕ} {w : Work} → Reach p s n → Fin p r v c 0 w s → After p r v c n w
 ends-at {p} {n = n} {w = w} h f =
     let e : f.n ≡ length (w .sends) = omega (arith, f.count) in
     record { to = f.to; reach = subst (λ x. Reach p f.to (n + x)) e (reach-steps f.steps h); idle = f.idle; answer = f.answer; is = f.at.is }
@@ -39,13 +39,13 @@ ends-at {p} {n = n} {w = w} h f =
 pub after-fits : {p : Network} {r : Real} {v c n : ℕ} {w : Work} → After p r v c n w → n + length (w .sends) ≤ ceiling p.N p.g.L
 after-fits a = reach-ceiling a.reach
 
-module _ {p : Network} {s : State} {n : ℕ} (h : Reach p s n) (idle : Idle s) where
+module _ {p : Network} {s : ProtocolState} {n : ℕ} (h : Reach p s n) (idle : Idle s) where
   -- a wake step
   pub wake-after : {x : Node} {v : ℕ} → Shows (real s) v x → v < p.N → s.st v ≡ 0 → After p (real s) v 0 n (wakes (ownP p v) x (s.mark v))
   wake-after {x} {v} shows lt z = ends-at h (wakes-bridge p s x v shows idle lt z)
 
   -- a service of the first message of a channel: it is taken, or put back to any later place
-  pub respond-after : {x : Node} {u v k : ℕ} {m : Msg} {rest : List Msg} → Shows (real s) v x → Ends p k u v → s.ch u k ≡ m ∷ rest
+  pub respond-after : {x : Node} {u v k : ℕ} {m : Msg} {rest : List Msg} → Shows (real s) v x → Edge p k u v → s.ch u k ≡ m ∷ rest
       → After p (real (pop s u k rest)) v 0 n (response p s x v k m)
       ⊎ (Waits p s x u v k m rest × ((a b : List Msg) → rest ≡ a ++ b → After p (real (pop s u k (a ++ (m ∷ b)))) v 1 n (response p s x v k m)))
   respond-after shows ends q =

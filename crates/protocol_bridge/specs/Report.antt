@@ -13,7 +13,7 @@ use Rattle.node.specs.Work.{Work, putBack, before, withNode, setCount}
 use Rattle.node.specs.Work as W
 use Rattle.node.specs.Rules.{onAccept, onReport, onChange, coreReport, better, doReport, changeRoot}
 use Rattle.node.specs.Laws.{child-reports, report-child, report-waits, report-core, core-decides, core-halts, core-edge, core-idle}
-use Rattle.protocol.specs.Prelude.{Network, key, State, Step, Blocked, Better, In, pop-head, pop, rooted, bested, set-te, set-op, set-owe, set-fc}
+use Rattle.protocol.specs.Prelude.{Network, key, ProtocolState, Step, Blocked, Better, In, pop-head, pop, rooted, bested, set-te, set-op, set-owe, set-fc}
 use Rattle.protocol.specs.Step.{accepted, child-report, core-nothing, core-halt, decide, change-root}
 use Rattle.protocol.specs.Run.{sends}
 use Rattle.protocol_invariant.specs.Safe.{child-count}
@@ -23,7 +23,7 @@ use Rattle.protocol_bridge.specs.Fin.{Fin, Keeps, Serving, after, last, 
 use Rattle.protocol_bridge.specs.Finish.{report-fin, root-fin}
 
 -- a weight x that came over k against v's best
-module _ {p : Network} {s : State} {r : Real} {u v k : ℕ} {m : Msg} {rest : List Msg} {w : Work} (sv : Serving p s r u v k m rest w) where
+module _ {p : Network} {s : ProtocolState} {r : Real} {u v k : ℕ} {m : Msg} {rest : List Msg} {w : Work} (sv : Serving p s r u v k m rest w) where
   -- v's best weight is an edge or none (W1)
   weight : w .node .weight ≢ none → w .node .weight < p.g.L
   weight n = omega (arith, bw-is sv.at, sv.inv.W1.w1w v (λ e. n (sym (bw-is sv.at) ∙ e)))
@@ -44,7 +44,7 @@ module _ {p : Network} {s : State} {r : Real} {u v k : ℕ} {m : Msg} {rest : Li
         (λ e. inr (omega (arith, before-ge p v x (w .node .weight) edge weight e, ap (key p) (bw-is sv.at)), rw e (sym (bw-is sv.at)), rw e (sym (be-is sv.at))))
 
 -- (7) Accept
-pub accept-fin : {p : Network} → Keeps p → {s : State} {r : Real} {u v k : ℕ} {rest : List Msg} {w : Work} → Serving p s r u v k accept rest w
+pub accept-fin : {p : Network} → Keeps p → {s : ProtocolState} {r : Real} {u v k : ℕ} {rest : List Msg} {w : Work} → Serving p s r u v k accept rest w
     → Fin p r v 0 (length (w .sends)) (onAccept (ownP p v) k w) s
 accept-fin {p} keeps {s} {r} {u} {v} {k} {rest} {w} sv =
     let b = newWeight sv k in
@@ -53,17 +53,17 @@ accept-fin {p} keeps {s} {r} {u} {v} {k} {rest} {w} sv =
     after t (omega arith) (report-fin (keeps _ _ t sv.inv) (at-best (at-test sv.at none) e b) sv.fresh (sv.idle .0) refl (sv.idle .2))
 
 -- procedure change-root follows
-rooted-fin : {p : Network} → Keeps p → {s : State} {r : Real} {u v k : ℕ} {m : Msg} {rest : List Msg} {w : Work} → Serving p s r u v k m rest w
+rooted-fin : {p : Network} → Keeps p → {s : ProtocolState} {r : Real} {u v k : ℕ} {m : Msg} {rest : List Msg} {w : Work} → Serving p s r u v k m rest w
     → (t : Step p s (rooted (pop s u k rest) v)) → sends t ≡ 0 → Fin p r v 0 (length (w .sends)) (changeRoot w) s
 rooted-fin keeps sv t n = after t (omega arith) (root-fin (keeps _ _ t sv.inv) sv.at sv.fresh (sv.idle .0) (sv.idle .1) refl)
 
 -- (12) Change-root
-pub change-fin : {p : Network} → Keeps p → {s : State} {r : Real} {u v k : ℕ} {rest : List Msg} {w : Work} → Serving p s r u v k change rest w
+pub change-fin : {p : Network} → Keeps p → {s : ProtocolState} {r : Real} {u v k : ℕ} {rest : List Msg} {w : Work} → Serving p s r u v k change rest w
     → Fin p r v 0 (length (w .sends)) (onChange w) s
 change-fin keeps sv = rooted-fin keeps sv (change-root sv.idle sv.ends sv.head) refl
 
 -- (10) Report
-module _ {p : Network} (keeps : Keeps p) {s : State} {r : Real} {u v k x : ℕ} {rest : List Msg} {w : Work} (sv : Serving p s r u v k (report x) rest w) where
+module _ {p : Network} (keeps : Keeps p) {s : ProtocolState} {r : Real} {u v k x : ℕ} {rest : List Msg} {w : Work} (sv : Serving p s r u v k (report x) rest w) where
   abbrev o : W.Own
   o = ownP p v
 

@@ -10,13 +10,13 @@ use Rattle.node.specs.Work.{Work, BRANCH, anyEdge, earliest}
 use Rattle.node.specs.Rules.{wakeup}
 use Rattle.node.specs.Laws.{wake-alone, wake-edge}
 use Rattle.protocol.specs.Network.{Network, edge-some}
-use Rattle.protocol.specs.State.{State}
+use Rattle.protocol.specs.State.{ProtocolState}
 use Rattle.protocol.specs.Step.{Idle, wake-lone, wake-half, wake-merge}
 use Rattle.protocol_bridge.specs.Real.{Real, real, ownP}
 use Rattle.protocol_bridge.specs.Own.{Lacks, Finds, searched}
 use Rattle.protocol_bridge.specs.Fin.{At, Fin, last, same, one-more, at-halted, at-woken, at-mark, at-send}
 
-module _ (p : Network) (s : State) {r : Real} {v : ℕ} {w : Work} (a : At r v w (real s)) (z : w .answer ≡ 0) (idle : Idle s) (lt : v < p.N) (asleep : s.st v ≡ 0) where
+module _ (p : Network) (s : ProtocolState) {r : Real} {v : ℕ} {w : Work} (a : At r v w (real s)) (z : w .answer ≡ 0) (idle : Idle s) (lt : v < p.N) (asleep : s.st v ≡ 0) where
   abbrev edge : ℕ
   edge = earliest (ownP p v) anyEdge p.g.L
 

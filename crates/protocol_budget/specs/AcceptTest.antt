@@ -1,7 +1,7 @@
 -- An accepted Test: its sender pays for Test and Accept.
 use Rattle.protocol.specs.Prelude.{ℕ, _+_, _-_, _≤_, arith, _≡_, refl, sym, ap, _∙_, _≢_, inl, inr, by-eq}
 use Rattle.protocol.specs.Prelude.{List, _∷_, sumL, upd, upd-other, upd2, sum-upd, Msg, test, accept}
-use Rattle.protocol.specs.Prelude.{Network, Ends, end-lt, flip, other-end, State, Idle, send, pop}
+use Rattle.protocol.specs.Prelude.{Network, Edge, end-lt, flip, other-end, ProtocolState, Idle, sendOver, pop}
 use Rattle.protocol.specs.Prelude.{isT, isA, isY, pop-head, pop-sum, pop-le, snoc, snoc-sum, snoc-here, snoc-else, GL, Inf, Waits, Inv}
 use Rattle.base.specs.Log.{log2}
 use Rattle.graph.specs.Size.{level-two}
@@ -10,7 +10,7 @@ use Rattle.protocol_budget.specs.Height.{heights-pop, heights-send}
 use Rattle.protocol_search.specs.AcceptTest as A
 use Rattle.protocol_search.specs.Answer as W
 
-module _ {p : Network} {z n : ℕ} (last : log2 p.N ≤ z) {s : State} (i : Inv p s) (h : Paid p z s n) {u v k l f : ℕ} {r : List Msg} (idle : Idle s) (ends : Ends p k u v)
+module _ {p : Network} {z n : ℕ} (last : log2 p.N ≤ z) {s : ProtocolState} (i : Inv p s) (h : Paid p z s n) {u v k l f : ℕ} {r : List Msg} (idle : Idle s) (ends : Edge p k u v)
     (awake : s.st v ≢ 0) (q : s.ch u k ≡ test l f ∷ r) (low : l ≤ s.lev v) (differ : s.id v ≢ f) where
   abbrev c₁ : ℕ → ℕ → List Msg
   c₁ = upd2 s.ch u k r
@@ -85,7 +85,7 @@ module _ {p : Network} {z n : ℕ} (last : log2 p.N ≤ z) {s : State} (i : Inv 
     lk2 = λ j w x e a b. omega (arith, h.L .lk2 j w x e a (omega (arith, snoc-sum c₁ v k accept isT refl w j, pop-le s.ch u k q isT w j)), lt w j, lt x j);
   }
 
-  pub paid-accept-test : Paid p z (send (pop s u k r) v k accept) (n + 1)
+  pub paid-accept-test : Paid p z (sendOver (pop s u k r) v k accept) (n + 1)
   unfolding ts′
   paid-accept-test = record {
     tb = h.tb;

@@ -1,7 +1,7 @@
 -- A Reject, and a Test that crossed: nothing is sent. Where both ends had sent a Test, the edge pays back both.
 use Rattle.protocol.specs.Prelude.{ℕ, suc, _+_, _≤_, arith, _≡_, refl, sym, ap, subst, _∙_, _≢_, _⊎_, inl, inr, ⊎-elim, by-eq}
 use Rattle.protocol.specs.Prelude.{List, _∷_, sumL, upd, upd-elim, upd-same, upd-other, upd2, upd2-elim, sum-upd, Msg, test, reject}
-use Rattle.protocol.specs.Prelude.{Network, Ends, end-lt, joins-lt, flip, other-end, same-edge, ends-irr, State, Idle, Strike, set-ot, pop, marked}
+use Rattle.protocol.specs.Prelude.{Network, Edge, end-lt, joins-lt, flip, other-end, same-edge, ends-irr, ProtocolState, Idle, Strike, set-ot, pop, remarked}
 use Rattle.protocol.specs.Prelude.{isI, isT, isA, isY, In, pop-head, pop-sum, else-same, here-new, at2, Inf, Waits, Inv, waits-find}
 use Rattle.protocol_budget.specs.Paid.{LT, Paid, lt-else, lt-same, yes-le}
 use Rattle.protocol_budget.specs.Height.{heights-pop, tb-inf}
@@ -10,7 +10,7 @@ use Rattle.protocol_search.specs.Rejected as J
 use Rattle.protocol_search.specs.Own as O
 use Rattle.protocol_search.specs.Strike.{struck, up2, dn0, dn-other}
 
-module _ {p : Network} {z n : ℕ} {s : State} (i : Inv p s) (h : Paid p z s n) {u v k c : ℕ} {m : Msg} {r : List Msg} (idle : Idle s) (ends : Ends p k u v)
+module _ {p : Network} {z n : ℕ} {s : ProtocolState} (i : Inv p s) (h : Paid p z s n) {u v k c : ℕ} {m : Msg} {r : List Msg} (idle : Idle s) (ends : Edge p k u v)
     (q : s.ch u k ≡ m ∷ r) (no-init : isI m ≡ 0) (no-yes : isY m ≡ 0) (wait : Waits s v k) (strike : Strike s v k c) where
   abbrev c′ : ℕ → ℕ → List Msg
   c′ = upd2 s.ch u k r
@@ -18,8 +18,8 @@ module _ {p : Network} {z n : ℕ} {s : State} (i : Inv p s) (h : Paid p z s n) 
   abbrev m′ : ℕ → ℕ → ℕ
   m′ = struck p s v k c strike
 
-  abbrev S′ : State
-  S′ = set-ot (marked (pop s u k r) v k c) (suc v)
+  abbrev S′ : ProtocolState
+  S′ = set-ot (remarked (pop s u k r) v k c) (suc v)
 
   waits : (j w : ℕ) → Waits S′ w j → (v ≢ w) × Waits s w j
   waits j w a = ((λ e. a .1 (ap suc e)), (a .0, λ o. omega (arith, idle .0)))
@@ -34,7 +34,7 @@ module _ {p : Network} {z n : ℕ} {s : State} (i : Inv p s) (h : Paid p z s n) 
   lt w j d = lt-same z s.lev s.ch w j c′ (off w j d)
 
   -- beyond an edge of another than v: not u's channel over k
-  apart : (j w x : ℕ) → Ends p j w x → v ≢ w → (u ≢ x) ⊎ (k ≢ j)
+  apart : (j w x : ℕ) → Edge p j w x → v ≢ w → (u ≢ x) ⊎ (k ≢ j)
   apart j w x e d = by-eq k j
       (λ y. inl (λ o. d (other-end ends (flip e) o y))) (λ y. inr y)
 
@@ -68,7 +68,7 @@ module _ {p : Network} {z n : ℕ} {s : State} (i : Inv p s) (h : Paid p z s n) 
           (λ o. by-eq k j (λ y. ⊎-elim (λ t. at w j o y t) (λ t. absurd (t .0 (ap s.te o ∙ a .0 ∙ sym y))) tests) (λ y. off w j (inr y))) (λ o. off w j (inl o))
 
       -- of an edge that is still Basic at w
-      open-lt : (j w x : ℕ) → Ends p j w x → m′ w j ≡ 0 → (LT z s.lev c′ w j ≡ LT z s.lev s.ch w j) × (LT z s.lev c′ x j ≡ LT z s.lev s.ch x j)
+      open-lt : (j w x : ℕ) → Edge p j w x → m′ w j ≡ 0 → (LT z s.lev c′ w j ≡ LT z s.lev s.ch w j) × (LT z s.lev c′ x j ≡ LT z s.lev s.ch x j)
       open-lt j w x e a = by-eq k j
           (λ y. ⊎-elim
           (λ t. (each w j t, each x j t))
@@ -122,19 +122,19 @@ module _ {p : Network} {z n : ℕ} {s : State} (i : Inv p s) (h : Paid p z s n) 
       struck-to = upd2-elim (λ x. x ≡ 2) s.mark v k c v k (λ a b. ⊎-elim (λ t. t .1) (λ t. absurd (t .0 basic)) strike) (λ d. absurd (⊎-elim (λ f. f refl) (λ f. f refl) d))
 
       -- k is Rejected at v now
-      shut : (j w x : ℕ) → Ends p j w x → m′ w j ≡ 0 → m′ x j ≢ 2 → k ≢ j
+      shut : (j w x : ℕ) → Edge p j w x → m′ w j ≡ 0 → m′ x j ≢ 2 → k ≢ j
       shut j w x e a b y = ⊎-elim
           (λ o. b (ap (λ d. m′ d j) (sym (o .1)) ∙ ap (m′ v) (sym y) ∙ struck-to))
           (λ o. omega (arith, a, struck-to, ap (λ d. m′ d j) (o .1), ap (m′ v) y)) (same-edge ends e y)
 
 -- v, informed and waiting for an answer on k with no Test of its own there, has its 2
-two-of : {p : Network} {z n : ℕ} {s : State} (i : Inv p s) (h : Paid p z s n) {u v k : ℕ} → Ends p k v u → Inf s v → Waits s v k → sumL isT (s.ch v k) ≡ 0 → sumL isY (s.ch u k) ≡ 0 → 2 ≤ h.ts v
+two-of : {p : Network} {z n : ℕ} {s : ProtocolState} (i : Inv p s) (h : Paid p z s n) {u v k : ℕ} → Edge p k v u → Inf s v → Waits s v k → sumL isT (s.ch v k) ≡ 0 → sumL isY (s.ch u k) ≡ 0 → 2 ≤ h.ts v
 two-of {z = z} {s = s} i h {u} {v} {k} e f w t y = by-eq (s.lev v) z
     (λ o. h.T .ts0 v (tb-inf i (h.H) v f) (sym (f .1) ∙ o))
     (λ o. omega (arith, h.L .ts3 k v u e w o))
 
-module _ {p : Network} {z n : ℕ} {s : State} (i : Inv p s) (h : Paid p z s n) {u v k c : ℕ} {r : List Msg} (idle : Idle s) (ends : Ends p k u v) where
-  pub paid-rejected : (q : s.ch u k ≡ reject ∷ r) (strike : Strike s v k c) → Paid p z (set-ot (marked (pop s u k r) v k c) (suc v)) n
+module _ {p : Network} {z n : ℕ} {s : ProtocolState} (i : Inv p s) (h : Paid p z s n) {u v k c : ℕ} {r : List Msg} (idle : Idle s) (ends : Edge p k u v) where
+  pub paid-rejected : (q : s.ch u k ≡ reject ∷ r) (strike : Strike s v k c) → Paid p z (set-ot (remarked (pop s u k r) v k c) (suc v)) n
   paid-rejected q strike =
       let said = J.said i idle ends q strike in
       let a = J.alone i idle ends q strike in
@@ -144,7 +144,7 @@ module _ {p : Network} {z n : ℕ} {s : State} (i : Inv p s) (h : Paid p z s n) 
       (inl (pop-sum s.ch u k q isT refl u k))
 
   pub paid-crossed-test : {l f : ℕ} (awake : s.st v ≢ 0) (q : s.ch u k ≡ test l f ∷ r) (low : l ≤ s.lev v) (same : s.id v ≡ f) (edge : s.te v ≡ k) (strike : Strike s v k c)
-      → Paid p z (set-ot (marked (pop s u k r) v k c) (suc v)) n
+      → Paid p z (set-ot (remarked (pop s u k r) v k c) (suc v)) n
   paid-crossed-test {l} {f} awake q low same edge strike = ⊎-elim
       (λ t.
       let a = i.E1.e2w k u v ends (t .0) wait in

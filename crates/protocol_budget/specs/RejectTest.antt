@@ -1,7 +1,7 @@
 -- A rejected Test: the edge pays for Test and Reject, and the sender may test again.
 use Rattle.protocol.specs.Prelude.{ℕ, _+_, _*_, _≤_, arith, _≡_, refl, sym, ap, _∙_, _≢_, _⊎_, inl, inr, ⊎-elim, by-eq}
 use Rattle.protocol.specs.Prelude.{List, _∷_, sumL, upd, upd-elim, upd-other, upd2, sum-upd, Msg, test, reject}
-use Rattle.protocol.specs.Prelude.{Network, Ends, end-lt, joins-lt, same-edge, State, Idle, Strike, send, pop, marked}
+use Rattle.protocol.specs.Prelude.{Network, Edge, end-lt, joins-lt, same-edge, ProtocolState, Idle, Strike, sendOver, pop, remarked}
 use Rattle.protocol.specs.Prelude.{isT, isA, isY, In, pop-head, pop-sum, here-new, snoc, snoc-sum, Inf, Waits, Inv}
 use Rattle.protocol_budget.specs.Paid.{LT, Links, Paid, lt-last, lt-else, lt-none, lt-same, yes-le}
 use Rattle.protocol_budget.specs.Height.{heights-pop, heights-send, tb-inf}
@@ -10,7 +10,7 @@ use Rattle.protocol_search.specs.Own as O
 use Rattle.protocol_search.specs.Answer as W
 use Rattle.protocol_search.specs.Strike.{struck, up2, dn0, dn-other}
 
-module _ {p : Network} {z n : ℕ} {s : State} (i : Inv p s) (h : Paid p z s n) {u v k l f c : ℕ} {r : List Msg} (idle : Idle s) (ends : Ends p k u v)
+module _ {p : Network} {z n : ℕ} {s : ProtocolState} (i : Inv p s) (h : Paid p z s n) {u v k l f c : ℕ} {r : List Msg} (idle : Idle s) (ends : Edge p k u v)
     (awake : s.st v ≢ 0) (q : s.ch u k ≡ test l f ∷ r) (low : l ≤ s.lev v) (same : s.id v ≡ f) (other : s.te v ≢ k) (strike : Strike s v k c) where
   abbrev c₁ : ℕ → ℕ → List Msg
   c₁ = upd2 s.ch u k r
@@ -57,11 +57,11 @@ module _ {p : Network} {z n : ℕ} {s : State} (i : Inv p s) (h : Paid p z s n) 
   ts-at w a = upd-elim (λ x. 2 ≤ x) (h.ts) u 2 w (λ e. omega arith) (λ d. a)
 
   -- the end beyond k
-  beyond : (j w x : ℕ) → Ends p j w x → k ≡ j → ((u ≡ w) × (v ≡ x)) ⊎ ((v ≡ w) × (u ≡ x))
+  beyond : (j w x : ℕ) → Edge p j w x → k ≡ j → ((u ≡ w) × (v ≡ x)) ⊎ ((v ≡ w) × (u ≡ x))
   beyond j w x e y = ⊎-elim (λ t. inl t) (λ t. inr (t .1, t .0)) (same-edge ends e y)
 
   -- k is no longer open
-  shut : (j w x : ℕ) → Ends p j w x → m′ w j ≡ 0 → m′ x j ≢ 2 → k ≢ j
+  shut : (j w x : ℕ) → Edge p j w x → m′ w j ≡ 0 → m′ x j ≢ 2 → k ≢ j
   shut j w x e a b y = ⊎-elim
       (λ t.
       let o : s.mark u k ≡ 0 = ap (λ d. s.mark d k) (t .0) ∙ ap (s.mark w) y ∙ dn0 p s v k c strike w j a in
@@ -88,13 +88,13 @@ module _ {p : Network} {z n : ℕ} {s : State} (i : Inv p s) (h : Paid p z s n) 
   }
     where
       -- no Test is left on k
-      gone : (j w x : ℕ) → Ends p j w x → Waits s w j → 1 ≤ sumL isT (c′ w j) → k ≡ j → ⊥
+      gone : (j w x : ℕ) → Edge p j w x → Waits s w j → 1 ≤ sumL isT (c′ w j) → k ≡ j → ⊥
       gone j w x e a b y = ⊎-elim
           (λ t. omega (arith, W.tests-here p s ends q reject refl refl, alone, ap (λ d. sumL isT (c′ d j)) (t .0), ap (λ d. sumL isT (c′ u d)) y))
           (λ t. other (ap s.te (t .0) ∙ a .0 ∙ sym y))
           (beyond j w x e y)
 
-  pub paid-reject-test : Paid p z (send (marked (pop s u k r) v k c) v k reject) (n + 1)
+  pub paid-reject-test : Paid p z (sendOver (remarked (pop s u k r) v k c) v k reject) (n + 1)
   unfolding ts′ lk′
   paid-reject-test = record {
     tb = h.tb;

@@ -2,11 +2,11 @@
 -- if v is not Find, the fragment is quiet, and only the best weights of the two ends still count.
 use Rattle.protocol.specs.Prelude.{ℕ, _≤_, _<_, arith, _≡_, refl, sym, ap, subst, _∙_, _≢_, _⊎_, inl, inr, ⊎-elim, by-eq}
 use Rattle.protocol.specs.Prelude.{List, _∷_, sumL, Msg, none, initiate, report}
-use Rattle.protocol.specs.Prelude.{Network, Ends, key, rank, flip, same-edge, State, Idle, key-none, key-edge, rank-lt}
+use Rattle.protocol.specs.Prelude.{Network, Edge, key, rank, flip, same-edge, ProtocolState, Idle, key-none, key-edge, rank-lt}
 use Rattle.protocol.specs.Prelude.{isCI, isR, kinds, In, in-sum, le-sum, joins-lt, Bef, bef-before, in-cons, heads, upd2, at2, here-new, pop-head, pop-in, none-in, no-calls, some-report, set-dk}
-use Rattle.protocol.specs.Prelude.{GL, GC, DK, Inf, Jn, Live, Child, CoreEnds, Spent, Inv, inf-found, te-find, up-other, no-find, no-due, rest-none, no-connect, no-initiate}
+use Rattle.protocol.specs.Prelude.{GL, GC, DK, Inf, Jn, Counting, Child, CoreEnds, Spent, Inv, inf-found, te-find, up-other, no-find, no-due, rest-none, no-connect, no-initiate}
 
-module _ {p : Network} {s : State} (i : Inv p s) {u v k w : ℕ} {r : List Msg} (ends : Ends p k u v) (q : s.ch u k ≡ report w ∷ r) where
+module _ {p : Network} {s : ProtocolState} (i : Inv p s) {u v k w : ℕ} {r : List Msg} (ends : Edge p k u v) (q : s.ch u k ≡ report w ∷ r) where
   pub head : In (report w) (s.ch u k)
   head = pop-head s.ch u k q
 
@@ -98,7 +98,7 @@ module _ {p : Network} {s : State} (i : Inv p s) {u v k w : ℕ} {r : List Msg} 
     none-due x e = let n = no-due i (flip ends) core-v inf-v inf-u found (λ z. omega (arith, found-u)) x e in omega (arith, i.W0.due-le x)
 
     -- a Report within the fragment: between the two ends, or spent
-    pub report-core : (j a b n : ℕ) → Ends p j a b → s.fr a ≡ s.fr v → In (report n) (s.ch a j)
+    pub report-core : (j a b n : ℕ) → Edge p j a b → s.fr a ≡ s.fr v → In (report n) (s.ch a j)
         → ((((a ≡ u) × (b ≡ v)) ⊎ ((a ≡ v) × (b ≡ u))) × (j ≡ k) × (s.bw a ≡ n)) ⊎ Spent p s a b j n
     report-core j a b n e f o = ⊎-elim
         (λ t. absurd (none-find b (sym (i.M1.m3 j a b e (i.R1.r1j j a b n e o)) ∙ f) (t .6)))
@@ -108,7 +108,7 @@ module _ {p : Network} {s : State} (i : Inv p s) {u v k w : ℕ} {r : List Msg} 
         (i.R1.r1 j a b n e o)
 
     -- once this one is taken: v's own, or spent
-    pub report-left : (j a b n : ℕ) → Ends p j a b → s.fr a ≡ s.fr v → In (report n) (upd2 s.ch u k r a j)
+    pub report-left : (j a b n : ℕ) → Edge p j a b → s.fr a ≡ s.fr v → In (report n) (upd2 s.ch u k r a j)
         → ((a ≡ v) × (b ≡ u) × (j ≡ k) × (s.bw v ≡ n)) ⊎ Spent p s a b j n
     report-left j a b n e f o = ⊎-elim
         (λ t. ⊎-elim
@@ -126,11 +126,11 @@ module _ {p : Network} {s : State} (i : Inv p s) {u v k w : ℕ} {r : List Msg} 
         calls = no-calls (s.ch v k) (λ l. no-connect i k v u l (flip ends) (joined .1, joined .0) inf-v) (λ l f x. no-initiate i k v u l f x (flip ends) inf-u)
 
     -- whose best weight counts is a core end
-    live-end : (x : ℕ) → s.fr x ≡ s.fr v → Inf s x → Live s x → (x ≡ u) ⊎ (x ≡ v)
+    live-end : (x : ℕ) → s.fr x ≡ s.fr v → Inf s x → Counting s x → (x ≡ u) ⊎ (x ≡ v)
     live-end x f h (inl t) = absurd (none-find x f t)
     live-end x f h (inr t) = at-core (by-eq (s.ib x) (GC s x) (λ z. z) (λ n. absurd (⊎-elim n (sent n) t)))
       where
-        up-edge : (y : ℕ) × Ends p (s.ib x) x y
+        up-edge : (y : ℕ) × Edge p (s.ib x) x y
         up-edge = i.U1.u1r x (i.T1.t1 x h)
 
         at-core : s.ib x ≡ GC s x → (x ≡ u) ⊎ (x ≡ v)
@@ -146,7 +146,7 @@ module _ {p : Network} {s : State} (i : Inv p s) {u v k w : ℕ} {r : List Msg} 
             (report-core (s.ib x) x (up-edge .0) (o .0) (up-edge .1) f (o .1))
 
     -- an edge that is Basic in the fragment is not earlier than the best weight of one of the ends
-    pub bound : (a j b : ℕ) → s.fr a ≡ s.fr v → Ends p j a b → s.mark a j ≡ 0
+    pub bound : (a j b : ℕ) → s.fr a ≡ s.fr v → Edge p j a b → s.mark a j ≡ 0
         → (x : ℕ) × ((x ≡ u) ⊎ (x ≡ v)) × (s.bw x ≢ none) × (key p (s.bw x) ≤ rank p j)
     bound a j b f e m = ⊎-elim
         (λ t. absurd (omega (arith, t .1, none-due a f)))

@@ -1,12 +1,12 @@
 -- v sends Connect over k, which is no branch at its other end y: half, for waking and for procedure change-root.
 use Rattle.protocol.specs.Prelude.{ℕ, arith, _≡_, refl, subst, _∙_, _≢_, inr, by-eq}
-use Rattle.protocol.specs.Prelude.{upd, connect, Network, State, halved, set-st, set-oo, In, in-all, in-new, snoc-all, GL, Inv}
+use Rattle.protocol.specs.Prelude.{upd, connect, Network, ProtocolState, halved, set-st, set-oo, In, in-all, in-new, snoc-all, GL, Inv}
 use Rattle.protocol_merge.specs.Turn.{Turn}
 use Rattle.protocol_merge.specs.Move as M
 use Rattle.protocol_merge.specs.Pass.{Own, inv-pass}
 use Rattle.protocol_merge.specs.Leave.{Leave, leave-tree, leave-only, leave-move}
 
-module _ {p : Network} {s : State} (i : Inv p s) {v k y l : ℕ} (t : Turn p s v) (h : Leave p s v k y) (level : l ≡ GL s v) (half : s.mark y k ≢ 1) where
+module _ {p : Network} {s : ProtocolState} (i : Inv p s) {v k y l : ℕ} (t : Turn p s v) (h : Leave p s v k y) (level : l ≡ GL s v) (half : s.mark y k ≢ 1) where
   half-own : Own p s v y k 3 (connect l)
   half-own = record {
     low = omega arith;

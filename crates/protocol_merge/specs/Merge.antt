@@ -1,11 +1,11 @@
 -- Merge, for waking and for procedure change-root.
-use Rattle.protocol.specs.Prelude.{ℕ, Network, State, upd, halved, merged, set-st, set-oo, Inv}
+use Rattle.protocol.specs.Prelude.{ℕ, Network, ProtocolState, upd, halved, merged, set-st, set-oo, Inv}
 use Rattle.protocol_merge.specs.Move as M
 use Rattle.protocol_merge.specs.Unite.{Ready, mv}
 use Rattle.protocol_merge.specs.MergeTables as A
 use Rattle.protocol_merge.specs.MergeTraffic as C
 
-pub inv-merge : {p : Network} {s : State} {v k y l : ℕ} → Ready p s v k y l → Inv p (set-oo (set-st (merged (halved s v k l) v y k) (upd s.st v 2)) 0)
+pub inv-merge : {p : Network} {s : ProtocolState} {v k y l : ℕ} → Ready p s v k y l → Inv p (set-oo (set-st (merged (halved s v k l) v y k) (upd s.st v 2)) 0)
 inv-merge r = record {
   W0 = A.W0′ r;
   W1 = r.inv.W1;

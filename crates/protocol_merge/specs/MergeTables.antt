@@ -1,7 +1,7 @@
 -- Merge keeps the clauses that speak of tables.
 use Rattle.protocol.specs.Prelude.{ℕ, suc, _^_, _≤_, arith, _≡_, sym, ap, subst, _∙_, _≢_, inl, inr, ⊎-elim}
 use Rattle.protocol.specs.Prelude.{upd, upd-elim, upd2-elim, at2, relabel-cases}
-use Rattle.protocol.specs.Prelude.{Network, Ends, Tree, key, rank, Way, go, join, both-joined, joins-lt, flip, same-edge, other-end, end-lt, State}
+use Rattle.protocol.specs.Prelude.{Network, Edge, Tree, key, rank, Way, go, join, both-joined, joins-lt, flip, same-edge, other-end, end-lt, ProtocolState}
 use Rattle.protocol.specs.Prelude.{Both, Decision, GL, GC, DK, Half, waits-find}
 use Rattle.graph.specs.Size.{partSize, size-mono, level-merge}
 use Rattle.protocol.specs.Fragments.{Ranges, Levels, Sizes, Cores, Sleepers, Marks, Inbounds}
@@ -11,8 +11,8 @@ use Rattle.protocol_merge.specs.Move as M
 use Rattle.protocol_merge.specs.Unite as U
 use Rattle.protocol_merge.specs.Unite.{Ready}
 
-module _ {p : Network} {s : State} {v k y l : ℕ} (r : Ready p s v k y l) where
-  abbrev S′ : State
+module _ {p : Network} {s : ProtocolState} {v k y l : ℕ} (r : Ready p s v k y l) where
+  abbrev S′ : ProtocolState
   S′ = U.S′ r
 
   -- ---- k afterwards
@@ -24,14 +24,14 @@ module _ {p : Network} {s : State} {v k y l : ℕ} (r : Ready p s v k y l) where
   mark-y = M.up1 (r.inv) (r.turn) (U.mv r) y k (r.branch)
 
   -- an edge that is k: joined, and inside
-  at-core : (j a b : ℕ) → k ≡ j → Ends p j a b → Both S′.mark j a b × U.Inside r a
+  at-core : (j a b : ℕ) → k ≡ j → Edge p j a b → Both S′.mark j a b × U.Inside r a
   at-core j a b z e = ⊎-elim
       (λ q. ((sym (at2 S′.mark (q .0) z) ∙ mark-v, sym (at2 S′.mark (q .1) z) ∙ mark-y), inl (ap s.fr (sym (q .0)))))
       (λ q. ((sym (at2 S′.mark (q .1) z) ∙ mark-y, sym (at2 S′.mark (q .0) z) ∙ mark-v), inr (ap s.fr (sym (q .1)))))
       (same-edge (r.leave.ends) e z)
 
   -- beyond a joined edge one is inside too
-  in-beyond : (j a b : ℕ) → Ends p j a b → U.Inside r a → Both S′.mark j a b → U.Inside r b
+  in-beyond : (j a b : ℕ) → Edge p j a b → U.Inside r a → Both S′.mark j a b → U.Inside r b
   in-beyond j a b e n x = U.joined r j a b e x (λ q c z. inr (ap s.fr (sym c))) (λ q c z. inl (ap s.fr (sym c)))
       (λ f. let q = sym (r.inv.M1.m3 j a b e f) in ⊎-elim (λ c. inl (q ∙ c)) (λ c. inr (q ∙ c)) n)
 
@@ -80,7 +80,7 @@ module _ {p : Network} {s : State} {v k y l : ℕ} (r : Ready p s v k y l) where
     g5 = λ w a b n e. U.sort r w
         (λ c. let x = at-core (GC S′ w) a b (sym (U.gc-in r w c)) e in (x .0, U.fr-in r a (x .1) ∙ sym (U.fr-in r w c)))
         (λ o. let g = U.gc-out r w o in
-        let x = r.inv.G5.g5 w a b (omega (arith, U.gl-out r w o)) (subst (λ j. Ends p j a b) g e) in
+        let x = r.inv.G5.g5 w a b (omega (arith, U.gl-out r w o)) (subst (λ j. Edge p j a b) g e) in
         (subst (λ j. Both S′.mark j a b) (sym g) (M.both-up (r.inv) (r.turn) (U.mv r) (GC s w) a b (x .0)), U.keep r a w (x .1)));
   }
 
@@ -141,11 +141,11 @@ module _ {p : Network} {s : State} {v k y l : ℕ} (r : Ready p s v k y l) where
   decision-node : (w : ℕ) → U.Outside r w → s.fr (s.dn (s.fr w)) ≡ s.fr w → S′.fr (S′.dn (S′.fr w)) ≡ S′.fr w
   decision-node w o q = ap S′.fr (U.dn-out r w o) ∙ U.keep r (s.dn (s.fr w)) w q
 
-  decision-edge : (w : ℕ) → U.Outside r w → (x : ℕ) × Ends p (s.de (s.fr w)) (s.dn (s.fr w)) x → (x : ℕ) × Ends p (S′.de (S′.fr w)) (S′.dn (S′.fr w)) x
-  decision-edge w o x = (x .0, subst (λ n. Ends p (S′.de (S′.fr w)) n (x .0)) (sym (U.dn-out r w o)) (subst (λ n. Ends p n (s.dn (s.fr w)) (x .0)) (sym (U.de-out r w o)) (x .1)))
+  decision-edge : (w : ℕ) → U.Outside r w → (x : ℕ) × Edge p (s.de (s.fr w)) (s.dn (s.fr w)) x → (x : ℕ) × Edge p (S′.de (S′.fr w)) (S′.dn (S′.fr w)) x
+  decision-edge w o x = (x .0, subst (λ n. Edge p (S′.de (S′.fr w)) n (x .0)) (sym (U.dn-out r w o)) (subst (λ n. Edge p n (s.dn (s.fr w)) (x .0)) (sym (U.de-out r w o)) (x .1)))
 
   -- an edge that is half afterwards is another fragment's
-  half-out : (j w u : ℕ) → Ends p j w u → Half s w j → S′.mark u j ≢ 1 → U.Outside r w
+  half-out : (j w u : ℕ) → Edge p j w u → Half s w j → S′.mark u j ≢ 1 → U.Outside r w
   half-out j w u e x n = U.sort r w
       (λ c. absurd (⊎-elim (λ q. omega (arith, x .0, ap s.dk q, r.turn.fresh))
       (λ q. let f = U.half-y r in
@@ -211,7 +211,7 @@ module _ {p : Network} {s : State} {v k y l : ℕ} (r : Ready p s v k y l) where
         (U.inf-new r a (o .0) (x .0), x .1);
     d5 = λ w n. let o = U.dk-decided r w n in U.due-out r w o ∙ r.inv.D4.d5 w (λ z. n (U.dk-out r w o ∙ z));
     d6 = λ w n. U.dk-out r w (halted w n) ∙ r.inv.D4.d6 w n;
-    d6c = λ j w u e n. let x = r.inv.D4.d6c j w u e n in (x .0, subst (λ c. Ends p c w (x .0)) (sym (U.gc-out r w (halted w n))) (x .1));
+    d6c = λ j w u e n. let x = r.inv.D4.d6c j w u e n in (x .0, subst (λ c. Edge p c w (x .0)) (sym (U.gc-out r w (halted w n))) (x .1));
   }
     where
       halted : (w : ℕ) → s.halt w ≢ 0 → U.Outside r w

@@ -2,9 +2,9 @@
 use Rattle.protocol.specs.Prelude.{ℕ, _+_, _≤_, arith, _≡_, refl, sym, ap, subst, _∙_, _≢_, inl, inr, ⊎-elim}
 use Rattle.protocol.specs.Prelude.{upd-other, All, sumL, at2}
 use Rattle.protocol.specs.Prelude.{Msg, connect, initiate, report}
-use Rattle.protocol.specs.Prelude.{Network, Ends, rank, flip, State, isC, isI, isT, isA, isR, isK, arg1, Only}
+use Rattle.protocol.specs.Prelude.{Network, Edge, rank, flip, ProtocolState, isC, isI, isT, isA, isR, isK, arg1, Only}
 use Rattle.protocol.specs.Prelude.{In, all-in, in-sum, snoc-in, snoc-all, snoc-here}
-use Rattle.protocol.specs.Prelude.{GL, GC, DK, Jn, Outst, Live, Covered, Child, CoreEnds, Spent}
+use Rattle.protocol.specs.Prelude.{GL, GC, DK, Jn, Outst, Counting, Covered, Child, CoreEnds, Spent}
 use Rattle.protocol.specs.Prelude.{joined-level, no-connect-decided, decided-initiate, decided-report, decided-test, waits-find, parent-find}
 use Rattle.protocol.specs.Traffic.{Tokens, Connects, Initiates, Telling, Testing, Answers, Reports, Owing, Bests}
 use Rattle.protocol_merge.specs.Leave.{leave-only}
@@ -13,8 +13,8 @@ use Rattle.protocol_merge.specs.Unite as U
 use Rattle.protocol_merge.specs.Unite.{Ready}
 use Rattle.protocol_merge.specs.MergeTables.{old-decision, new-decision, no-root}
 
-module _ {p : Network} {s : State} {v k y l : ℕ} (r : Ready p s v k y l) where
-  abbrev S′ : State
+module _ {p : Network} {s : ProtocolState} {v k y l : ℕ} (r : Ready p s v k y l) where
+  abbrev S′ : ProtocolState
   S′ = U.S′ r
 
   -- there and back
@@ -28,7 +28,7 @@ module _ {p : Network} {s : State} {v k y l : ℕ} (r : Ready p s v k y l) where
   same f z w j = M.same (r.inv) (r.turn) (U.mv r) f z w j
 
   -- on a joined edge inside the fragment was decided
-  in-joined : (j a b : ℕ) → Ends p j a b → Jn s j a b → U.Inside r a → DK s a ≢ 0
+  in-joined : (j a b : ℕ) → Edge p j a b → Jn s j a b → U.Inside r a → DK s a ≢ 0
   in-joined j a b e x n = U.in-decided r a n (joined-level (r.inv) j a b e x)
 
   -- the channels of k: from y the Connect, and answers; from v answers
@@ -55,7 +55,7 @@ module _ {p : Network} {s : State} {v k y l : ℕ} (r : Ready p s v k y l) where
     d7 = λ j a b e g z f q.
         let o = U.inf-out r a f in
         let c = sym (U.gc-out r a o) ∙ g in
-        let d = U.like r a b o (r.inv.G5.g5 a b a (U.inf-old r a f .0) (subst (λ n. Ends p n b a) (sym c) (flip e)) .1) in
+        let d = U.like r a b o (r.inv.G5.g5 a b a (U.inf-old r a f .0) (subst (λ n. Edge p n b a) (sym c) (flip e)) .1) in
         ⊎-elim (λ x. inl (omega (arith, same isR refl a j)))
         (λ x. inr (U.inf-new r b d (x .0), M.st-two (r.inv) (r.turn) (U.mv r) b (x .1), x .2, omega (arith, x .3, same isR refl b j)))
         (r.inv.Dc.d7 j a b e c (sym (U.dk-out r a o) ∙ z) (U.inf-old r a f) (sym (upd-other s.st v 2 a (U.out-v r a o)) ∙ q));
@@ -81,7 +81,7 @@ module _ {p : Network} {s : State} {v k y l : ℕ} (r : Ready p s v k y l) where
   }
     where
       -- one that was on a joined edge is outside
-      old : (j w u n : ℕ) → Ends p j w u → In (connect n) (s.ch w j) → s.mark u j ≡ 1 → (GC S′ w ≡ j) × (n + 1 ≡ GL S′ w) × (s.lev u ≡ n)
+      old : (j w u n : ℕ) → Edge p j w u → In (connect n) (s.ch w j) → s.mark u j ≡ 1 → (GC S′ w ≡ j) × (n + 1 ≡ GL S′ w) × (s.lev u ≡ n)
       old j w u n e b m =
           let x = r.inv.C1.c1 j w u n e b m in
           let f : Jn s j w u = (r.inv.C1.c1m j w u n e b, m) in
@@ -160,7 +160,7 @@ module _ {p : Network} {s : State} {v k y l : ℕ} (r : Ready p s v k y l) where
   }
     where
       -- a core that was joined is another fragment's
-      core-out : (j a c : ℕ) → Ends p j a c → Jn s j a c → GC S′ a ≡ j → U.Outside r a
+      core-out : (j a c : ℕ) → Edge p j a c → Jn s j a c → GC S′ a ≡ j → U.Outside r a
       core-out j a c e x g = U.sort r a (λ f. absurd (U.not-k r j a c e x (sym (U.gc-in r a f) ∙ g))) (λ o. o)
 
   pub E1′ : Testing p S′
@@ -192,7 +192,7 @@ module _ {p : Network} {s : State} {v k y l : ℕ} (r : Ready p s v k y l) where
 
   -- ---- Reports, owed Reports, best weights
 
-  core : (j w u n : ℕ) → Ends p j w u → Jn s j w u → U.Outside r u → CoreEnds s w u j n → CoreEnds S′ w u j n
+  core : (j w u n : ℕ) → Edge p j w u → Jn s j w u → U.Outside r u → CoreEnds s w u j n → CoreEnds S′ w u j n
   core j w u n e b o x =
       let q = U.like r u w o (r.inv.M1.m3 j w u e b) in (
         U.gc-out r w q ∙ x .0,
@@ -205,7 +205,7 @@ module _ {p : Network} {s : State} {v k y l : ℕ} (r : Ready p s v k y l) where
             (λ c. inr (omega (arith, U.gl-out r u o, c .0), still w j (subst (λ m. In (initiate m j 1) (s.ch w j)) (sym (U.gl-out r u o)) (c .1)))) (x .6),
       )
 
-  spent : (j w u n : ℕ) → Ends p j w u → In (report n) (s.ch w j) → Spent p s w u j n → Spent p S′ w u j n
+  spent : (j w u n : ℕ) → Edge p j w u → In (report n) (s.ch w j) → Spent p s w u j n → Spent p S′ w u j n
   spent j w u n e b x = (
     x .0,
     x .1,
@@ -230,7 +230,7 @@ module _ {p : Network} {s : State} {v k y l : ℕ} (r : Ready p s v k y l) where
         core j w u n e (r.inv.R1.r1j j w u n e b) o (r.inv.R1.r1c j w u n e b (U.inf-old r u f) (sym (U.dk-out r u o) ∙ z) (sym (U.gc-out r u o) ∙ g));
   }
     where
-      child : (j w u n : ℕ) → Ends p j w u → Jn s j w u → U.Outside r u → Child s w u j n → Child S′ w u j n
+      child : (j w u n : ℕ) → Edge p j w u → Jn s j w u → U.Outside r u → Child s w u j n → Child S′ w u j n
       child j w u n e b o x =
           let q = U.like r u w o (r.inv.M1.m3 j w u e b) in (
             U.inf-new r w q (x .0),
@@ -263,7 +263,7 @@ module _ {p : Network} {s : State} {v k y l : ℕ} (r : Ready p s v k y l) where
         r.inv.F4c.f4n j w c e (U.inf-old r w f) a n (outst-old c j (U.beyond r j w c e o a) x);
   }
 
-  live : (x : ℕ) → U.Outside r x → Live s x → Live S′ x
+  live : (x : ℕ) → U.Outside r x → Counting s x → Counting S′ x
   live x o (inl f) = inl (M.st-new (r.inv) (r.turn) (U.mv r) x f)
   live x o (inr (inl g)) = inr (inl (g ∙ sym (U.gc-out r x o)))
   live x o (inr (inr n)) = inr (inr (omega (arith, same isR refl x (s.ib x))))

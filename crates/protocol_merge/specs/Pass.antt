@@ -1,11 +1,11 @@
 -- v's fragment takes a decision of kind d with node v and edge k, as v sends m over it: 3 for a Connect, 2 for a Change-root.
 -- What differs between the two is in `Own`; the rest is proved here once.
-use Rattle.protocol.specs.Prelude.{ℕ, _≤_, arith, _≡_, refl, sym, ap, subst, _∙_, _≢_, _⊎_, inl, inr, ⊎-elim, by-eq, last, init-ok}
+use Rattle.protocol.specs.Prelude.{ℕ, _≤_, arith, _≡_, refl, sym, ap, subst, _∙_, _≢_, _⊎_, inl, inr, ⊎-elim, by-eq, last-case, init-ok}
 use Rattle.protocol.specs.Prelude.{upd, upd-elim, upd-same, upd-other, upd2, upd2-elim, All, at2}
 use Rattle.protocol.specs.Prelude.{Msg, connect, report, change}
-use Rattle.protocol.specs.Prelude.{Network, Ends, Tree, flip, State, set-st, set-oo, set-ub, send, marked, decided}
+use Rattle.protocol.specs.Prelude.{Network, Edge, Tree, flip, ProtocolState, set-st, set-oo, set-ub, sendOver, remarked, decided}
 use Rattle.protocol.specs.Prelude.{isC, isI, isT, isA, isR, isK, Only, In, snoc, snoc-in, snoc-all}
-use Rattle.protocol.specs.Prelude.{Both, Decision, GL, DK, Inf, Jn, Outst, Live, CoreEnds, Spent, Inv, joined-level}
+use Rattle.protocol.specs.Prelude.{Both, Decision, GL, DK, Inf, Jn, Outst, Counting, CoreEnds, Spent, Inv, joined-level}
 use Rattle.protocol.specs.Fragments.{Ranges, Cores, Sleepers, Marks, Inbounds}
 use Rattle.protocol.specs.Decisions.{HalfOk, Halves, ChangingOk, ChangeRoots, Rootings, Finishes}
 use Rattle.protocol.specs.Search.{Parents, Kids, Finds, Tests}
@@ -14,7 +14,7 @@ use Rattle.protocol_merge.specs.Turn.{Turn}
 use Rattle.protocol_merge.specs.Move as M
 use Rattle.protocol_merge.specs.Move.{Move}
 
-pub record Own (p : Network) (s : State) (v y k d : ℕ) (m : Msg) : Type 0 where
+pub record Own (p : Network) (s : ProtocolState) (v y k d : ℕ) (m : Msg) : Type 0 where
   pub low : 2 ≤ d
   pub high : d ≤ 3
   -- k is joined afterwards only if it was
@@ -29,9 +29,9 @@ pub record Own (p : Network) (s : State) (v y k d : ℕ) (m : Msg) : Type 0 wher
   pub changing-ok : d ≡ 2 → ChangingOk p s.fr s.gl s.gc s.lev s.ib (upd s.ub v k) s.bw (upd2 s.mark v k 1) k v y
   pub changing-in : d ≡ 2 → In change (snoc s.ch v k m v k)
 
-module _ {p : Network} {s : State} (i : Inv p s) {v y k d : ℕ} {m : Msg} (t : Turn p s v) (h : Move p s v y k m) (o : Own p s v y k d m) where
-  abbrev pub S′ : State
-  S′ = set-oo (set-st (decided (set-ub (marked (send s v k m) v k 1) (upd s.ub v k)) v d v k) (upd s.st v 2)) 0
+module _ {p : Network} {s : ProtocolState} (i : Inv p s) {v y k d : ℕ} {m : Msg} (t : Turn p s v) (h : Move p s v y k m) (o : Own p s v y k d m) where
+  abbrev pub S′ : ProtocolState
+  S′ = set-oo (set-st (decided (set-ub (remarked (sendOver s v k m) v k 1) (upd s.ub v k)) v d v k) (upd s.st v 2)) 0
 
   -- ---- the decision of v's fragment, and of the others
 
@@ -76,21 +76,21 @@ module _ {p : Network} {s : State} (i : Inv p s) {v y k d : ℕ} {m : Msg} (t : 
   decision-node : (w : ℕ) → (DK s w ≡ DK S′ w → s.fr (s.dn (s.fr w)) ≡ s.fr w) → s.fr (S′.dn (s.fr w)) ≡ s.fr w
   decision-node w f = by-eq (s.fr v) (s.fr w) (λ q. ap s.fr (dn-in w q) ∙ q) (λ n. ap s.fr (dn-off w n) ∙ f (sym (dk-off w n)))
 
-  decision-edge : (w : ℕ) → (DK s w ≡ DK S′ w → (x : ℕ) × Ends p (s.de (s.fr w)) (s.dn (s.fr w)) x) → (x : ℕ) × Ends p (S′.de (s.fr w)) (S′.dn (s.fr w)) x
+  decision-edge : (w : ℕ) → (DK s w ≡ DK S′ w → (x : ℕ) × Edge p (s.de (s.fr w)) (s.dn (s.fr w)) x) → (x : ℕ) × Edge p (S′.de (s.fr w)) (S′.dn (s.fr w)) x
   decision-edge w f = by-eq (s.fr v) (s.fr w)
       (λ q. (y, moved k v y (sym (de-in w q)) (sym (dn-in w q)) (h.ends)))
       (λ n. let x = f (sym (dk-off w n)) in (x .0, moved (s.de (s.fr w)) (s.dn (s.fr w)) (x .0) (sym (de-off w n)) (sym (dn-off w n)) (x .1)))
     where
-      moved : (j z x : ℕ) {j′ z′ : ℕ} → j ≡ j′ → z ≡ z′ → Ends p j z x → Ends p j′ z′ x
-      moved j z x {j′} a b e = subst (λ n. Ends p j′ n x) b (subst (λ n. Ends p n z x) a e)
+      moved : (j z x : ℕ) {j′ z′ : ℕ} → j ≡ j′ → z ≡ z′ → Edge p j z x → Edge p j′ z′ x
+      moved j z x {j′} a b e = subst (λ n. Edge p j′ n x) b (subst (λ n. Edge p n z x) a e)
 
   -- what holds of k, v, y holds of these
-  at-own : (P : ℕ → ℕ → ℕ → Type 0) (j z x : ℕ) → Ends p j z x → v ≡ z → k ≡ j → P k v y → P j z x
+  at-own : (P : ℕ → ℕ → ℕ → Type 0) (j z x : ℕ) → Edge p j z x → v ≡ z → k ≡ j → P k v y → P j z x
   at-own P j z x e a b f = subst (λ n. P j z n) (M.far-end i t h j z x e a b) (subst (λ n. P j n y) a (subst (λ n. P n v y) b f))
 
   -- ---- joined edges, informed nodes
 
-  joined-was : (j a b : ℕ) → Ends p j a b → Both S′.mark j a b → Jn s j a b
+  joined-was : (j a b : ℕ) → Edge p j a b → Both S′.mark j a b → Jn s j a b
   joined-was j a b e x = M.dn1 i t h a j (x .0) (λ q r. at-own (λ j a b. Both S′.mark j a b → Jn s j a b) j a b e q r here x)
       (λ f. M.dn1 i t h b j (x .1) (λ q r. let g = at-own (λ j a b. Both S′.mark j a b → Jn s j a b) j b a (flip e) q r here (x .1, x .0) in (g .1, g .0)) (λ g. (f, g)))
     where
@@ -112,7 +112,7 @@ module _ {p : Network} {s : State} (i : Inv p s) {v y k d : ℕ} {m : Msg} (t : 
   outst-old c j (inl x) = inl (x .0, ⊎-elim (λ f. inl (M.st-old i t h c f)) (λ r. inr (omega (arith, M.same i t h isR (h.not-r) c j))) (x .1))
   outst-old c j (inr x) = inr x
 
-  live : (x : ℕ) → Live s x → Live S′ x
+  live : (x : ℕ) → Counting s x → Counting S′ x
   live x (inl f) = inl (M.st-new i t h x f)
   live x (inr (inl g)) = inr (inl g)
   live x (inr (inr r)) = inr (inr (omega (arith, M.same i t h isR (h.not-r) x (s.ib x))))
@@ -128,7 +128,7 @@ module _ {p : Network} {s : State} (i : Inv p s) {v y k d : ℕ} {m : Msg} (t : 
     ⊎-elim (λ r. inl (r .0, M.call-same i t h w j u b ∙ r .1)) (λ r. inr (r .0, M.new i t h w j (r .1))) (x .6),
   )
 
-  spent : (j w u n : ℕ) → Ends p j w u → In (report n) (s.ch w j) → Spent p s w u j n → Spent p S′ w u j n
+  spent : (j w u n : ℕ) → Edge p j w u → In (report n) (s.ch w j) → Spent p s w u j n → Spent p S′ w u j n
   spent j w u n e b x = (
     x .0,
     x .1,
@@ -168,7 +168,7 @@ module _ {p : Network} {s : State} (i : Inv p s) {v y k d : ℕ} {m : Msg} (t : 
         (λ q. dk-in w q ∙ single (ap s.gl q ∙ g))
         (λ q. dk-off w q ∙ i.G6.g7 j w u e (M.st-awake i t h w (away w q) n) g);
     g7n = λ w n g e. by-eq v w
-        (λ q. absurd (e k y (subst (λ x. Ends p k x y) q (h.ends))))
+        (λ q. absurd (e k y (subst (λ x. Edge p k x y) q (h.ends))))
         (λ q. let b = i.G6.g7n w (M.st-awake i t h w q n) g e in (dk-off w (λ r. q (i.G4.g4s w v g r)) ∙ b .0, b .1));
   }
     where
@@ -372,7 +372,7 @@ module _ {p : Network} {s : State} (i : Inv p s) {v y k d : ℕ} {m : Msg} (t : 
   B2′ = record {
     b1e = λ w f n a. let x = i.B2.b1e w f n a in
         (x .0, x .1, M.both-up i t h (s.be w) w (x .0) (x .2), x .3, x .4, x .5, x .6, M.st-two i t h (x .0) (x .7), M.same i t h isR (h.not-r) (x .0) (s.be w) ∙ x .8);
-    b2 = λ j u w e a z l. last (λ x. (x .0, x .1, x .2, x .3, live (x .0) (x .4), x .5)) (i.B2.b2 j u w e (M.dn0 i t h u j a) (undecided u z .1) l);
+    b2 = λ j u w e a z l. last-case (λ x. (x .0, x .1, x .2, x .3, live (x .0) (x .4), x .5)) (i.B2.b2 j u w e (M.dn0 i t h u j a) (undecided u z .1) l);
   }
 
   pub inv-pass : Inv p S′

@@ -2,7 +2,7 @@
 -- Here: what the tables say of a node inside the new fragment, and of one outside it.
 use Rattle.protocol.specs.Prelude.{ℕ, suc, _≤_, _<_, arith, _≡_, refl, sym, ap, _∙_, _≢_, _⊎_, inl, inr, ⊎-elim, by-eq}
 use Rattle.protocol.specs.Prelude.{upd, upd-same, upd-other, bulk, bulk-elim, bulk-in, bulk-out, relabel-keep, at2, connect}
-use Rattle.protocol.specs.Prelude.{Network, Ends, flip, same-edge, State, halved, merged, set-st, set-oo}
+use Rattle.protocol.specs.Prelude.{Network, Edge, flip, same-edge, ProtocolState, halved, merged, set-st, set-oo}
 use Rattle.protocol.specs.Prelude.{Both, Bounds, GL, GC, DK, Inf, Jn, Half, Inv, decided-find, half-at}
 use Rattle.protocol.specs.Decisions.{HalfOk}
 use Rattle.protocol_merge.specs.Turn.{Turn}
@@ -10,15 +10,15 @@ use Rattle.protocol_merge.specs.Move as M
 use Rattle.protocol_merge.specs.Move.{Move}
 use Rattle.protocol_merge.specs.Leave.{Leave, leave-move}
 
-pub record Ready (p : Network) (s : State) (v k y l : ℕ) : Type 0 where
+pub record Ready (p : Network) (s : ProtocolState) (v k y l : ℕ) : Type 0 where
   pub inv : Inv p s
   pub turn : Turn p s v
   pub leave : Leave p s v k y
   pub level : l ≡ GL s v
   pub branch : s.mark y k ≡ 1
 
-module _ {p : Network} {s : State} {v k y l : ℕ} (r : Ready p s v k y l) where
-  abbrev pub S′ : State
+module _ {p : Network} {s : ProtocolState} {v k y l : ℕ} (r : Ready p s v k y l) where
+  abbrev pub S′ : ProtocolState
   S′ = set-oo (set-st (merged (halved s v k l) v y k) (upd s.st v 2)) 0
 
   abbrev pub Inside : ℕ → Type 0
@@ -163,18 +163,18 @@ module _ {p : Network} {s : State} {v k y l : ℕ} (r : Ready p s v k y l) where
 
   -- ---- joined edges: k, and those that were
 
-  pub joined {κ} : {C : Type κ} (j a b : ℕ) → Ends p j a b → Both S′.mark j a b → (v ≡ a → y ≡ b → k ≡ j → C) → (y ≡ a → v ≡ b → k ≡ j → C) → (Jn s j a b → C) → C
+  pub joined {κ} : {C : Type κ} (j a b : ℕ) → Edge p j a b → Both S′.mark j a b → (v ≡ a → y ≡ b → k ≡ j → C) → (y ≡ a → v ≡ b → k ≡ j → C) → (Jn s j a b → C) → C
   joined j a b e x f g c = M.dn1 (r.inv) (r.turn) mv a j (x .0) (λ q z. f q (M.far-end (r.inv) (r.turn) mv j a b e q z) z)
       (λ m. M.dn1 (r.inv) (r.turn) mv b j (x .1) (λ q z. g (M.far-end (r.inv) (r.turn) mv j b a (flip e) q z) q z) (λ n. c (m, n)))
 
   -- what was joined is not k
-  pub not-k : (j a b : ℕ) → Ends p j a b → Jn s j a b → k ≢ j
+  pub not-k : (j a b : ℕ) → Edge p j a b → Jn s j a b → k ≢ j
   not-k j a b e x z = ⊎-elim (λ q. omega (arith, r.leave.basic, x .0, at2 s.mark (q .0) z)) (λ q. omega (arith, r.leave.basic, x .1, at2 s.mark (q .0) z))
       (same-edge (r.leave.ends) e z)
 
   -- of an outside node
-  pub joined-out : (j a b : ℕ) → Ends p j a b → Outside a → Both S′.mark j a b → Jn s j a b
+  pub joined-out : (j a b : ℕ) → Edge p j a b → Outside a → Both S′.mark j a b → Jn s j a b
   joined-out j a b e o x = joined j a b e x (λ q n z. absurd (o .0 (ap s.fr (sym q)))) (λ q n z. absurd (o .1 (ap s.fr (sym q)))) (λ f. f)
 
-  pub beyond : (j a b : ℕ) → Ends p j a b → Outside a → Jn s j a b → Outside b
+  pub beyond : (j a b : ℕ) → Edge p j a b → Outside a → Jn s j a b → Outside b
   beyond j a b e o x = like a b o (sym (r.inv.M1.m3 j a b e x))

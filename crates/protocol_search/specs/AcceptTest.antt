@@ -2,26 +2,26 @@
 use Rattle.protocol.specs.Prelude.{ℕ, _+_, _≤_, arith, _≡_, refl, sym, ap, subst, _∙_, _≢_, inl, ⊎-elim}
 use Rattle.protocol.specs.Prelude.{List, _∷_, upd2, by-eq, sumL}
 use Rattle.protocol.specs.Prelude.{Msg, test, accept}
-use Rattle.protocol.specs.Prelude.{Network, Ends, flip, ends-same, other-end, State, Idle, set-ch, send, pop}
+use Rattle.protocol.specs.Prelude.{Network, Edge, flip, ends-same, other-end, ProtocolState, Idle, set-ch, sendOver, pop}
 use Rattle.protocol.specs.Prelude.{isT, isA, isR, fits-accept, In, in-sum, pop-head, pop-in, pop-sum, pop-le, none-in}
 use Rattle.protocol.specs.Prelude.{snoc, snoc-in, snoc-old, kinds, snoc-sum, Inf, Waits, Inv, inf-awake}
-use Rattle.protocol.specs.Prelude.{plain-test, plain-accept, before, bests-same, flow, inv-passing, flow-take, flow-post}
+use Rattle.protocol.specs.Prelude.{plain-test, plain-accept, post-before, bests-same, flow, inv-passing, flow-take, flow-post}
 use Rattle.protocol.specs.Traffic.{AcceptOk, Testing, Answers}
 use Rattle.protocol_search.specs.Answer.{even, crossed}
 
-module _ {p : Network} {s : State} (i : Inv p s) {u v k l f : ℕ} {r : List Msg} (idle : Idle s) (ends : Ends p k u v) (awake : s.st v ≢ 0) (q : s.ch u k ≡ test l f ∷ r)
+module _ {p : Network} {s : ProtocolState} (i : Inv p s) {u v k l f : ℕ} {r : List Msg} (idle : Idle s) (ends : Edge p k u v) (awake : s.st v ≢ 0) (q : s.ch u k ≡ test l f ∷ r)
     (low : l ≤ s.lev v) (differ : s.id v ≢ f) where
   abbrev c₁ : ℕ → ℕ → List Msg
   c₁ = upd2 s.ch u k r
 
-  abbrev s₁ : State
+  abbrev s₁ : ProtocolState
   s₁ = set-ch s c₁
 
   abbrev c′ : ℕ → ℕ → List Msg
   c′ = snoc c₁ v k accept
 
-  abbrev S′ : State
-  S′ = send (pop s u k r) v k accept
+  abbrev S′ : ProtocolState
+  S′ = sendOver (pop s u k r) v k accept
 
   head : In (test l f) (s.ch u k)
   head = pop-head s.ch u k q
@@ -57,9 +57,9 @@ module _ {p : Network} {s : State} (i : Inv p s) {u v k l f : ℕ} {r : List Msg
   -- ---- the new channels
 
   old : {x : Msg} (g : Msg → ℕ) → g accept ≡ 0 → 1 ≤ g x → (w j : ℕ) → In x (c′ w j) → In x (s.ch w j)
-  old g z o w j h = pop-in s.ch u k q w j (before p s₁ v k plain-accept g z o w j h)
+  old g z o w j h = pop-in s.ch u k q w j (post-before p s₁ v k plain-accept g z o w j h)
 
-  level : (j w x : ℕ) → Ends p j w x → sumL isT (c′ w j) + sumL isA (c′ x j) ≡ sumL isT (s.ch w j) + sumL isA (s.ch x j)
+  level : (j w x : ℕ) → Edge p j w x → sumL isT (c′ w j) + sumL isA (c′ x j) ≡ sumL isT (s.ch w j) + sumL isA (s.ch x j)
   level = even p s ends q accept refl refl
 
   E1′ : Testing p S′

@@ -2,16 +2,16 @@
 use Rattle.protocol.specs.Prelude.{ℕ, suc, _+_, _≤_, arith, _≡_, sym, ap, subst, _∙_, _≢_, _⊎_, inl, inr, ⊎-elim}
 use Rattle.protocol.specs.Prelude.{List, _∷_, upd2, by-eq, sumL}
 use Rattle.protocol.specs.Prelude.{Msg, test}
-use Rattle.protocol.specs.Prelude.{Network, Ends, flip, other-end, ends-irr, State, Idle, Strike, set-ch, set-mark, set-ot, marked, pop}
+use Rattle.protocol.specs.Prelude.{Network, Edge, flip, other-end, ends-irr, ProtocolState, Idle, Strike, set-ch, set-mark, set-ot, remarked, pop}
 use Rattle.protocol.specs.Prelude.{isT, isA, isR, In, pop-in, pop-sum, pop-le, else-same, here-new, at2, none-in, Waits, Inv, waits-find}
 use Rattle.protocol.specs.Prelude.{Plain, bests-same, flow, flow-open, flow-take}
 use Rattle.protocol.specs.Search.{Pending, Tests}
 use Rattle.protocol.specs.Traffic.{Testing, Answers, Bests}
 use Rattle.protocol_search.specs.Strike.{struck, up1, up2, up0, dn0, dn1, dn2, dn-other, up-both, dn-both, flow-strike, inv-strike}
 
-pub record Repeat (p : Network) (s : State) (u v k c : ℕ) (m : Msg) (r : List Msg) : Type 0 where
+pub record Repeat (p : Network) (s : ProtocolState) (u v k c : ℕ) (m : Msg) (r : List Msg) : Type 0 where
   pub idle : Idle s
-  pub ends : Ends p k u v
+  pub ends : Edge p k u v
   pub took : s.ch u k ≡ m ∷ r
   pub plain : Plain m
   pub strike : Strike s v k c
@@ -27,23 +27,23 @@ pub record Repeat (p : Network) (s : State) (u v k c : ℕ) (m : Msg) (r : List 
   pub own : (sumL isT (s.ch v k) ≡ 0) ⊎ (Waits s u k × (c ≡ 2))
   pub crosses : Waits s u k → sumL isA (s.ch v k) + sumL isT (s.ch v k) ≡ 1
 
-module _ {p : Network} {s : State} (i : Inv p s) {u v k c : ℕ} {m : Msg} {r : List Msg} (h : Repeat p s u v k c m r) where
+module _ {p : Network} {s : ProtocolState} (i : Inv p s) {u v k c : ℕ} {m : Msg} {r : List Msg} (h : Repeat p s u v k c m r) where
   abbrev c′ : ℕ → ℕ → List Msg
   c′ = upd2 s.ch u k r
 
   abbrev m′ : ℕ → ℕ → ℕ
   m′ = struck p s v k c (h.strike)
 
-  abbrev S′ : State
-  S′ = set-ot (marked (pop s u k r) v k c) (suc v)
+  abbrev S′ : ProtocolState
+  S′ = set-ot (remarked (pop s u k r) v k c) (suc v)
 
-  abbrev s₁ : State
+  abbrev s₁ : ProtocolState
   s₁ = set-ch s c′
 
-  abbrev s₂ : State
+  abbrev s₂ : ProtocolState
   s₂ = set-mark s₁ m′
 
-  back : Ends p k v u
+  back : Edge p k v u
   back = flip (h.ends)
 
   find : s.st v ≡ 1
@@ -65,7 +65,7 @@ module _ {p : Network} {s : State} (i : Inv p s) {u v k c : ℕ} {m : Msg} {r : 
   off : (f : Msg → ℕ) (w j : ℕ) → (u ≢ w) ⊎ (k ≢ j) → sumL f (c′ w j) ≡ sumL f (s.ch w j)
   off f w j n = ap (sumL f) (else-same s.ch u k r w j n)
 
-  off-end : (f : Msg → ℕ) (j w x : ℕ) → Ends p j w x → v ≢ x → sumL f (c′ w j) ≡ sumL f (s.ch w j)
+  off-end : (f : Msg → ℕ) (j w x : ℕ) → Edge p j w x → v ≢ x → sumL f (c′ w j) ≡ sumL f (s.ch w j)
   off-end f j w x e n = off f w j (by-eq k j
       (λ b. inl (λ a. n (other-end (h.ends) e a b))) (λ b. inr b))
 
@@ -141,7 +141,7 @@ module _ {p : Network} {s : State} (i : Inv p s) {u v k c : ℕ} {m : Msg} {r : 
       fresh j w d n z = ⊎-elim (λ o. n o) (λ o. d (o .0)) (dn2 p s v k c (h.strike) w j z)
 
       -- v's own Test has crossed
-      own-test : (j w x l f : ℕ) → Ends p j w x → In (test l f) (c′ w j) → v ≡ w → k ≡ j
+      own-test : (j w x l f : ℕ) → Edge p j w x → In (test l f) (c′ w j) → v ≡ w → k ≡ j
           → (Waits S′ w j × (m′ w j ≢ 2) × (m′ w j ≡ 1 → m′ x j ≡ 1)) ⊎ (((s.te w ≢ j) ⊎ (S′.ot ≡ suc w)) × (m′ w j ≡ 2) × Waits S′ x j × (s.fr w ≡ s.fr x))
       own-test j w x l f e n a b = ⊎-elim
           (λ z. absurd (omega (arith, none-in isT z (subst (λ y. In (test l f) y) (sym (at2 s.ch a b)) (old w j n)))))
@@ -154,11 +154,11 @@ module _ {p : Network} {s : State} (i : Inv p s) {u v k c : ℕ} {m : Msg} {r : 
           (h.own)
 
       -- no Test from u is left
-      gone : (j w x l f : ℕ) → Ends p j w x → v ≡ x → k ≡ j → In (test l f) (c′ w j) → ⊥
+      gone : (j w x l f : ℕ) → Edge p j w x → v ≡ x → k ≡ j → In (test l f) (c′ w j) → ⊥
       gone j w x l f e a b n = omega (arith, none-in isT (left isT (h.no-test) w j (other-end back (flip e) a b) b) n)
 
       -- u waits across k: v's Test has crossed, or u has its answer
-      crossing : (j w x : ℕ) → Ends p j w x → v ≡ x → k ≡ j → Waits s w j → sumL isT (c′ w j) + sumL isA (c′ x j) + sumL isT (c′ x j) ≡ 1
+      crossing : (j w x : ℕ) → Edge p j w x → v ≡ x → k ≡ j → Waits s w j → sumL isT (c′ w j) + sumL isA (c′ x j) + sumL isT (c′ x j) ≡ 1
       crossing j w x e a b t =
           let y = other-end back (flip e) a b in
           let d : u ≢ x = λ q. ends-irr p back (a ∙ sym q) in
@@ -181,7 +181,7 @@ module _ {p : Network} {s : State} (i : Inv p s) {u v k c : ℕ} {m : Msg} {r : 
   }
     where
       -- no answer to v is left
-      mine : {y : Msg} (j w x : ℕ) → Ends p j w x → Waits s x j → In y (c′ w j) → 1 ≤ isA y → v ≢ x
+      mine : {y : Msg} (j w x : ℕ) → Edge p j w x → Waits s x j → In y (c′ w j) → 1 ≤ isA y → v ≢ x
       mine j w x e t n o q =
           let b = on-k j x q t in
           omega (arith, none-in isA (left isA (h.no-answer) w j (other-end back (flip e) q b) b) n)

@@ -1,9 +1,9 @@
 -- v takes the Test of u over k and sends an answer m: one Test less from u, one answer more from v.
 use Rattle.protocol.specs.Prelude.{ℕ, suc, _+_, arith, _≡_, refl, sym, ap, _∙_, _≢_, _⊎_, inl, inr, ⊎-elim}
-use Rattle.protocol.specs.Prelude.{List, _∷_, upd2, by-eq, sumL, Msg, test, Network, Ends, flip, other-end, State, Idle, isT, isA}
+use Rattle.protocol.specs.Prelude.{List, _∷_, upd2, by-eq, sumL, Msg, test, Network, Edge, flip, other-end, ProtocolState, Idle, isT, isA}
 use Rattle.protocol.specs.Prelude.{pop-sum, pop-here, else-same, snoc, snoc-sum, snoc-here, snoc-else}
 
-module _ (p : Network) (s : State) {u v k l f : ℕ} {r : List Msg} (ends : Ends p k u v) (q : s.ch u k ≡ test l f ∷ r) (m : Msg) (no-test : isT m ≡ 0) (answer : isA m ≡ 1) where
+module _ (p : Network) (s : ProtocolState) {u v k l f : ℕ} {r : List Msg} (ends : Edge p k u v) (q : s.ch u k ≡ test l f ∷ r) (m : Msg) (no-test : isT m ≡ 0) (answer : isA m ≡ 1) where
   abbrev c₁ : ℕ → ℕ → List Msg
   c₁ = upd2 s.ch u k r
 
@@ -23,7 +23,7 @@ module _ (p : Network) (s : State) {u v k l f : ℕ} {r : List Msg} (ends : Ends
   answers-here = omega (arith, snoc-here c₁ v k m isA, pop-sum s.ch u k q isA refl v k)
 
   -- who waits has as much: u has the answer for its Test
-  pub even : (j w x : ℕ) → Ends p j w x → sumL isT (c′ w j) + sumL isA (c′ x j) ≡ sumL isT (s.ch w j) + sumL isA (s.ch x j)
+  pub even : (j w x : ℕ) → Edge p j w x → sumL isT (c′ w j) + sumL isA (c′ x j) ≡ sumL isT (s.ch w j) + sumL isA (s.ch x j)
   even j w x e = by-eq k j
       (λ z. by-eq u w
       (λ y. let n = other-end ends e y z in

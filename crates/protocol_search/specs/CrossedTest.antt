@@ -1,11 +1,11 @@
 -- Test of v's own fragment from u, over v's own test edge k: the mark is struck, procedure test comes next.
 use Rattle.protocol.specs.Prelude.{ℕ, suc, _≤_, arith, _≡_, sym, ap, _≢_, _⊎_, inl, inr, ⊎-elim}
-use Rattle.protocol.specs.Prelude.{List, _∷_, by-eq, sumL, Msg, test, Network, Ends, flip, State, Idle, Strike, set-ot, marked, pop}
+use Rattle.protocol.specs.Prelude.{List, _∷_, by-eq, sumL, Msg, test, Network, Edge, flip, ProtocolState, Idle, Strike, set-ot, remarked, pop}
 use Rattle.protocol.specs.Prelude.{isT, isA, In, in-sum, pop-head, no-answers, Waits, Inv, rest-none, plain-test}
 use Rattle.protocol_search.specs.Own.{inside, branch-v, branch-u}
 use Rattle.protocol_search.specs.Again.{inv-again}
 
-module _ {p : Network} {s : State} (i : Inv p s) {u v k l f c : ℕ} {r : List Msg} (idle : Idle s) (ends : Ends p k u v) (awake : s.st v ≢ 0) (q : s.ch u k ≡ test l f ∷ r)
+module _ {p : Network} {s : ProtocolState} (i : Inv p s) {u v k l f c : ℕ} {r : List Msg} (idle : Idle s) (ends : Edge p k u v) (awake : s.st v ≢ 0) (q : s.ch u k ≡ test l f ∷ r)
     (low : l ≤ s.lev v) (same : s.id v ≡ f) (edge : s.te v ≡ k) (strike : Strike s v k c) where
   head : In (test l f) (s.ch u k)
   head = pop-head s.ch u k q
@@ -43,7 +43,7 @@ module _ {p : Network} {s : State} (i : Inv p s) {u v k l f c : ℕ} {r : List M
   struck-to : c ≡ 2
   struck-to = ⊎-elim (λ t. t .1) (λ t. absurd (t .0 basic)) strike
 
-  pub inv-crossed-test : Inv p (set-ot (marked (pop s u k r) v k c) (suc v))
+  pub inv-crossed-test : Inv p (set-ot (remarked (pop s u k r) v k c) (suc v))
   inv-crossed-test = inv-again i (record {
     idle = idle;
     ends = ends;

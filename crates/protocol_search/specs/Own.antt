@@ -1,8 +1,8 @@
 -- A Test that carries v's own identity, of a level not above v's: its sender u is of v's fragment, and v is informed.
 use Rattle.protocol.specs.Prelude.{ℕ, _≤_, arith, _≡_, refl, sym, ap, subst, _∙_}
-use Rattle.protocol.specs.Prelude.{by-eq, test, Network, Ends, up, flip, State, In, GC, Inf, Inv}
+use Rattle.protocol.specs.Prelude.{by-eq, test, Network, Edge, up, flip, ProtocolState, In, GC, Inf, Inv}
 
-module _ {p : Network} {s : State} (i : Inv p s) {u v k l f : ℕ} (ends : Ends p k u v) (head : In (test l f) (s.ch u k)) (low : l ≤ s.lev v) (same : s.id v ≡ f) where
+module _ {p : Network} {s : ProtocolState} (i : Inv p s) {u v k l f : ℕ} (ends : Edge p k u v) (head : In (test l f) (s.ch u k)) (low : l ≤ s.lev v) (same : s.id v ≡ f) where
   pub inf-u : Inf s u
   inf-u = i.E1.e1 k u v l f ends head .2
 
@@ -12,9 +12,9 @@ module _ {p : Network} {s : State} (i : Inv p s) {u v k l f : ℕ} (ends : Ends 
       let t = i.E1.e1 k u v l f ends head in
       let a = i.G5.g5r u (inf-u .0) in
       let e : s.id v ≡ GC s u = same ∙ sym (t .1) ∙ i.G2.g2i u inf-u in
-      let j : Ends p (GC s u) (p.g.lo (GC s u)) (p.g.hi (GC s u)) = up a refl refl in
+      let j : Edge p (GC s u) (p.g.lo (GC s u)) (p.g.hi (GC s u)) = up a refl refl in
       sym (i.G5.g5 u (p.g.lo (GC s u)) (p.g.hi (GC s u)) (inf-u .0) j .1)
-      ∙ i.G2.g3 v (p.g.lo (GC s u)) (p.g.hi (GC s u)) (λ z. omega (arith, inf-u .0, inf-u .1, t .0)) (subst (λ x. Ends p x (p.g.lo (GC s u)) (p.g.hi (GC s u))) (sym e) j)
+      ∙ i.G2.g3 v (p.g.lo (GC s u)) (p.g.hi (GC s u)) (λ z. omega (arith, inf-u .0, inf-u .1, t .0)) (subst (λ x. Edge p x (p.g.lo (GC s u)) (p.g.hi (GC s u))) (sym e) j)
 
   pub inf-v : Inf s v
   inf-v = (omega (arith, inf-u .0, ap s.gl inside), omega (arith, i.G2.g2 v, inf-u .1, i.E1.e1 k u v l f ends head .0, ap s.gl inside))

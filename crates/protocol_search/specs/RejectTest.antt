@@ -2,17 +2,17 @@
 use Rattle.protocol.specs.Prelude.{ℕ, _+_, _≤_, arith, _≡_, refl, sym, ap, subst, _∙_, _≢_, _⊎_, inl, inr, ⊎-elim}
 use Rattle.protocol.specs.Prelude.{List, _∷_, upd2, upd2-elim, by-eq, sumL}
 use Rattle.protocol.specs.Prelude.{Msg, test, reject}
-use Rattle.protocol.specs.Prelude.{Network, Ends, flip, ends-same, other-end, State, Idle, Strike, set-ch, send, pop, marked}
+use Rattle.protocol.specs.Prelude.{Network, Edge, flip, ends-same, other-end, ProtocolState, Idle, Strike, set-ch, sendOver, pop, remarked}
 use Rattle.protocol.specs.Prelude.{isT, isA, isR, fits-reject, kinds, In, in-sum, pop-head, pop-in, pop-sum, pop-le, none-in, no-tests}
 use Rattle.protocol.specs.Prelude.{snoc, snoc-in, snoc-old, snoc-sum, Waits, Inv, inf-awake}
-use Rattle.protocol.specs.Prelude.{plain-test, plain-reject, before, bests-same, flow, flow-take, flow-post}
+use Rattle.protocol.specs.Prelude.{plain-test, plain-reject, post-before, bests-same, flow, flow-take, flow-post}
 use Rattle.protocol.specs.Search.{Tests}
 use Rattle.protocol.specs.Traffic.{RejectOk, Testing, Answers, Bests}
 use Rattle.protocol_search.specs.Own.{inf-u, inside, branch-v, branch-u}
 use Rattle.protocol_search.specs.Answer.{tests-here, even, crossed}
 use Rattle.protocol_search.specs.Strike.{struck, up1, up2, up0, dn0, dn1, dn2, up-both, dn-both, flow-strike, inv-strike}
 
-module _ {p : Network} {s : State} (i : Inv p s) {u v k l f c : ℕ} {r : List Msg} (idle : Idle s) (ends : Ends p k u v) (awake : s.st v ≢ 0) (q : s.ch u k ≡ test l f ∷ r)
+module _ {p : Network} {s : ProtocolState} (i : Inv p s) {u v k l f c : ℕ} {r : List Msg} (idle : Idle s) (ends : Edge p k u v) (awake : s.st v ≢ 0) (q : s.ch u k ≡ test l f ∷ r)
     (low : l ≤ s.lev v) (same : s.id v ≡ f) (other : s.te v ≢ k) (strike : Strike s v k c) where
   abbrev c₁ : ℕ → ℕ → List Msg
   c₁ = upd2 s.ch u k r
@@ -23,14 +23,14 @@ module _ {p : Network} {s : State} (i : Inv p s) {u v k l f c : ℕ} {r : List M
   abbrev m′ : ℕ → ℕ → ℕ
   m′ = struck p s v k c strike
 
-  abbrev s₁ : State
+  abbrev s₁ : ProtocolState
   s₁ = set-ch s c₁
 
-  abbrev s₂ : State
+  abbrev s₂ : ProtocolState
   s₂ = set-ch s c′
 
-  abbrev S′ : State
-  S′ = send (marked (pop s u k r) v k c) v k reject
+  abbrev S′ : ProtocolState
+  S′ = sendOver (remarked (pop s u k r) v k c) v k reject
 
   head : In (test l f) (s.ch u k)
   head = pop-head s.ch u k q
@@ -75,7 +75,7 @@ module _ {p : Network} {s : State} (i : Inv p s) {u v k l f c : ℕ} {r : List M
   unanswered = omega (arith, alone, one)
 
   old : {x : Msg} (g : Msg → ℕ) → g reject ≡ 0 → 1 ≤ g x → (w j : ℕ) → In x (c′ w j) → In x (s.ch w j)
-  old g z o w j h = pop-in s.ch u k q w j (before p s₁ v k plain-reject g z o w j h)
+  old g z o w j h = pop-in s.ch u k q w j (post-before p s₁ v k plain-reject g z o w j h)
 
   rep : (w j : ℕ) → sumL isR (c′ w j) ≡ sumL isR (s.ch w j)
   rep w j = snoc-sum c₁ v k reject isR refl w j ∙ pop-sum s.ch u k q isR refl w j
@@ -115,7 +115,7 @@ module _ {p : Network} {s : State} (i : Inv p s) {u v k l f c : ℕ} {r : List M
         (dn2 p s v k c strike w j a);
   }
     where
-      level : (j w x : ℕ) → Ends p j w x → sumL isT (c′ w j) + sumL isA (c′ x j) ≡ sumL isT (s.ch w j) + sumL isA (s.ch x j)
+      level : (j w x : ℕ) → Edge p j w x → sumL isT (c′ w j) + sumL isA (c′ x j) ≡ sumL isT (s.ch w j) + sumL isA (s.ch x j)
       level = even p s ends q reject refl refl
 
   A1′ : Answers p S′

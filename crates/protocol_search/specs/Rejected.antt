@@ -1,11 +1,11 @@
 -- Reject from u at v over k: the mark is struck, procedure test comes next.
 use Rattle.protocol.specs.Prelude.{ℕ, suc, _+_, _≤_, arith, _≡_, sym, ap, _≢_, inl}
-use Rattle.protocol.specs.Prelude.{List, _∷_, by-eq, sumL, Msg, reject, Network, Ends, flip, State, Idle, Strike, set-ot, marked, pop}
+use Rattle.protocol.specs.Prelude.{List, _∷_, by-eq, sumL, Msg, reject, Network, Edge, flip, ProtocolState, Idle, Strike, set-ot, remarked, pop}
 use Rattle.protocol.specs.Prelude.{isT, isA, in-sum, pop-head, Inv, rest-none, plain-reject}
 use Rattle.protocol.specs.Traffic.{RejectOk}
 use Rattle.protocol_search.specs.Again.{inv-again}
 
-module _ {p : Network} {s : State} (i : Inv p s) {u v k c : ℕ} {r : List Msg} (idle : Idle s) (ends : Ends p k u v) (q : s.ch u k ≡ reject ∷ r) (strike : Strike s v k c) where
+module _ {p : Network} {s : ProtocolState} (i : Inv p s) {u v k c : ℕ} {r : List Msg} (idle : Idle s) (ends : Edge p k u v) (q : s.ch u k ≡ reject ∷ r) (strike : Strike s v k c) where
   pub said : RejectOk s.te s.fr s.mark s.ot k u v
   said = i.A1.j1 k u v ends (pop-head s.ch u k q)
 
@@ -23,7 +23,7 @@ module _ {p : Network} {s : State} (i : Inv p s) {u v k c : ℕ} {r : List Msg} 
   pub alone : sumL isT (s.ch v k) + sumL isA (s.ch u k) + sumL isT (s.ch u k) ≡ 1
   alone = i.E1.e2c k v u (flip ends) (said .j1w) (inl not-theirs)
 
-  pub inv-rejected : Inv p (set-ot (marked (pop s u k r) v k c) (suc v))
+  pub inv-rejected : Inv p (set-ot (remarked (pop s u k r) v k c) (suc v))
   inv-rejected = inv-again i (record {
     idle = idle;
     ends = ends;

@@ -1,13 +1,13 @@
 -- A mark of v for k that is Basic becomes Rejected: what stays of the clauses that read marks.
 use Rattle.protocol.specs.Prelude.{ℕ, _≤_, arith, _≡_, refl, sym, ap, subst, _∙_, _≢_, _⊎_, inl, inr, ⊎-elim}
-use Rattle.protocol.specs.Prelude.{upd2, upd2-elim, by-eq, Network, Ends, key, rank, flip, other-end, wider, State, Strike, set-mark, set-ch, set-ot, List, Msg}
+use Rattle.protocol.specs.Prelude.{upd2, upd2-elim, by-eq, Network, Edge, key, rank, flip, other-end, wider, ProtocolState, Strike, set-mark, set-ch, set-ot, List, Msg}
 use Rattle.protocol.specs.Prelude.{Both, Bounding, Inv, Flow, init-ok, at2}
 use Rattle.protocol.specs.Fragments.{Ranges, Cores, Sleepers, Marks, Inbounds}
 use Rattle.protocol.specs.Decisions.{Halves, ChangeRoots, Rootings, Finishes}
 use Rattle.protocol.specs.Search.{Kids, Pending, Tests}
 use Rattle.protocol.specs.Traffic.{Connects, Initiates, Telling, Testing, Answers, Reports, Owing, Bests}
 
-module _ (p : Network) (s : State) (v k c : ℕ) (strike : Strike s v k c) where
+module _ (p : Network) (s : ProtocolState) (v k c : ℕ) (strike : Strike s v k c) where
   abbrev pub struck : ℕ → ℕ → ℕ
   struck = upd2 s.mark v k c
 
@@ -89,7 +89,7 @@ module _ (p : Network) (s : State) (v k c : ℕ) (strike : Strike s v k c) where
 
 -- ---- clauses on tables: v is awake, k lies inside the fragment and is not Branch at its other end where it is Basic at v
 
-module _ {p : Network} {s : State} (i : Inv p s) {u v k c : ℕ} (ends : Ends p k v u) (strike : Strike s v k c) (awake : s.st v ≢ 0) (inside : s.fr v ≡ s.fr u)
+module _ {p : Network} {s : ProtocolState} (i : Inv p s) {u v k c : ℕ} (ends : Edge p k v u) (strike : Strike s v k c) (awake : s.st v ≢ 0) (inside : s.fr v ≡ s.fr u)
     (free : s.mark v k ≡ 0 → s.mark u k ≢ 1) where
   abbrev m′ : ℕ → ℕ → ℕ
   m′ = struck p s v k c strike
@@ -120,8 +120,8 @@ module _ {p : Network} {s : State} (i : Inv p s) {u v k c : ℕ} (ends : Ends p 
 
   marks-strike : Marks p s.fr m′
   marks-strike = record {
-    own = λ w j n. upd2-elim (λ x. x ≢ 0 → (y : ℕ) × Ends p j w y) s.mark v k c w j
-        (λ a b m. (u, subst (λ x. Ends p j x u) a (subst (λ x. Ends p x v u) b ends))) (λ d m. i.M1.own w j m) n;
+    own = λ w j n. upd2-elim (λ x. x ≢ 0 → (y : ℕ) × Edge p j w y) s.mark v k c w j
+        (λ a b m. (u, subst (λ x. Edge p j x u) a (subst (λ x. Edge p x v u) b ends))) (λ d m. i.M1.own w j m) n;
     m1 = λ j w x e h. ⊎-elim (λ o. let t = i.M1.m1 j w x e o in (t .0, λ z. t .1 (dn1 p s v k c strike x j z)))
         (λ t. let y = other-end ends e (t .0) (t .1) in
         (ap s.fr (sym (t .0)) ∙ inside ∙ ap s.fr y, λ z. free (t .2) (ap (λ a. s.mark a k) y ∙ ap (s.mark x) (t .1) ∙ dn1 p s v k c strike x j z)))
@@ -158,7 +158,7 @@ module _ {p : Network} {s : State} (i : Inv p s) {u v k c : ℕ} (ends : Ends p 
   }
     where
       -- k lies inside
-      out : (j z y : ℕ) → Ends p j z y → v ≡ y → k ≡ j → s.fr y ≡ s.fr z
+      out : (j z y : ℕ) → Edge p j z y → v ≡ y → k ≡ j → s.fr y ≡ s.fr z
       out j z y e q b = ap s.fr (sym q) ∙ inside ∙ ap s.fr (other-end ends (flip e) q b)
 
   change-roots-strike : ChangeRoots p s.dk s.dn s.de s.fr s.gl s.gc s.lev s.ib s.ub s.bw m′
@@ -200,7 +200,7 @@ module _ {p : Network} {s : State} (i : Inv p s) {u v k c : ℕ} (ends : Ends p 
 
   -- the whole, where besides the open test and channels change
   module _ (ot : ℕ) (c′ : ℕ → ℕ → List Msg) where
-    abbrev striking : State
+    abbrev striking : ProtocolState
     striking = set-ot (set-mark (set-ch s c′) m′) ot
 
     pub inv-strike : Pending s.st s.te s.fc ot s.op → Tests p s.te s.ib m′ ot → Flow p striking → Testing p striking → Answers p striking → Bests p striking → Inv p striking

@@ -1,6 +1,6 @@
 -- THE STUCK LEMMA: in a stuck state the fragment of every awake node is finished, is its whole part of the graph, and no message waits.
 use Rattle.protocol.specs.Prelude.{ℕ, _≤_, _<_, arith, _≡_, refl, sym, ap, _∙_, _≢_, _⊎_, inl, inr, ⊎-elim, by-eq, strong}
-use Rattle.protocol.specs.Prelude.{Msg, connect, initiate, test, accept, reject, report, change, Network, Ends, rank, Way, stop, go, up, down, flip, join, hop, wider, State}
+use Rattle.protocol.specs.Prelude.{Msg, connect, initiate, test, accept, reject, report, change, Network, Edge, rank, Way, stop, go, up, down, flip, join, hop, wider, ProtocolState}
 use Rattle.protocol.specs.Prelude.{In, Blocked, GL, DK, Inv, waits-find}
 use native.Mathlib.Decide.{ℕ-discrete}
 use Rattle.base.specs.Search.{least, Least}
@@ -9,22 +9,22 @@ use Rattle.protocol_stuck.specs.Informed.{Stuck, no-changing, no-rooting
 use Rattle.protocol_stuck.specs.Waiting.{lower, meets, earlier}
 
 -- a node has an edge, or none
-pub edge? : (p : Network) (v : ℕ) → ((k : ℕ) × (u : ℕ) × Ends p k v u) ⊎ ((k u : ℕ) → ¬ Ends p k v u)
+pub edge? : (p : Network) (v : ℕ) → ((k : ℕ) × (u : ℕ) × Edge p k v u) ⊎ ((k u : ℕ) → ¬ Edge p k v u)
 edge? p v = low (least (λ k. p.g.lo k ≡ v) (λ k. ℕ-discrete (p.g.lo k) v) p.g.L)
   where
-    high : ((k : ℕ) → k < p.g.L → ¬ (p.g.lo k ≡ v)) → ((k : ℕ) → k < p.g.L → ¬ (p.g.hi k ≡ v)) ⊎ Least (λ k. p.g.hi k ≡ v) p.g.L → ((k : ℕ) × (u : ℕ) × Ends p k v u) ⊎ ((k u : ℕ) → ¬ Ends p k v u)
+    high : ((k : ℕ) → k < p.g.L → ¬ (p.g.lo k ≡ v)) → ((k : ℕ) → k < p.g.L → ¬ (p.g.hi k ≡ v)) ⊎ Least (λ k. p.g.hi k ≡ v) p.g.L → ((k : ℕ) × (u : ℕ) × Edge p k v u) ⊎ ((k u : ℕ) → ¬ Edge p k v u)
     high f (inl g) = inr (λ k u e. none-at k u e)
       where
-        none-at : (k u : ℕ) → ¬ Ends p k v u
+        none-at : (k u : ℕ) → ¬ Edge p k v u
         none-at k u (up l a b) = f k l a
         none-at k u (down l a b) = g k l a
     high f (inr m) = inl (m.at, p.g.lo (m.at), down (m.below) (m.holds) refl)
 
-    low : ((k : ℕ) → k < p.g.L → ¬ (p.g.lo k ≡ v)) ⊎ Least (λ k. p.g.lo k ≡ v) p.g.L → ((k : ℕ) × (u : ℕ) × Ends p k v u) ⊎ ((k u : ℕ) → ¬ Ends p k v u)
+    low : ((k : ℕ) → k < p.g.L → ¬ (p.g.lo k ≡ v)) ⊎ Least (λ k. p.g.lo k ≡ v) p.g.L → ((k : ℕ) × (u : ℕ) × Edge p k v u) ⊎ ((k u : ℕ) → ¬ Edge p k v u)
     low (inl f) = high f (least (λ k. p.g.hi k ≡ v) (λ k. ℕ-discrete (p.g.hi k) v) p.g.L)
     low (inr m) = inl (m.at, p.g.hi (m.at), up (m.below) (m.holds) refl)
 
-module _ {p : Network} {s : State} (i : Inv p s) (t : Stuck p s) where
+module _ {p : Network} {s : ProtocolState} (i : Inv p s) (t : Stuck p s) where
   -- an awake node of a finished fragment, joined to v by edges
   abbrev Goal : ℕ → Type 0
   Goal v = (w : ℕ) × Way p.g Any v w × (s.st w ≢ 0) × (DK s w ≡ 4)
@@ -76,7 +76,7 @@ module _ {p : Network} {s : State} (i : Inv p s) (t : Stuck p s) where
           halves = strong (λ r. (v : ℕ) → GL s v ≡ g → DK s v ≡ 3 → rank p (s.de (s.fr v)) ≡ r → Goal v) by-rank
 
   -- no edge leaves a finished fragment
-  inner : (k v u : ℕ) → Ends p k v u → DK s v ≡ 4 → s.fr v ≡ s.fr u
+  inner : (k v u : ℕ) → Edge p k v u → DK s v ≡ 4 → s.fr v ≡ s.fr u
   inner k v u e d = by-eq (s.mark v k) 1
       (λ a. by-eq (s.mark u k) 1 (λ b. i.M1.m3 k v u e (a, b)) (λ b. absurd (omega (arith, i.D1.m2 k v u e a b .0))))
       (λ a. i.M1.m1 k v u e (omega (arith, i.W0.mark-le v k, i.D4.d4 k v u e d)) .0)
@@ -97,7 +97,7 @@ module _ {p : Network} {s : State} (i : Inv p s) (t : Stuck p s) where
   part-awake v w a y z = omega (arith, finished v a, ap s.dk (part v w a y), i.G6.g6 w z .g6d)
 
   -- NO MESSAGE WAITS
-  pub nothing : (k u v : ℕ) (m : Msg) → Ends p k u v → ¬ In m (s.ch u k)
+  pub nothing : (k u v : ℕ) (m : Msg) → Edge p k u v → ¬ In m (s.ch u k)
   nothing k u v m e n = let b = t.back k u v m e n in which m n (b .0) (b .1)
     where
       not-find : (w : ℕ) → s.st w ≢ 0 → s.st w ≢ 1

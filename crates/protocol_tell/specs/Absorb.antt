@@ -2,9 +2,9 @@
 use Rattle.protocol.specs.Prelude.{ℕ, _≤_, _<_, arith, _≡_, refl, sym, ap, subst, _∙_, _≢_, _⊎_, inl, inr, ⊎-elim}
 use Rattle.protocol.specs.Prelude.{List, _∷_, upd2-elim, by-eq, le-sum, All, sumL}
 use Rattle.protocol.specs.Prelude.{Msg, connect, initiate, report}
-use Rattle.protocol.specs.Prelude.{Network, Ends, rank, joins-lt, flip, other-end, State, Idle, Flag, absorbed, pop}
+use Rattle.protocol.specs.Prelude.{Network, Edge, rank, joins-lt, flip, other-end, ProtocolState, Idle, Flag, absorbed, pop}
 use Rattle.protocol.specs.Prelude.{isC, isI, isCI, isT, isA, isR, isK, Only, top, In, Bef, at2, in-sum}
-use Rattle.protocol.specs.Prelude.{GL, GC, DK, Inf, Jn, Outst, Live, Covered, CoreEnds, Spent, Inv}
+use Rattle.protocol.specs.Prelude.{GL, GC, DK, Inf, Jn, Outst, Counting, Covered, CoreEnds, Spent, Inv}
 use Rattle.protocol.specs.Prelude.{mark-awake, te-find, fc-find, waits-find, decided-initiate, decided-report, decided-test}
 use Rattle.protocol.specs.Traffic.{Hush, Tokens, Connects, InitOk, Initiates, Telling, Testing, Answers, Reports, Owing, Bests, Ordered}
 use Rattle.protocol_tell.specs.Laws.{three, six, init-eq}
@@ -13,8 +13,8 @@ use Rattle.protocol_tell.specs.Sunk.{Absorbs}
 use Rattle.protocol_tell.specs.Sunk as F
 use Rattle.protocol_tell.specs.AbsorbTables as T
 
-module _ {p : Network} {s : State} (i : Inv p s) {u v k l x : ℕ} {r : List Msg} (act : Absorbs p s u v k l x r) where
-  abbrev S′ : State
+module _ {p : Network} {s : ProtocolState} (i : Inv p s) {u v k l x : ℕ} {r : List Msg} (act : Absorbs p s u v k l x r) where
+  abbrev S′ : ProtocolState
   S′ = absorbed (pop s u k r) u v k x
 
   abbrev c′ : ℕ → ℕ → List Msg
@@ -59,8 +59,8 @@ module _ {p : Network} {s : State} (i : Inv p s) {u v k l x : ℕ} {r : List Msg
         (i.Dc.d7 j a b e c (ap s.dk (sym o) ∙ d) (F.inf-old i act a h) f);
   }
     where
-      core-joined : (j a b : ℕ) → Ends p j a b → GC s a ≡ j → 1 ≤ GL s a → Jn s j a b
-      core-joined j a b e c n = subst (λ y. Jn s y a b) c (i.G5.g5 a a b n (subst (λ y. Ends p y a b) (sym c) e) .0)
+      core-joined : (j a b : ℕ) → Edge p j a b → GC s a ≡ j → 1 ≤ GL s a → Jn s j a b
+      core-joined j a b e c n = subst (λ y. Jn s y a b) c (i.G5.g5 a a b n (subst (λ y. Edge p y a b) (sym c) e) .0)
 
   C1′ : Connects p S′
   C1′ = record {
@@ -103,7 +103,7 @@ module _ {p : Network} {s : State} (i : Inv p s) {u v k l x : ℕ} {r : List Msg
   }
     where
       -- an old one in D is of too low a level, and says Found
-      sunk : (j w y a f b : ℕ) → Ends p j w y → In (initiate a f b) (s.ch w j) → s.fr y ≡ s.fr u → InitOk p s.lev S′.fr s.gl s.gc s.ub S′.due S′.mark j w y a f b
+      sunk : (j w y a f b : ℕ) → Edge p j w y → In (initiate a f b) (s.ch w j) → s.fr y ≡ s.fr u → InitOk p s.lev S′.fr s.gl s.gc s.ub S′.due S′.mark j w y a f b
       sunk j w y a f b e h d =
           let t = i.I1.i1 j w y a f b e h in
           let g : GL S′ y ≡ GL s v = ap s.gl (F.fr-in i act y d) in
@@ -121,7 +121,7 @@ module _ {p : Network} {s : State} (i : Inv p s) {u v k l x : ℕ} {r : List Msg
             i1z = λ z. decided-initiate i j w y a f b e (λ n. omega (arith, F.half i act .0, ap s.dk d)) h;
           }
 
-      other : (j w y a f b : ℕ) → Ends p j w y → In (initiate a f b) (s.ch w j) → s.fr y ≢ s.fr u → InitOk p s.lev S′.fr s.gl s.gc s.ub S′.due S′.mark j w y a f b
+      other : (j w y a f b : ℕ) → Edge p j w y → In (initiate a f b) (s.ch w j) → s.fr y ≢ s.fr u → InitOk p s.lev S′.fr s.gl s.gc s.ub S′.due S′.mark j w y a f b
       other j w y a f b e h n =
           let t = i.I1.i1 j w y a f b e h in
           let o = F.fr-out i act y n in
@@ -187,7 +187,7 @@ module _ {p : Network} {s : State} (i : Inv p s) {u v k l x : ℕ} {r : List Msg
     m6t = λ j w y e a b. same isT refl refl y j ∙ i.E1.m6t j w y e (F.dn2 i act w j a) (F.dn0 i act y j b);
   }
     where
-      jn-up : (j w y : ℕ) → Ends p j w y → (s.mark w j ≡ 1 → s.mark y j ≡ 1) → S′.mark w j ≡ 1 → S′.mark y j ≡ 1
+      jn-up : (j w y : ℕ) → Edge p j w y → (s.mark w j ≡ 1 → s.mark y j ≡ 1) → S′.mark w j ≡ 1 → S′.mark y j ≡ 1
       jn-up j w y e f = upd2-elim (λ z. z ≡ 1 → S′.mark y j ≡ 1) s.mark v k 1 w j
           (λ a b z. sym (at2 S′.mark (other-end (flip act.ends) e a b) b) ∙ F.joined i act .1) (λ n z. F.up1 i act y j (f z))
 
@@ -218,7 +218,7 @@ module _ {p : Network} {s : State} (i : Inv p s) {u v k l x : ℕ} {r : List Msg
 
   -- ---- Reports: none was on k
 
-  far : (j w y n : ℕ) → Ends p j w y → In (report n) (s.ch w j) → c′ w j ≡ s.ch w j
+  far : (j w y n : ℕ) → Edge p j w y → In (report n) (s.ch w j) → c′ w j ≡ s.ch w j
   far j w y n e h = let d = F.not-joined i act j w y e (i.R1.r1j j w y n e h) in Y.off i act.ends act.q (s.lev v) (s.id v) x w j (inr d) (inr d)
 
   core : (j w y n : ℕ) → s.fr w ≢ s.fr u → s.fr y ≢ s.fr u → c′ w j ≡ s.ch w j → CoreEnds s w y j n → CoreEnds S′ w y j n
@@ -299,7 +299,7 @@ module _ {p : Network} {s : State} (i : Inv p s) {u v k l x : ℕ} {r : List Msg
   cover : (w z n m : ℕ) → s.fr w ≢ s.fr u → S′.fr z ≡ s.fr w → n ≤ m → Covered p s w n → Covered p S′ z m
   cover w z n m o f b t =
       let a : s.fr (t .0) ≢ s.fr u = λ y. o (sym (t .1) ∙ y) in
-      let live : Live S′ (t .0) = ⊎-elim (λ y. inl y) (⊎-elim (λ y. inr (inl (y ∙ ap s.gc (sym (F.fr-out i act (t .0) a))))) (λ y. inr (inr (omega (arith, same isR refl refl (t .0) (s.ib (t .0))))))) (t .4) in
+      let live : Counting S′ (t .0) = ⊎-elim (λ y. inl y) (⊎-elim (λ y. inr (inl (y ∙ ap s.gc (sym (F.fr-out i act (t .0) a))))) (λ y. inr (inr (omega (arith, same isR refl refl (t .0) (s.ib (t .0))))))) (t .4) in
       (t .0, F.fr-out i act (t .0) a ∙ t .1 ∙ sym f, F.inf-new i act (t .0) a (t .2), t .3, live, omega (arith, t .5))
 
   B2′ : Bests p S′
@@ -361,6 +361,6 @@ module _ {p : Network} {s : State} (i : Inv p s) {u v k l x : ℕ} {r : List Msg
     Q1 = Q1′;
   }
 
-pub inv-absorb : {p : Network} {s : State} → Inv p s → {u v k l x : ℕ} {r : List Msg} → Idle s → Ends p k u v → s.st v ≢ 0 → s.ch u k ≡ connect l ∷ r → l < s.lev v → Flag s v x
+pub inv-absorb : {p : Network} {s : ProtocolState} → Inv p s → {u v k l x : ℕ} {r : List Msg} → Idle s → Edge p k u v → s.st v ≢ 0 → s.ch u k ≡ connect l ∷ r → l < s.lev v → Flag s v x
     → Inv p (absorbed (pop s u k r) u v k x)
 inv-absorb i a b c d e f = inv i (record { idle = a; ends = b; awake = c; q = d; lower = e; flag = f })

@@ -2,19 +2,19 @@
 use Rattle.protocol.specs.Prelude.{ℕ, _+_, _^_, _≤_, _<_, arith, _≡_, refl, sym, ap, subst, _∙_, _≢_, inl, inr, ⊎-elim}
 use Rattle.protocol.specs.Prelude.{List, upd-elim, upd2-elim, by-eq, sum, size-mono}
 use Rattle.protocol.specs.Prelude.{Msg, none}
-use Rattle.protocol.specs.Prelude.{Network, Ends, Tree, key, rank, joins-lt, flip, other-end, end-lt, same-edge, Way, join, hop, wider, State, absorbed, pop}
+use Rattle.protocol.specs.Prelude.{Network, Edge, Tree, key, rank, joins-lt, flip, other-end, end-lt, same-edge, Way, join, hop, wider, ProtocolState, absorbed, pop}
 use Rattle.protocol.specs.Prelude.{bulk-elim, sum-row, row-else, both-joined}
 use Rattle.protocol.specs.Prelude.{at2}
-use Rattle.protocol.specs.Prelude.{Both, Joined, members, GL, Inv}
+use Rattle.protocol.specs.Prelude.{Both, JoinedEdge, members, GL, Inv}
 use Rattle.protocol.specs.Prelude.{waits-find, no-waits}
 use Rattle.protocol.specs.Fragments.{Ranges, Levels, Sizes, Cores, Sleepers, Marks, Inbounds}
 use Rattle.protocol.specs.Decisions.{Halves, ChangeRoots, Rootings, Finishes}
-use Rattle.protocol.specs.Search.{Parents, Kids, Finds, Pending, Counts, Tests, Weights}
+use Rattle.protocol.specs.Search.{Parents, Kids, Finds, Pending, FindCounts, Tests, Weights}
 use Rattle.protocol_tell.specs.Sunk.{Absorbs}
 use Rattle.protocol_tell.specs.Sunk as F
 
-module _ {p : Network} {s : State} (i : Inv p s) {u v k l x : ℕ} {r : List Msg} (act : Absorbs p s u v k l x r) where
-  abbrev S′ : State
+module _ {p : Network} {s : ProtocolState} (i : Inv p s) {u v k l x : ℕ} {r : List Msg} (act : Absorbs p s u v k l x r) where
+  abbrev S′ : ProtocolState
   S′ = absorbed (pop s u k r) u v k x
 
   pub W0′ : Ranges s.st s.halt S′.due s.dk S′.mark
@@ -57,7 +57,7 @@ module _ {p : Network} {s : State} (i : Inv p s) {u v k l x : ℕ} {r : List Msg
   pub G5′ : Cores p S′.fr s.gl s.gc S′.mark
   G5′ = record {
     g5r = λ w. F.lab i act (λ a. 1 ≤ s.gl a → s.gc a < p.g.L) w (λ z n. i.G5.g5r z);
-    g5 = λ w a b. F.lab i act (λ y. 1 ≤ s.gl y → Ends p (s.gc y) a b → Both S′.mark (s.gc y) a b × (S′.fr a ≡ y)) w
+    g5 = λ w a b. F.lab i act (λ y. 1 ≤ s.gl y → Edge p (s.gc y) a b → Both S′.mark (s.gc y) a b × (S′.fr a ≡ y)) w
         (λ z n h e. let t = i.G5.g5 z a b h e in (F.up-both i act (s.gc (s.fr z)) a b (t .0), F.fr-out i act a (λ y. n (sym (t .1) ∙ y)) ∙ t .1));
   }
 
@@ -71,13 +71,13 @@ module _ {p : Network} {s : State} (i : Inv p s) {u v k l x : ℕ} {r : List Msg
     g7 = λ j w y e a. by-eq (s.fr w) (s.fr u) (λ d h. absurd (omega (arith, h, ap s.gl (F.fr-in i act w d), F.rise i act)))
         (λ n. subst (λ b. s.gl b ≡ 0 → s.dk b ≡ 3) (sym (F.fr-out i act w n)) (i.G6.g7 j w y e a));
     g7n = λ w a. by-eq (s.fr w) (s.fr u) (λ d h. absurd (omega (arith, h, ap s.gl (F.fr-in i act w d), F.rise i act)))
-        (λ n. subst (λ b. s.gl b ≡ 0 → ((j y : ℕ) → Ends p j w y → ⊥) → (s.dk b ≡ 4) × (s.halt w ≡ 1)) (sym (F.fr-out i act w n)) (i.G6.g7n w a));
+        (λ n. subst (λ b. s.gl b ≡ 0 → ((j y : ℕ) → Edge p j w y → ⊥) → (s.dk b ≡ 4) × (s.halt w ≡ 1)) (sym (F.fr-out i act w n)) (i.G6.g7n w a));
   }
 
   pub M1′ : Marks p S′.fr S′.mark
   M1′ = record {
-    own = λ w j. upd2-elim (λ y. y ≢ 0 → (z : ℕ) × Ends p j w z) s.mark v k 1 w j
-        (λ a b n. (u, subst (λ y. Ends p y w u) b (subst (λ y. Ends p k y u) a (flip act.ends)))) (λ m n. i.M1.own w j n);
+    own = λ w j. upd2-elim (λ y. y ≢ 0 → (z : ℕ) × Edge p j w z) s.mark v k 1 w j
+        (λ a b n. (u, subst (λ y. Edge p y w u) b (subst (λ y. Edge p k y u) a (flip act.ends)))) (λ m n. i.M1.own w j n);
     m1 = λ j w y e h. let t = i.M1.m1 j w y e (F.dn2 i act w j h) in (
       F.fr-keep i act w y (t .0),
       upd2-elim (λ z. z ≢ 1) s.mark v k 1 y j
@@ -95,10 +95,10 @@ module _ {p : Network} {s : State} (i : Inv p s) {u v k l x : ℕ} {r : List Msg
         (λ a b h. subst (λ z. Tree p z) b (i.M1.m5 k u v act.ends (F.mark-u i act))) (λ n h. i.M1.m5 j w y e h);
   }
     where
-      at : (j w y : ℕ) → Ends p j w y → v ≡ y → k ≡ j → s.mark w j ≡ s.mark u k
+      at : (j w y : ℕ) → Edge p j w y → v ≡ y → k ≡ j → s.mark w j ≡ s.mark u k
       at j w y e a b = sym (at2 s.mark (other-end (flip act.ends) (flip e) a b) b)
 
-      wide : {a b : ℕ} → Way p.g (Joined p s.mark) a b → Way p.g (Joined p S′.mark) a b
+      wide : {a b : ℕ} → Way p.g (JoinedEdge p s.mark) a b → Way p.g (JoinedEdge p S′.mark) a b
       wide = wider (λ e l h. F.up-both i act e (p.g.lo e) (p.g.hi e) h)
 
   pub U1′ : Inbounds p s.ub s.ib S′.mark
@@ -119,7 +119,7 @@ module _ {p : Network} {s : State} (i : Inv p s) {u v k l x : ℕ} {r : List Msg
         (λ d. let t = i.D1.m2 j w y e (sym (F.mark-off i act w j (inr d)) ∙ h) (λ m. n (F.up1 i act y j m)) in
         F.dec-new i act 3 w j (λ a. d (sym (F.half i act .2) ∙ ap s.de (sym a) ∙ t .2)) t);
     d1f = λ w. F.lab i act (λ a. s.dk a ≡ 3 → S′.fr (s.dn a) ≡ a) w (λ z n h. F.fr-out i act (s.dn (s.fr z)) (λ y. n (sym (i.D1.d1f z h) ∙ y)) ∙ i.D1.d1f z h);
-    d1e = λ w. F.lab i act (λ a. s.dk a ≡ 3 → (y : ℕ) × Ends p (s.de a) (s.dn a) y) w (λ z n. i.D1.d1e z);
+    d1e = λ w. F.lab i act (λ a. s.dk a ≡ 3 → (y : ℕ) × Edge p (s.de a) (s.dn a) y) w (λ z n. i.D1.d1e z);
     d1 = λ j z y e h.
         let n = F.half-out i act z j h in
         let t = i.D1.d1 j z y e (F.half-old i act z j h) in
@@ -137,7 +137,7 @@ module _ {p : Network} {s : State} (i : Inv p s) {u v k l x : ℕ} {r : List Msg
   pub D2′ : ChangeRoots p s.dk s.dn s.de S′.fr s.gl s.gc s.lev s.ib s.ub s.bw S′.mark
   D2′ = record {
     d2f = λ w. F.lab i act (λ a. s.dk a ≡ 2 → S′.fr (s.dn a) ≡ a) w (λ z n h. F.fr-out i act (s.dn (s.fr z)) (λ y. n (sym (i.D2.d2f z h) ∙ y)) ∙ i.D2.d2f z h);
-    d2e = λ w. F.lab i act (λ a. s.dk a ≡ 2 → (y : ℕ) × Ends p (s.de a) (s.dn a) y) w (λ z n. i.D2.d2e z);
+    d2e = λ w. F.lab i act (λ a. s.dk a ≡ 2 → (y : ℕ) × Edge p (s.de a) (s.dn a) y) w (λ z n. i.D2.d2e z);
     d2 = λ j a y e h.
         let n = F.changing-out i act a j h in
         let t = i.D2.d2 j a y e (F.changing-old i act a j h) in
@@ -173,7 +173,7 @@ module _ {p : Network} {s : State} (i : Inv p s) {u v k l x : ℕ} {r : List Msg
         (λ e h. F.due-in i act w e ∙ i.D4.d5 v (λ d. h (ap s.dk (F.fr-in i act w e) ∙ d)))
         (λ n h. F.due-out i act w n ∙ i.D4.d5 w (λ d. h (ap s.dk (F.fr-out i act w n) ∙ d)));
     d6 = λ w h. let d = i.D4.d6 w h in ap s.dk (F.fr-out i act w (F.dk-out i act w (λ e. omega arith))) ∙ d;
-    d6c = λ j w y e h. let d = i.D4.d6 w h in subst (λ a. (z : ℕ) × Ends p (s.gc a) w z) (sym (F.fr-out i act w (F.dk-out i act w (λ e. omega arith)))) (i.D4.d6c j w y e h);
+    d6c = λ j w y e h. let d = i.D4.d6 w h in subst (λ a. (z : ℕ) × Edge p (s.gc a) w z) (sym (F.fr-out i act w (F.dk-out i act w (λ e. omega arith)))) (i.D4.d6c j w y e h);
   }
 
   -- ---- the tree and the search
@@ -231,14 +231,14 @@ module _ {p : Network} {s : State} (i : Inv p s) {u v k l x : ℕ} {r : List Msg
     f5p = i.F2.f5p;
   }
 
-  pub F4′ : Counts p S′.fc S′.owe
+  pub F4′ : FindCounts p S′.fc S′.owe
   F4′ = record {
     f4 = λ w. upd-elim (λ y. y ≡ sum p.g.L (S′.owe w)) s.fc v (s.fc v + x) w
         (λ e. subst (λ y. s.fc v + x ≡ sum p.g.L (S′.owe y)) e (omega (arith, i.F4.f4 v, sum-row p.g.L v k x s.owe (joins-lt act.ends), F.owe-v i act)))
         (λ n. i.F4.f4 w ∙ ap (sum p.g.L) (sym (row-else v k x s.owe w n)));
     f4l = λ w j. upd2-elim (λ y. y ≤ 1) s.owe v k x w j (λ a b. F.bit-le i act) (λ n. i.F4.f4l w j);
-    f4o = λ w j. upd2-elim (λ y. y ≢ 0 → (c : ℕ) × Ends p j w c) s.owe v k x w j
-        (λ a b n. (u, subst (λ y. Ends p y w u) b (subst (λ y. Ends p k y u) a (flip act.ends)))) (λ m n. i.F4.f4o w j n);
+    f4o = λ w j. upd2-elim (λ y. y ≢ 0 → (c : ℕ) × Edge p j w c) s.owe v k x w j
+        (λ a b n. (u, subst (λ y. Edge p y w u) b (subst (λ y. Edge p k y u) a (flip act.ends)))) (λ m n. i.F4.f4o w j n);
   }
 
   pub E2′ : Tests p s.te s.ib S′.mark s.ot

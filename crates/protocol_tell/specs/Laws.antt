@@ -1,7 +1,7 @@
 -- Laws for the steps that send Initiates.
 use Rattle.protocol.specs.Prelude.{ℕ, arith, _≡_, refl, sym, ap, subst, _∙_, inl, inr, List, Msg, initiate}
 use Rattle.protocol.specs.Prelude.{Graph, Joins, arg1, arg2, arg3, Bool, true, false, _≢_}
-use Rattle.protocol.specs.Prelude.{_⊎_, [], _∷_, _++_, fan, fan-elim, fill, fill-elim}
+use Rattle.protocol.specs.Prelude.{_⊎_, [], _∷_, _++_, fan, fan-elim, fillEdges, fill-elim}
 
 pub ends-at : {g : Graph} {j v w y : ℕ} → v ≡ w → Joins g j w y → Joins g j v y
 ends-at {g} {j} {y} e h = subst (λ n. Joins g j n y) (sym e) h
@@ -30,5 +30,5 @@ module _ (v : ℕ) (f : ℕ → Bool) (j : ℕ) (h : f j ≡ true) where
   pub fan-here : (c : ℕ → ℕ → List Msg) (m : Msg) → fan c v f m v j ≡ c v j ++ (m ∷ [])
   fan-here c m = fan-elim (λ l. l ≡ c v j ++ (m ∷ [])) c v f m v j (λ a b. refl) (λ n. absurd (clash n))
 
-  pub fill-here : (t : ℕ → ℕ → ℕ) (x : ℕ) → fill t v f x v j ≡ x
+  pub fill-here : (t : ℕ → ℕ → ℕ) (x : ℕ) → fillEdges t v f x v j ≡ x
   fill-here t x = fill-elim (λ y. y ≡ x) t v f x v j (λ a b. refl) (λ n. absurd (clash n))

@@ -2,14 +2,14 @@
 use Rattle.protocol.specs.Prelude.{ℕ, _≤_, arith, _≡_, refl, sym, ap, subst, _∙_, _≢_, _⊎_, inl, inr, ⊎-elim}
 use Rattle.protocol.specs.Prelude.{List, [], _∷_, upd2, by-eq, All, sumL}
 use Rattle.protocol.specs.Prelude.{Msg, connect, initiate}
-use Rattle.protocol.specs.Prelude.{Network, Ends, flip, other-end, State, set-ch}
+use Rattle.protocol.specs.Prelude.{Network, Edge, flip, other-end, ProtocolState, set-ch}
 use Rattle.protocol.specs.Prelude.{isC, Fits, top, top-app, pop-top}
 use Rattle.protocol.specs.Prelude.{In, Bef, in-nil, at2, else-same, here-new, pop-head, pop-in, in-pop, pop-bef, pop-sum, pop-all}
 use Rattle.protocol.specs.Prelude.{snoc, snoc-elim, snoc-in, in-snoc2, in-new, snoc-bef, snoc-sum, snoc-else, snoc-all}
 use Rattle.protocol.specs.Prelude.{Inv, rest-none, fits-initiate}
 use Rattle.protocol.specs.Traffic.{Hush, Ordered}
 
-module _ {p : Network} {s : State} (i : Inv p s) {u v k l : ℕ} {r : List Msg} (ends : Ends p k u v) (q : s.ch u k ≡ connect l ∷ r) (a f x : ℕ) where
+module _ {p : Network} {s : ProtocolState} (i : Inv p s) {u v k l : ℕ} {r : List Msg} (ends : Edge p k u v) (q : s.ch u k ≡ connect l ∷ r) (a f x : ℕ) where
   abbrev reply : Msg
   reply = initiate a f x
 

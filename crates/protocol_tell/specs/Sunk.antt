@@ -2,7 +2,7 @@
 use Rattle.protocol.specs.Prelude.{ℕ, _≤_, _<_, arith, _≡_, refl, sym, ap, subst, _∙_, _≢_, _⊎_, inl, inr, ⊎-elim}
 use Rattle.protocol.specs.Prelude.{List, _∷_, upd2-elim, by-eq}
 use Rattle.protocol.specs.Prelude.{Msg, connect, initiate}
-use Rattle.protocol.specs.Prelude.{Network, Ends, flip, same-edge, State, Idle, Flag, absorbed, pop}
+use Rattle.protocol.specs.Prelude.{Network, Edge, flip, same-edge, ProtocolState, Idle, Flag, absorbed, pop}
 use Rattle.protocol.specs.Prelude.{bulk-elim, bulk-in, bulk-out, relabel-keep, relabel-cases}
 use Rattle.protocol.specs.Prelude.{In, at2, here-new, else-same, all-in, pop-head}
 use Rattle.protocol.specs.Prelude.{Bounding, Decision, GL, GC, DK, Inf, Jn, Half, Changing, Inv}
@@ -10,16 +10,16 @@ use Rattle.protocol.specs.Prelude.{half-at, no-root, no-connect-decided}
 use Rattle.protocol.specs.Decisions.{HalfOk}
 
 -- the guards of the step
-pub record Absorbs (p : Network) (s : State) (u v k l x : ℕ) (r : List Msg) : Type 0 where
+pub record Absorbs (p : Network) (s : ProtocolState) (u v k l x : ℕ) (r : List Msg) : Type 0 where
   pub idle : Idle s
-  pub ends : Ends p k u v
+  pub ends : Edge p k u v
   pub awake : s.st v ≢ 0
   pub q : s.ch u k ≡ connect l ∷ r
   pub lower : l < s.lev v
   pub flag : Flag s v x
 
-module _ {p : Network} {s : State} (i : Inv p s) {u v k l x : ℕ} {r : List Msg} (act : Absorbs p s u v k l x r) where
-  abbrev S′ : State
+module _ {p : Network} {s : ProtocolState} (i : Inv p s) {u v k l x : ℕ} {r : List Msg} (act : Absorbs p s u v k l x r) where
+  abbrev S′ : ProtocolState
   S′ = absorbed (pop s u k r) u v k x
 
   pub head : In (connect l) (s.ch u k)
@@ -124,7 +124,7 @@ module _ {p : Network} {s : State} (i : Inv p s) {u v k l x : ℕ} {r : List Msg
   up-both j a b h = (up1 a j (h .0), up1 b j (h .1))
 
   -- a joined edge: k, from either end, or one that was joined
-  pub jn {κ} : {C : Type κ} (j a b : ℕ) → Ends p j a b → Jn S′ j a b → (v ≡ a → u ≡ b → k ≡ j → C) → (u ≡ a → v ≡ b → k ≡ j → C) → (k ≢ j → Jn s j a b → C) → C
+  pub jn {κ} : {C : Type κ} (j a b : ℕ) → Edge p j a b → Jn S′ j a b → (v ≡ a → u ≡ b → k ≡ j → C) → (u ≡ a → v ≡ b → k ≡ j → C) → (k ≢ j → Jn s j a b → C) → C
   jn j a b e h f g o = by-eq k j
       (λ z. ⊎-elim (λ t. g (t .0) (t .1) z) (λ t. f (t .1) (t .0) z) (same-edge act.ends e z))
       (λ n. o n (sym (mark-off a j (inr n)) ∙ h .0, sym (mark-off b j (inr n)) ∙ h .1))
@@ -185,7 +185,7 @@ module _ {p : Network} {s : State} (i : Inv p s) {u v k l x : ℕ} {r : List Msg
   -- ---- the core, k, and what is under way
 
   -- a core end now was one, and k is not the core
-  pub core-out : (j a b : ℕ) → Ends p j a b → Jn S′ j a b → GC S′ a ≡ j → (s.fr a ≢ s.fr u) × (k ≢ j) × Jn s j a b
+  pub core-out : (j a b : ℕ) → Edge p j a b → Jn S′ j a b → GC S′ a ≡ j → (s.fr a ≢ s.fr u) × (k ≢ j) × Jn s j a b
   core-out j a b e h g = jn j a b e h
       (λ y z o. absurd (not-core y o))
       (λ y z o. absurd (in-d (sym (ap s.fr y))))
@@ -194,13 +194,13 @@ module _ {p : Network} {s : State} (i : Inv p s) {u v k l x : ℕ} {r : List Msg
       not-core : v ≡ a → k ≡ j → ⊥
       not-core y o =
           let c : GC s v ≡ k = ap s.gc (sym (fr-out v apart)) ∙ ap (λ w. GC S′ w) y ∙ g ∙ sym o in
-          let t = i.G5.g5 v v u (omega (arith, rise)) (subst (λ n. Ends p n v u) (sym c) (flip act.ends)) in
+          let t = i.G5.g5 v v u (omega (arith, rise)) (subst (λ n. Edge p n v u) (sym c) (flip act.ends)) in
           omega (arith, mark-v, t .0 .0, ap (s.mark v) c)
 
       in-d : s.fr a ≢ s.fr u
       in-d d =
           let c : GC s v ≡ j = ap s.gc (sym (fr-in a d)) ∙ g in
-          let t = i.G5.g5 v a b (omega (arith, rise)) (subst (λ n. Ends p n a b) (sym c) e) in
+          let t = i.G5.g5 v a b (omega (arith, rise)) (subst (λ n. Edge p n a b) (sym c) e) in
           apart (sym (t .1) ∙ d)
 
   -- nothing was owed over k
@@ -214,7 +214,7 @@ module _ {p : Network} {s : State} (i : Inv p s) {u v k l x : ℕ} {r : List Msg
   no-ib z = omega (arith, mark-v, i.U1.u1i k v u (flip act.ends) z .0)
 
   -- k was joined from neither end
-  pub not-joined : (j a b : ℕ) → Ends p j a b → Jn s j a b → k ≢ j
+  pub not-joined : (j a b : ℕ) → Edge p j a b → Jn s j a b → k ≢ j
   not-joined j a b e h z = ⊎-elim (λ t. omega (arith, mark-v, h .1, at2 s.mark (t .1) z)) (λ t. omega (arith, mark-v, h .0, at2 s.mark (t .1) z))
       (same-edge act.ends e z)
 
@@ -223,5 +223,5 @@ module _ {p : Network} {s : State} (i : Inv p s) {u v k l x : ℕ} {r : List Msg
   no-init n g y h = omega (arith, mark-v, i.I1.i1 k v u n g y (flip act.ends) h .i1j .0)
 
   -- a Connect that is left over a joined edge is in another fragment than D
-  pub call-out : (j w y n : ℕ) → Ends p j w y → In (connect n) (s.ch w j) → Jn s j w y → s.fr w ≢ s.fr u
+  pub call-out : (j w y n : ℕ) → Edge p j w y → In (connect n) (s.ch w j) → Jn s j w y → s.fr w ≢ s.fr u
   call-out j w y n e h b d = no-connect-decided i j w y n e b (λ z. omega (arith, half .0, ap s.dk d)) h

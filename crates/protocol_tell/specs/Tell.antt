@@ -1,7 +1,7 @@
 -- Initiate (l, f, x) from u at v over k: v takes level, identity and status from it, and sends copies over its other branches.
 use Rattle.protocol.specs.Prelude.{ℕ, suc, _≤_, _<_, arith, _≡_, refl, sym, ap, subst, _∙_, _≢_, _⊎_, inl, inr, ⊎-elim, List, [], _∷_, Bool, true, upd2}
-use Rattle.protocol.specs.Prelude.{upd-other, by-eq, sumL, All, All-app, con, nil, Msg, connect, initiate, Network, Ends, key, flip, other-end, ends-irr, State, Idle, Mode}
-use Rattle.protocol.specs.Prelude.{Place, informed, pop, copy, isC, isT, isA, isR, isK, arg1, top, top-app, Fits, fits-initiate, In, in-nil, at2, else-same}
+use Rattle.protocol.specs.Prelude.{upd-other, by-eq, sumL, All, All-app, con, nil, Msg, connect, initiate, Network, Edge, key, flip, other-end, ends-irr, ProtocolState, Idle, Mode}
+use Rattle.protocol.specs.Prelude.{Place, initiated, pop, copy, isC, isT, isA, isR, isK, arg1, top, top-app, Fits, fits-initiate, In, in-nil, at2, else-same}
 use Rattle.protocol.specs.Prelude.{pop-in, in-pop, pop-bef, pop-all, fan-elim, in-fan, fan-new, fan-bef, fan-else, GL, GC, Inf, Jn, Inv, mark-awake, no-root}
 use Rattle.protocol.specs.Traffic.{Hush, Tokens, Connects, InitOk, Initiates, Telling, Testing, Answers, Ordered}
 use Rattle.protocol_tell.specs.Laws.{ends-at, three, six, init-eq, fan-here}
@@ -10,9 +10,9 @@ use Rattle.protocol_tell.specs.Heard as F
 use Rattle.protocol_tell.specs.TellTables as T
 use Rattle.protocol_tell.specs.TellReports as R
 
-module _ {p : Network} {s : State} (i : Inv p s) {u v k l f x a b d e : ℕ} {r : List Msg} (act : Tells p s u v k l f x a b d e r) where
-  abbrev S′ : State
-  S′ = informed p (pop s u k r) v k l f x a d e b
+module _ {p : Network} {s : ProtocolState} (i : Inv p s) {u v k l f x a b d e : ℕ} {r : List Msg} (act : Tells p s u v k l f x a b d e r) where
+  abbrev S′ : ProtocolState
+  S′ = initiated p (pop s u k r) v k l f x a d e b
 
   abbrev ok : InitOk p s.lev s.fr s.gl s.gc s.ub s.due s.mark k u v l f x
   ok = F.ok i act
@@ -48,7 +48,7 @@ module _ {p : Network} {s : State} (i : Inv p s) {u v k l f x a b d e : ℕ} {r 
       silent : (w j : ℕ) → s.ch w j ≡ [] → (u ≢ w) ⊎ (k ≢ j)
       silent w j h = by-eq u w (λ y. by-eq k j (λ z. absurd (in-nil (subst (λ t. In m t) (at2 s.ch y z ∙ h) (F.head i act)))) (λ z. inr z)) (λ y. inl y)
 
-      kid-mark : (j w y : ℕ) → Ends p j w y → v ≡ w → kid j ≡ true → s.mark y j ≡ 1
+      kid-mark : (j w y : ℕ) → Edge p j w y → v ≡ w → kid j ≡ true → s.mark y j ≡ 1
       kid-mark j w y g z o = let t = F.kid-yes i act j o in F.kid-joined i act j y (ends-at z g) (t .0) (t .1) .1
 
   Dc′ : Tokens p S′
@@ -73,7 +73,7 @@ module _ {p : Network} {s : State} (i : Inv p s) {u v k l f x a b d e : ℕ} {r 
         (i.Dc.d7 j y z g c h t (sym (F.st-else i act y w) ∙ o)));
   }
     where
-      found : (j y z : ℕ) → Ends p j y z → GC s y ≡ j → v ≡ y → a ≡ 1
+      found : (j y z : ℕ) → Edge p j y z → GC s y ≡ j → v ≡ y → a ≡ 1
       found j y z g c w = F.find-of i act (λ t. omega (arith, t, F.core-find i act j z (ends-at w g) (ap (λ n. GC s n) w ∙ c))) .0
 
   C1′ : Connects p S′
@@ -86,7 +86,7 @@ module _ {p : Network} {s : State} (i : Inv p s) {u v k l f x a b d e : ℕ} {r 
   }
     where
       -- a Connect to v over a joined edge would be over the core, behind the Initiate
-      no-call : (j w y n : ℕ) → Ends p j w y → In (connect n) (S′.ch w j) → s.mark y j ≡ 1 → v ≡ y → GC s w ≡ j → ⊥
+      no-call : (j w y n : ℕ) → Edge p j w y → In (connect n) (S′.ch w j) → s.mark y j ≡ 1 → v ≡ y → GC s w ≡ j → ⊥
       no-call j w y n g h o z c =
           let fr = i.M1.m3 j w y g (i.C1.c1m j w y n g (old isC refl (omega arith) w j h), o) in
           let t = F.core-k i act j w (ends-at z (flip g)) (ap (λ n. GC s n) z ∙ ap s.gc (sym fr) ∙ c) in
@@ -104,7 +104,7 @@ module _ {p : Network} {s : State} (i : Inv p s) {u v k l f x a b d e : ℕ} {r 
         (F.was i act w j o);
   }
     where
-      fresh : (j c : ℕ) → Ends p j v c → k ≢ j → s.mark v j ≡ 1 → InitOk p S′.lev s.fr s.gl s.gc s.ub s.due s.mark j v c l f x
+      fresh : (j c : ℕ) → Edge p j v c → k ≢ j → s.mark v j ≡ 1 → InitOk p S′.lev s.fr s.gl s.gc s.ub s.due s.mark j v c l f x
       fresh j c g n o =
           let fr = F.kid-fr i act j c g n o in
           let gl = ap s.gl fr in
@@ -122,7 +122,7 @@ module _ {p : Network} {s : State} (i : Inv p s) {u v k l f x a b d e : ℕ} {r 
           }
 
       -- an old one whose receiver is still below its level
-      again : (j w y n c h : ℕ) → Ends p j w y → In (initiate n c h) (s.ch w j) → S′.lev y < n → InitOk p S′.lev s.fr s.gl s.gc s.ub s.due s.mark j w y n c h
+      again : (j w y n c h : ℕ) → Edge p j w y → In (initiate n c h) (s.ch w j) → S′.lev y < n → InitOk p S′.lev s.fr s.gl s.gc s.ub s.due s.mark j w y n c h
       again j w y n c h g o lt =
           let t = i.I1.i1 j w y n c h g o in
           record {
@@ -139,7 +139,7 @@ module _ {p : Network} {s : State} (i : Inv p s) {u v k l f x a b d e : ℕ} {r 
           }
 
       -- those left to v are behind the Initiate that it serves
-      left : (j w y n c h : ℕ) → Ends p j w y → v ≡ y → In (initiate n c h) (s.ch w j) → In (initiate n c h) (S′.ch w j) → S′.lev y < n
+      left : (j w y n c h : ℕ) → Edge p j w y → v ≡ y → In (initiate n c h) (s.ch w j) → In (initiate n c h) (S′.ch w j) → S′.lev y < n
       left j w y n c h g z q o =
           let jk : k ≡ j = sym (ok.i1u) ∙ ap s.ub z ∙ i.I1.i1 j w y n c h g q .i1u in
           let uw : u ≡ w = other-end (flip act.ends) (flip g) z jk in
@@ -180,7 +180,7 @@ module _ {p : Network} {s : State} (i : Inv p s) {u v k l f x a b d e : ℕ} {r 
       kid-of j w z h n = F.kid-on i act j n (ap (λ n. s.mark n j) z ∙ h)
 
       -- to another than v nothing changed; to v the Initiate has been served
-      far : (j w c : ℕ) → Ends p j w c → Jn s j w c → s.ub w ≢ j → v ≢ w → top (S′.lev c) (S′.ch w j) ≡ top (s.lev c) (s.ch w j)
+      far : (j w c : ℕ) → Edge p j w c → Jn s j w c → s.ub w ≢ j → v ≢ w → top (S′.lev c) (S′.ch w j) ≡ top (s.lev c) (s.ch w j)
       far j w c g h n o = by-eq v c
           (λ z. let jk : k ≡ j = sym (ok.i1u) ∙ ap s.ub z ∙ ⊎-elim (λ t. absurd (n t)) (λ t. t) (i.U1.m3u j w c g h) in
           three (λ j w c. top (S′.lev c) (S′.ch w j) ≡ top (s.lev c) (s.ch w j)) jk (other-end (flip act.ends) (flip g) z jk) z served)
@@ -190,7 +190,7 @@ module _ {p : Network} {s : State} (i : Inv p s) {u v k l f x a b d e : ℕ} {r 
           served = ap (top (S′.lev v)) (F.rest i act) ∙ ap (λ t. top t r) (F.lev-v i act) ∙ sym (ap (top (s.lev v)) act.q)
 
       -- to an end of the core the Initiate itself was the one
-      moved : (j y z : ℕ) → Ends p j v z → v ≡ y → GC s v ≡ j → In (initiate (GL s y) j 1) (s.ch z j)
+      moved : (j y z : ℕ) → Edge p j v z → v ≡ y → GC s v ≡ j → In (initiate (GL s y) j 1) (s.ch z j)
       moved j y z g w c =
           let t = F.core-k i act j z g c in
           let q = F.core-full i act j z g c in
@@ -210,7 +210,7 @@ module _ {p : Network} {s : State} (i : Inv p s) {u v k l f x a b d e : ℕ} {r 
     m6t = λ j w y g h o. same isT refl y j ∙ i.E1.m6t j w y g h o;
   }
     where
-      apart : (j w y : ℕ) → Ends p j w y → (s.te y ≢ j) ⊎ (b ≡ suc y) → s.te y ≢ j
+      apart : (j w y : ℕ) → Edge p j w y → (s.te y ≢ j) ⊎ (b ≡ suc y) → s.te y ≢ j
       apart j w y g (inl n) = n
       apart j w y g (inr z) = λ t. F.waits-new i act j y w (flip g) (t, λ o. omega (arith, act.idle .0)) .1 z
 
@@ -270,6 +270,6 @@ module _ {p : Network} {s : State} (i : Inv p s) {u v k l f x a b d e : ℕ} {r 
     Q1 = Q1′;
   }
 
-pub inv-tell : {p : Network} {s : State} → Inv p s → {u v k l f x a b d e : ℕ} {r : List Msg} → Idle s → Ends p k u v → s.ch u k ≡ initiate l f x ∷ r → Mode v x a b → Place s u v k d e
-    → Inv p (informed p (pop s u k r) v k l f x a d e b)
+pub inv-tell : {p : Network} {s : ProtocolState} → Inv p s → {u v k l f x a b d e : ℕ} {r : List Msg} → Idle s → Edge p k u v → s.ch u k ≡ initiate l f x ∷ r → Mode v x a b → Place s u v k d e
+    → Inv p (initiated p (pop s u k r) v k l f x a d e b)
 inv-tell i h g q m n = inv i (record { idle = h; ends = g; q = q; mode = m; place = n })

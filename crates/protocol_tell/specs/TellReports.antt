@@ -1,6 +1,6 @@
 -- v serves Initiate (l, f, x) from u over k: the clauses on Reports, on what is owed, and on best weights.
 use Rattle.protocol.specs.Prelude.{ℕ, suc, _≤_, _<_, arith, _≡_, refl, sym, ap, subst, _∙_, _≢_, _⊎_, inl, inr, ⊎-elim, List, Bool, upd2, upd-other, by-eq}
-use Rattle.protocol.specs.Prelude.{sumL, Msg, connect, initiate, report, Network, Ends, key, rank, flip, ends-irr, State, informed, pop, copy, fill-elim}
+use Rattle.protocol.specs.Prelude.{sumL, Msg, connect, initiate, report, Network, Edge, key, rank, flip, ends-irr, ProtocolState, initiated, pop, copy, fill-elim}
 use Rattle.protocol.specs.Prelude.{fill-else, isCI, isR, kinds, no-calls, some-report, In, next, Bef, tails, pop-bef, fan-bef, GL, GC, Inf, Jn, Outst, Covered}
 use Rattle.protocol.specs.Prelude.{CoreEnds, Spent, Inv}
 use Rattle.protocol.specs.Traffic.{InitOk, Reports, Owing, Bests}
@@ -8,9 +8,9 @@ use Rattle.protocol_tell.specs.Laws.{ends-at, three, fill-here}
 use Rattle.protocol_tell.specs.Heard.{Tells}
 use Rattle.protocol_tell.specs.Heard as F
 
-module _ {p : Network} {s : State} (i : Inv p s) {u v k l f x a b d e : ℕ} {r : List Msg} (act : Tells p s u v k l f x a b d e r) where
-  abbrev S′ : State
-  S′ = informed p (pop s u k r) v k l f x a d e b
+module _ {p : Network} {s : ProtocolState} (i : Inv p s) {u v k l f x a b d e : ℕ} {r : List Msg} (act : Tells p s u v k l f x a b d e r) where
+  abbrev S′ : ProtocolState
+  S′ = initiated p (pop s u k r) v k l f x a d e b
 
   abbrev ok : InitOk p s.lev s.fr s.gl s.gc s.ub s.due s.mark k u v l f x
   ok = F.ok i act
@@ -51,9 +51,9 @@ module _ {p : Network} {s : State} (i : Inv p s) {u v k l f x a b d e : ℕ} {r 
       back : (y z w : ℕ) → In (initiate y z w) (S′.ch u k) → In (initiate y z w) (s.ch u k)
       back y z w h = subst (λ t. In (initiate y z w) t) (sym act.q) (next (subst (λ t. In (initiate y z w) t) (F.rest i act) h))
 
-  to-v : (j w y n : ℕ) → Ends p j w y → v ≡ y → In (report n) (s.ch w j) → CoreEnds S′ w y j n
+  to-v : (j w y n : ℕ) → Edge p j w y → v ≡ y → In (report n) (s.ch w j) → CoreEnds S′ w y j n
   to-v j w y n g z h =
-      let t = F.report-to i act j w n (subst (λ c. Ends p j w c) (sym z) g) h in
+      let t = F.report-to i act j w n (subst (λ c. Edge p j w c) (sym z) g) h in
       three (λ j w y. CoreEnds S′ w y j n) (t .0) (t .1) z
       (core-v n (t .2 ∙ sym (t .0)) (three (λ j w y. CoreEnds s w y j n) (sym (t .0)) (sym (t .1)) refl (t .3)))
 
@@ -121,7 +121,7 @@ module _ {p : Network} {s : State} (i : Inv p s) {u v k l f x a b d e : ℕ} {r 
       (λ z. subst (λ y. Outst S′ y j) z (⊎-elim (λ y. inl (F.inf-v i act (y .0), inl (F.st-v i act ∙ F.find-of i act (y .1) .0))) (λ y. inr (y, ap s.due z ∙ t .1)) (due-now (ap s.due z ∙ t .1))))
       (λ z. inr (F.is-low i act c z (t .0), t .1))
 
-  outst-old : (c j w : ℕ) → Ends p j w c → Inf s w → Outst S′ c j → Outst s c j
+  outst-old : (c j w : ℕ) → Edge p j w c → Inf s w → Outst S′ c j → Outst s c j
   outst-old c j w g h (inr t) = inr (F.was-low i act c (t .0), t .1)
   outst-old c j w g h (inl t) = F.inf i act c (t .0)
       (λ z o. subst (λ y. Outst s y j) z (⊎-elim
@@ -175,7 +175,7 @@ module _ {p : Network} {s : State} (i : Inv p s) {u v k l f x a b d e : ℕ} {r 
         let e = F.be-else i act w z in
         let t = i.B2.b1e w q (λ c. n (y ∙ c)) (λ c. o (e ∙ c ∙ sym y)) in
         let c = F.inf-else i act (t .0) (t .4) in
-        subst (λ j. (c : ℕ) × Ends p j w c × Jn s j w c × (S′.ib w ≢ j) × Inf S′ c × (S′.ib c ≡ j) × (S′.bw c ≡ S′.bw w) × (S′.st c ≡ 2) × (sumL isR (S′.ch c j) ≡ 0)) (sym e) (
+        subst (λ j. (c : ℕ) × Edge p j w c × Jn s j w c × (S′.ib w ≢ j) × Inf S′ c × (S′.ib c ≡ j) × (S′.bw c ≡ S′.bw w) × (S′.st c ≡ 2) × (sumL isR (S′.ch c j) ≡ 0)) (sym e) (
           t .0,
           t .1,
           t .2,

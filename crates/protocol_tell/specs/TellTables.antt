@@ -1,18 +1,18 @@
 -- v serves Initiate (l, f, x) from u over k: the clauses on tables.
 use Rattle.protocol.specs.Prelude.{ℕ, suc, _+_, _*_, _≤_, _<_, arith, _≡_, refl, sym, ap, subst, _∙_, _≢_, _⊎_, inl, inr, ⊎-elim, List, Bool, upd-same}
-use Rattle.protocol.specs.Prelude.{upd-other, upd-elim, by-eq, bit, sum, sum-eq, Msg, none, Network, Ends, key, flip, other-end, ends-irr, edge-some, State, informed, pop}
+use Rattle.protocol.specs.Prelude.{upd-other, upd-elim, by-eq, bit, sum, sum-eq, Msg, none, Network, Edge, key, flip, other-end, ends-irr, edge-some, ProtocolState, initiated, pop}
 use Rattle.protocol.specs.Prelude.{copy, fill-elim, fill-else, sum-fill, Bounding, GL, GC, Inf, Jn, Inv, no-root}
 use Rattle.protocol.specs.Fragments.{Ranges, Values, Levels, Sleepers, Inbounds}
 use Rattle.protocol.specs.Decisions.{Halves, ChangeRoots, Rootings, Finishes}
-use Rattle.protocol.specs.Search.{Parents, Kids, FindOk, Finds, Pending, Counts, Tests, Weights}
+use Rattle.protocol.specs.Search.{Parents, Kids, FindOk, Finds, Pending, FindCounts, Tests, Weights}
 use Rattle.protocol.specs.Traffic.{InitOk}
 use Rattle.protocol_tell.specs.Laws.{three}
 use Rattle.protocol_tell.specs.Heard.{Tells}
 use Rattle.protocol_tell.specs.Heard as F
 
-module _ {p : Network} {s : State} (i : Inv p s) {u v k l f x a b d e : ℕ} {r : List Msg} (act : Tells p s u v k l f x a b d e r) where
-  abbrev S′ : State
-  S′ = informed p (pop s u k r) v k l f x a d e b
+module _ {p : Network} {s : ProtocolState} (i : Inv p s) {u v k l f x a b d e : ℕ} {r : List Msg} (act : Tells p s u v k l f x a b d e r) where
+  abbrev S′ : ProtocolState
+  S′ = initiated p (pop s u k r) v k l f x a d e b
 
   abbrev ok : InitOk p s.lev s.fr s.gl s.gc s.ub s.due s.mark k u v l f x
   ok = F.ok i act
@@ -39,7 +39,7 @@ module _ {p : Network} {s : State} (i : Inv p s) {u v k l f x a b d e : ℕ} {r 
   pub W1′ : Values p S′.bw S′.be
   W1′ = record {
     w1w = λ w. upd-elim (λ y. y ≢ none → y < p.g.L) s.bw v none w (λ z h. absurd (h refl)) (λ n. i.W1.w1w w);
-    w1e = λ w. upd-elim (λ y. y ≢ none → (z : ℕ) × Ends p y w z) s.be v none w (λ z h. absurd (h refl)) (λ n. i.W1.w1e w);
+    w1e = λ w. upd-elim (λ y. y ≢ none → (z : ℕ) × Edge p y w z) s.be v none w (λ z h. absurd (h refl)) (λ n. i.W1.w1e w);
   }
 
   pub G2′ : Levels p S′.lev S′.id s.fr s.gl s.gc
@@ -50,7 +50,7 @@ module _ {p : Network} {s : State} (i : Inv p s) {u v k l f x a b d e : ℕ} {r 
         (λ n g. upd-other s.id v f w n ∙ i.G2.g2i w g);
     g3z = λ w. at w (λ y z g. y ≡ 0 → z ≡ none) (λ h. absurd (omega (arith, ok.i1l))) (i.G2.g3z w);
     g3r = λ w. at w (λ y z g. y ≢ 0 → z < p.g.L) (λ h. ok.i1f) (i.G2.g3r w);
-    g3 = λ w y z. at w (λ m n g. m ≢ 0 → Ends p n y z → s.fr y ≡ g) (λ h g. ok.i1i y z g) (i.G2.g3 w y z);
+    g3 = λ w y z. at w (λ m n g. m ≢ 0 → Edge p n y z → s.fr y ≡ g) (λ h g. ok.i1i y z g) (i.G2.g3 w y z);
   }
     where
       -- level, identity and label of w: those told to v, or as before
@@ -74,7 +74,7 @@ module _ {p : Network} {s : State} (i : Inv p s) {u v k l f x a b d e : ℕ} {r 
   U1′ = record {
     u1o = i.U1.u1o;
     u1 = i.U1.u1;
-    u1r = λ w. upd-elim (λ y. y ≢ none → (z : ℕ) × Ends p y w z) s.ib v k w (λ z h. (u, subst (λ n. Ends p k n u) z (flip act.ends))) (λ n. i.U1.u1r w);
+    u1r = λ w. upd-elim (λ y. y ≢ none → (z : ℕ) × Edge p y w z) s.ib v k w (λ z h. (u, subst (λ n. Edge p k n u) z (flip act.ends))) (λ n. i.U1.u1r w);
     u1i = λ j w y g. upd-elim (λ z. z ≡ j → Jn s j w y) s.ib v k w
         (λ z h. three (λ j w y. Jn s j w y) h z (other-end (flip act.ends) g z h) (ok.i1j .1, ok.i1j .0)) (λ n. i.U1.u1i j w y g);
     m3u = i.U1.m3u;
@@ -149,7 +149,7 @@ module _ {p : Network} {s : State} (i : Inv p s) {u v k l f x a b d e : ℕ} {r 
           upd-other s.side v e w n ∙ t .2 ∙ sym (upd-other s.side v e y m),
         ));
     t1e = λ j w y g h c. F.inf i act w h
-        (λ z o. sym (ap S′.ib z) ∙ F.ib-v i act ∙ F.core-k i act j y (subst (λ n. Ends p j n y) (sym z) g) (ap (λ n. GC s n) z ∙ c) .0)
+        (λ z o. sym (ap S′.ib z) ∙ F.ib-v i act ∙ F.core-k i act j y (subst (λ n. Edge p j n y) (sym z) g) (ap (λ n. GC s n) z ∙ c) .0)
         (λ n o. F.ib-else i act w n ∙ i.T1.t1e j w y g o c);
     t1u = λ w h c. F.inf i act w h (λ z o. sym (ap s.ub z) ∙ ok.i1u ∙ sym (F.ib-v i act) ∙ ap S′.ib z) (λ n o. i.T1.t1u w o c ∙ sym (F.ib-else i act w n));
   }
@@ -176,21 +176,21 @@ module _ {p : Network} {s : State} (i : Inv p s) {u v k l f x a b d e : ℕ} {r 
         (λ y t. absurd (omega (
           arith,
           t .1,
-          F.kid-low i act j c (subst (λ n. Ends p j n c) (sym o) g) (λ e. n (sym (ap S′.ib o) ∙ F.ib-v i act ∙ e)) (ap (λ n. s.mark n j) o ∙ h .0),
+          F.kid-low i act j c (subst (λ n. Edge p j n c) (sym o) g) (λ e. n (sym (ap S′.ib o) ∙ F.ib-v i act ∙ e)) (ap (λ n. s.mark n j) o ∙ h .0),
         ))))
         (λ o m. F.inf i act c z
         (λ y t. sym (ap S′.ib y) ∙ F.ib-v i act ∙ sym (ok.i1u)
-        ∙ told j w (subst (λ n. Ends p j w n) (sym y) g) (subst (λ n. Jn s j w n) (sym y) h) m (λ e. n (F.ib-else i act w o ∙ e)))
+        ∙ told j w (subst (λ n. Edge p j w n) (sym y) g) (subst (λ n. Jn s j w n) (sym y) h) m (λ e. n (F.ib-else i act w o ∙ e)))
         (λ y t. F.ib-else i act c y ∙ i.T2.t2 j w c g h m (λ e. n (F.ib-else i act w o ∙ e)) t));
     t3 = λ j y z g h m n. i.T2.t3 j y z g h (F.was-low i act y m) (F.was-low i act z n);
     t4u = λ j w y g h c n.
         let t = i.T2.t4u j w y g h c (F.was-low i act w n) in
-        let o : v ≢ w = λ z. omega (arith, n, F.lev-v i act, ap S′.lev z, ap (λ m. GL s m) z, F.core-full i act j y (subst (λ m. Ends p j m y) (sym z) g) (ap (λ m. GC s m) z ∙ c)) in
+        let o : v ≢ w = λ z. omega (arith, n, F.lev-v i act, ap S′.lev z, ap (λ m. GL s m) z, F.core-full i act j y (subst (λ m. Edge p j m y) (sym z) g) (ap (λ m. GC s m) z ∙ c)) in
         record { t4d = t.t4d; t4l = ap (λ m. m + 1) (F.lev-else i act w o) ∙ t.t4l; t4b = t.t4b; t4i = λ z. t.t4i (sym (F.ib-else i act w o) ∙ z) };
   }
     where
       -- beyond a branch of an informed node that is not its in-branch, v has that branch inbound
-      told : (j w : ℕ) → Ends p j w v → Jn s j w v → Inf s w → s.ib w ≢ j → s.ub v ≡ j
+      told : (j w : ℕ) → Edge p j w v → Jn s j w v → Inf s w → s.ib w ≢ j → s.ub v ≡ j
       told j w g h m n = i.I1.i1 j w v (GL s w) (GC s w) (s.due v) g (i.T4.t2i j w v g h m n (F.low i act)) .i1u
 
   pub F1′ : Finds S′.st S′.lev s.fr s.gl s.dk s.due
@@ -222,14 +222,14 @@ module _ {p : Network} {s : State} (i : Inv p s) {u v k l f x a b d e : ℕ} {r 
       idle-count h = let z : x ≡ 0 = by-eq x 0 (λ z. z) (λ n. absurd (h (F.find-of i act n .0))) in
           omega (arith, F.fc-none i act, ap (λ y. y * kids) z)
 
-  pub F4′ : Counts p S′.fc S′.owe
+  pub F4′ : FindCounts p S′.fc S′.owe
   F4′ = record {
     f4 = λ w. upd-elim (λ y. y ≡ sum p.g.L (S′.owe w)) s.fc v count w
         (λ z. subst (λ n. count ≡ sum p.g.L (S′.owe n)) z (omega (arith, F.fc-none i act, sum-fill p.g.L v x s.owe kid none-owed)))
         (λ n. i.F4.f4 w ∙ sum-eq p.g.L (s.owe w) (S′.owe w) (λ j h. sym (fill-else s.owe v kid x w j n)));
     f4l = λ w j. fill-elim (λ y. y ≤ 1) s.owe v kid x w j (λ z h. F.bit-le i act) (λ n. i.F4.f4l w j);
-    f4o = λ w j. fill-elim (λ y. y ≢ 0 → (c : ℕ) × Ends p j w c) s.owe v kid x w j
-        (λ z h n. subst (λ y. (c : ℕ) × Ends p j y c) z (i.M1.own v j (λ o. omega (arith, o, F.kid-yes i act j h .1)))) (λ n. i.F4.f4o w j);
+    f4o = λ w j. fill-elim (λ y. y ≢ 0 → (c : ℕ) × Edge p j w c) s.owe v kid x w j
+        (λ z h n. subst (λ y. (c : ℕ) × Edge p j y c) z (i.M1.own v j (λ o. omega (arith, o, F.kid-yes i act j h .1)))) (λ n. i.F4.f4o w j);
   }
     where
       none-owed : sum p.g.L (s.owe v) ≡ 0
@@ -256,7 +256,7 @@ module _ {p : Network} {s : State} (i : Inv p s) {u v k l f x a b d e : ℕ} {r 
         (λ n o. let t = i.B1.b1 w o (λ z. c (F.bw-else i act w n ∙ z)) in (
           t .0,
           t .1,
-          subst (λ y. Ends p y (t .0) (t .1)) (sym (F.bw-else i act w n)) (t .2),
+          subst (λ y. Edge p y (t .0) (t .1)) (sym (F.bw-else i act w n)) (t .2),
           t .3,
           t .4,
           omega (arith, t .5, F.lev-up i act (t .1)),
