@@ -19,10 +19,10 @@ module _ {p : Network} {z n : ℕ} (last : log2 p.N ≤ z) {s : ProtocolState} (
   c′ = snoc c₁ v k accept
 
   waits : Waits s u k
-  waits = A.waits i idle ends awake q low differ
+  waits = A.waits-accept i idle ends awake q low differ
 
   inf : Inf s u
-  inf = A.inf i idle ends awake q low differ
+  inf = A.tester-inf i idle ends awake q low differ
 
   -- of two fragments the lower level is not the last
   below : s.lev u ≢ z
@@ -31,7 +31,7 @@ module _ {p : Network} {z n : ℕ} (last : log2 p.N ≤ z) {s : ProtocolState} (
       omega (
         arith,
         inf .1,
-        level-two p.N s.fr (s.fr u) (s.fr v) (GL s u) (GL s v) (A.apart i idle ends awake q low differ) (i.G4.g4 u (end-lt p ends)) (i.G4.g4 v (end-lt p (flip ends)))
+        level-two p.N s.fr (s.fr u) (s.fr v) (GL s u) (GL s v) (A.tester-apart i idle ends awake q low differ) (i.G4.g4 u (end-lt p ends)) (i.G4.g4 v (end-lt p (flip ends)))
             (omega (arith, inf .1, i.G2.g2 v, a)),
       )
 
@@ -50,7 +50,7 @@ module _ {p : Network} {z n : ℕ} (last : log2 p.N ≤ z) {s : ProtocolState} (
   lt : (w j : ℕ) → LT z s.lev c′ w j ≡ LT z s.lev s.ch w j
   lt w j = by-eq u w
       (λ e. let b : s.lev w ≢ z = λ o. below (ap s.lev e ∙ o) in lt-else z s.lev c′ w j b ∙ sym (lt-else z s.lev s.ch w j b))
-      (λ d. lt-same z s.lev s.ch w j c′ (W.tests p s ends q accept refl refl w j (inl d)))
+      (λ d. lt-same z s.lev s.ch w j c′ (W.tests-answer p s ends q accept refl refl w j (inl d)))
 
   yes : (w j : ℕ) → sumL isY (s.ch w j) ≤ sumL isY (c′ w j)
   yes w j = by-eq v w
@@ -80,7 +80,7 @@ module _ {p : Network} {z n : ℕ} (last : log2 p.N ≤ z) {s : ProtocolState} (
         let y : k ≡ j = sym (waits .0) ∙ ap s.te o ∙ a .0 in
         let t = other-end ends e o y in
         omega (arith, snoc-here c₁ v k accept isY, ap (λ m. sumL isY (c′ m j)) t, ap (λ m. sumL isY (c′ v m)) y))
-        (λ d. omega (arith, other w d, h.L .ts3 j w x e a b, W.tests p s ends q accept refl refl w j (inl d), yes x j));
+        (λ d. omega (arith, other w d, h.L .ts3 j w x e a b, W.tests-answer p s ends q accept refl refl w j (inl d), yes x j));
     lk1 = λ j w x e a b. omega (arith, h.L .lk1 j w x e a b, lt w j, lt x j);
     lk2 = λ j w x e a b. omega (arith, h.L .lk2 j w x e a (omega (arith, snoc-sum c₁ v k accept isT refl w j, pop-le s.ch u k q isT w j)), lt w j, lt x j);
   }

@@ -8,7 +8,7 @@ use Rattle.protocol_budget.specs.Height.{heights-pop, tb-inf}
 use Rattle.protocol_search.specs.CrossedTest as C
 use Rattle.protocol_search.specs.Rejected as J
 use Rattle.protocol_search.specs.Own as O
-use Rattle.protocol_search.specs.Strike.{struck, up2, dn0, dn-other}
+use Rattle.protocol_search.specs.Strike.{struck, up2-strike, dn0-strike, dn-other-strike}
 
 module _ {p : Network} {z n : ℕ} {s : ProtocolState} (i : Inv p s) (h : Paid p z s n) {u v k c : ℕ} {m : Msg} {r : List Msg} (idle : Idle s) (ends : Edge p k u v)
     (q : s.ch u k ≡ m ∷ r) (no-init : isI m ≡ 0) (no-yes : isY m ≡ 0) (wait : Waits s v k) (strike : Strike s v k c) where
@@ -52,7 +52,7 @@ module _ {p : Network} {z n : ℕ} {s : ProtocolState} (i : Inv p s) (h : Paid p
     T = record { ts0 = h.T .ts0; ts1 = h.T .ts1; ts2 = λ w o. subst (λ x. 2 ≤ h.ts x) (omega arith) two };
     L = record {
       ts3 = λ j w x e a b. let t = waits j w a in omega (arith, h.L .ts3 j w x e (t .1) b, own j w (t .1), yes x j);
-      lk1 = λ j w x e a b. let o = open-lt j w x e a in omega (arith, h.L .lk1 j w x e (dn0 p s v k c strike w j a) (λ y. b (up2 p s v k c strike x j y)), o .0, o .1);
+      lk1 = λ j w x e a b. let o = open-lt j w x e a in omega (arith, h.L .lk1 j w x e (dn0-strike p s v k c strike w j a) (λ y. b (up2-strike p s v k c strike x j y)), o .0, o .1);
       lk2 = λ j w x e a b. let t = waits j w a in
           omega (arith, h.L .lk2 j w x e (t .1) (omega (arith, own j w (t .1))), lt-same z s.lev s.ch w j c′ (own j w (t .1)), lt x j (apart j w x e (t .0)));
     };
@@ -72,8 +72,8 @@ module _ {p : Network} {z n : ℕ} {s : ProtocolState} (i : Inv p s) (h : Paid p
       open-lt j w x e a = by-eq k j
           (λ y. ⊎-elim
           (λ t. (each w j t, each x j t))
-          (λ t. absurd (⊎-elim (λ d. ⊎-elim (λ o. t .1 (ap (λ b. s.mark b k) (o .0) ∙ ap (s.mark w) y ∙ dn0 p s v k c strike w j a)) (λ o. d (o .1)) (same-edge ends e y))
-          (λ d. d y) (dn-other p s v k c strike w j a))) tests)
+          (λ t. absurd (⊎-elim (λ d. ⊎-elim (λ o. t .1 (ap (λ b. s.mark b k) (o .0) ∙ ap (s.mark w) y ∙ dn0-strike p s v k c strike w j a)) (λ o. d (o .1)) (same-edge ends e y))
+          (λ d. d y) (dn-other-strike p s v k c strike w j a))) tests)
           (λ y. (lt w j (inr y), lt x j (inr y)))
         where
           each : (w j : ℕ) → sumL isT (c′ u k) ≡ sumL isT (s.ch u k) → LT z s.lev c′ w j ≡ LT z s.lev s.ch w j
@@ -96,7 +96,7 @@ module _ {p : Network} {z n : ℕ} {s : ProtocolState} (i : Inv p s) (h : Paid p
           (λ o. omega (arith, upd-other (upd (h.ts) u 2) v 2 w (t .0), ap (upd (h.ts) u 2) o, upd-same (h.ts) u 2))
           (λ o. omega (arith, upd-other (upd (h.ts) u 2) v 2 w (t .0), upd-other (h.ts) u 2 w o, h.L .ts3 j w x e (t .1) b, off w j (inl o), yes x j));
       lk1 = λ j w x e a b. let d = shut j w x e a b in
-          omega (arith, upd-other (h.lk) k 0 j d, h.L .lk1 j w x e (dn0 p s v k c strike w j a) (λ y. b (up2 p s v k c strike x j y)), lt w j (inr d), lt x j (inr d));
+          omega (arith, upd-other (h.lk) k 0 j d, h.L .lk1 j w x e (dn0-strike p s v k c strike w j a) (λ y. b (up2-strike p s v k c strike x j y)), lt w j (inr d), lt x j (inr d));
       lk2 = λ j w x e a b. let t = waits j w a in by-eq k j
           (λ y. absurd (⊎-elim
           (λ o. omega (arith, no-test, ap (sumL isT) (sym (at2 c′ (o .0) y) ∙ here-new s.ch u k r)))
@@ -136,7 +136,7 @@ two-of {z = z} {s = s} i h {u} {v} {k} e f w t y = by-eq (s.lev v) z
 module _ {p : Network} {z n : ℕ} {s : ProtocolState} (i : Inv p s) (h : Paid p z s n) {u v k c : ℕ} {r : List Msg} (idle : Idle s) (ends : Edge p k u v) where
   pub paid-rejected : (q : s.ch u k ≡ reject ∷ r) (strike : Strike s v k c) → Paid p z (set-ot (remarked (pop s u k r) v k c) (suc v)) n
   paid-rejected q strike =
-      let said = J.said i idle ends q strike in
+      let said = J.reject-ok i idle ends q strike in
       let a = J.alone i idle ends q strike in
       let f = i.F1.f1 v (waits-find i k v u (flip ends) (said .j1w)) .f1i in
       paid-kept i h idle ends q refl refl (said .j1w) strike
@@ -150,7 +150,7 @@ module _ {p : Network} {z n : ℕ} {s : ProtocolState} (i : Inv p s) (h : Paid p
       let a = i.E1.e2w k u v ends (t .0) wait in
       let b = i.E1.e2w k v u (flip ends) wait (t .0) in
       let y = h.L .lk1 k v u (flip ends) basic (t .1) in
-      let d : s.lev u ≡ s.lev v = fu .1 ∙ ap s.gl (O.inside i ends head low same) ∙ sym (fv .1) in
+      let d : s.lev u ≡ s.lev v = fu .1 ∙ ap s.gl (O.tester-inside i ends head low same) ∙ sym (fv .1) in
       paid-both i h idle ends q refl refl wait strike (t .0) basic (omega (arith, ap (sumL isT) q, a))
       (by-eq (s.lev v) z
       (λ o. omega (arith, h.T .ts0 v (tb-inf i (h.H) v fv) (sym (fv .1) ∙ o), h.T .ts0 u (tb-inf i (h.H) u fu) (sym (fu .1) ∙ d ∙ o)))
@@ -171,7 +171,7 @@ module _ {p : Network} {z n : ℕ} {s : ProtocolState} (i : Inv p s) (h : Paid p
       (λ t. paid-kept i h idle ends q refl refl wait strike
       (two-of i h (flip ends) fv wait (i.E1.m6t k u v ends (t .1) basic) (omega (arith, yes-le (s.ch u k), unanswered)))
       (inr (t .0, λ o. omega (arith, t .1))))
-      (C.meets i idle ends awake q low same edge strike)
+      (C.crossed-meets i idle ends awake q low same edge strike)
     where
       head : In (test l f) (s.ch u k)
       head = pop-head s.ch u k q
@@ -180,7 +180,7 @@ module _ {p : Network} {z n : ℕ} {s : ProtocolState} (i : Inv p s) (h : Paid p
       wait = C.wait i idle ends awake q low same edge strike
 
       basic : s.mark v k ≡ 0
-      basic = C.basic i idle ends awake q low same edge strike
+      basic = C.crossed-basic i idle ends awake q low same edge strike
 
       one : 1 ≤ sumL isT (s.ch u k)
       one = C.one i idle ends awake q low same edge strike
@@ -189,7 +189,7 @@ module _ {p : Network} {z n : ℕ} {s : ProtocolState} (i : Inv p s) (h : Paid p
       unanswered = C.unanswered i idle ends awake q low same edge strike
 
       fu : Inf s u
-      fu = O.inf-u i ends head low same
+      fu = O.inf-tester i ends head low same
 
       fv : Inf s v
-      fv = O.inf-v i ends head low same
+      fv = O.inf-tested i ends head low same

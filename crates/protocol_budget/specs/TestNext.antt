@@ -25,7 +25,7 @@ module _ {p : Network} {z n : ℕ} {s : ProtocolState} (i : Inv p s) (h : Paid p
   own = N.own-test i ot op oo ends first
 
   waits {κ} : {C : Type κ} (j w : ℕ) → Waits S′ w j → (v ≡ w → k ≡ j → C) → (v ≢ w → Waits s w j → C) → C
-  waits j w a y d = N.waits i ot op oo ends first j w a y d
+  waits j w a y d = N.waits-next i ot op oo ends first j w a y d
 
   -- the other end is not Rejected
   fair : s.mark u k ≢ 2

@@ -18,13 +18,13 @@ module _ {p : Network} {s : ProtocolState} (i : Inv p s) {u v k b e : ℕ} {r : 
   abbrev S′ : ProtocolState
   S′ = set-op (bested (set-te (pop s u k r) (upd s.te v none)) v b e) (suc v)
 
-  pub said : AcceptOk s.te s.fr s.lev s.mark s.ot k u v
+  said : AcceptOk s.te s.fr s.lev s.mark s.ot k u v
   said = i.A1.a1 k u v ends (pop-head s.ch u k q)
 
-  pub find : s.st v ≡ 1
+  find : s.st v ≡ 1
   find = waits-find i k v u (flip ends) (said .a1w)
 
-  pub inf : Inf s v
+  inf : Inf s v
   inf = i.F1.f1 v find .f1i
 
   -- k leaves the fragment
@@ -59,8 +59,8 @@ module _ {p : Network} {s : ProtocolState} (i : Inv p s) {u v k b e : ℕ} {r : 
       a = in-sum isA (pop-head s.ch u k q)
 
   -- who waits now waited, and is not v
-  pub waits : (j w x : ℕ) → Edge p j w x → Waits S′ w j → (v ≢ w) × Waits s w j
-  waits j w x f h = upd-elim (λ y. y ≡ j → (v ≢ w) × Waits s w j) s.te v none w (λ z y. absurd (edge-some p f (sym y))) (λ n y. (n, (y, h .1))) (h .0)
+  pub waits-accepted : (j w x : ℕ) → Edge p j w x → Waits S′ w j → (v ≢ w) × Waits s w j
+  waits-accepted j w x f h = upd-elim (λ y. y ≡ j → (v ≢ w) × Waits s w j) s.te v none w (λ z y. absurd (edge-some p f (sym y))) (λ n y. (n, (y, h .1))) (h .0)
 
   pub still : (j w : ℕ) → v ≢ w → Waits s w j → Waits S′ w j
   still j w n h = (upd-other s.te v none w n ∙ h .0, h .1)
@@ -93,9 +93,9 @@ module _ {p : Network} {s : ProtocolState} (i : Inv p s) {u v k b e : ℕ} {r : 
   E2′ : Tests p S′.te s.ib s.mark s.ot
   E2′ = record {
     e2o = λ w. upd-elim (λ x. x ≢ none → (y : ℕ) × Edge p x w y) s.te v none w (λ z n. absurd (n refl)) (λ d n. i.E2.e2o w n);
-    e2b = λ j w x a y f h. i.E2.e2b j w x a y f (waits j w x f h .1);
-    e2r = λ j w x f h. i.E2.e2r j w x f (waits j w x f h .1);
-    e2i = λ j w x f h m. let t = i.E2.e2i j w x f (waits j w x f h .1) m in (t .0, upd-elim (λ y. y ≢ j) s.te v none x (λ z y. edge-some p f (sym y)) (λ d. t .1));
+    e2b = λ j w x a y f h. i.E2.e2b j w x a y f (waits-accepted j w x f h .1);
+    e2r = λ j w x f h. i.E2.e2r j w x f (waits-accepted j w x f h .1);
+    e2i = λ j w x f h m. let t = i.E2.e2i j w x f (waits-accepted j w x f h .1) m in (t .0, upd-elim (λ y. y ≢ j) s.te v none x (λ z y. edge-some p f (sym y)) (λ d. t .1));
     m6 = λ j w x f m z. let t = i.E2.m6 j w x f m z in
         still j x (λ y. out j w x f m y t) t;
   }
@@ -114,9 +114,9 @@ module _ {p : Network} {s : ProtocolState} (i : Inv p s) {u v k b e : ℕ} {r : 
         (λ t. inl (still j w (λ z. tested j w z (t .0) l f (old w j h)) (t .0), t .1, t .2))
         (λ t. inr (gone j w x g (t .0), t .1, still j x (λ z. crossed j w x g z (t .2) (t .3)) (t .2), t .3))
         (i.E1.e1w j w x l f g (old w j h));
-    e2w = λ j w x g a c. let y = waits j w x g a in
-        omega (arith, i.E1.e2w j w x g (y .1) (waits j x w (flip g) c .1), same isT refl w j, other-answer j w x g (y .0));
-    e2c = λ j w x g a c. let y = waits j w x g a in
+    e2w = λ j w x g a c. let y = waits-accepted j w x g a in
+        omega (arith, i.E1.e2w j w x g (y .1) (waits-accepted j x w (flip g) c .1), same isT refl w j, other-answer j w x g (y .0));
+    e2c = λ j w x g a c. let y = waits-accepted j w x g a in
         omega (arith, alone j w x g (y .0) (y .1) c, same isT refl w j, same isT refl x j, other-answer j w x g (y .0));
     m6t = λ j w x g m z. same isT refl x j ∙ i.E1.m6t j w x g m z;
   }

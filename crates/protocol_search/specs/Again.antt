@@ -7,7 +7,7 @@ use Rattle.protocol.specs.Prelude.{isT, isA, isR, In, pop-in, pop-sum, pop-le, 
 use Rattle.protocol.specs.Prelude.{Plain, bests-same, flow, flow-open, flow-take}
 use Rattle.protocol.specs.Search.{Pending, Tests}
 use Rattle.protocol.specs.Traffic.{Testing, Answers, Bests}
-use Rattle.protocol_search.specs.Strike.{struck, up1, up2, up0, dn0, dn1, dn2, dn-other, up-both, dn-both, flow-strike, inv-strike}
+use Rattle.protocol_search.specs.Strike.{struck, up1-strike, up2-strike, up0-strike, dn0-strike, dn1-strike, dn2-strike, dn-other-strike, up-both-strike, dn-both-strike, flow-strike, inv-strike}
 
 pub record Repeat (p : Network) (s : ProtocolState) (u v k c : ℕ) (m : Msg) (r : List Msg) : Type 0 where
   pub idle : Idle s
@@ -70,7 +70,7 @@ module _ {p : Network} {s : ProtocolState} (i : Inv p s) {u v k c : ℕ} {m : Ms
       (λ b. inl (λ a. n (other-end (h.ends) e a b))) (λ b. inr b))
 
   -- who waits now waited, and is not v
-  pub waits : (j w : ℕ) → Waits S′ w j → (v ≢ w) × Waits s w j
+  waits : (j w : ℕ) → Waits S′ w j → (v ≢ w) × Waits s w j
   waits j w a = ((λ z. a .1 (ap suc z)), (a .0, λ o. omega (arith, h.idle .0)))
 
   pub still : (j w : ℕ) → v ≢ w → Waits s w j → Waits S′ w j
@@ -92,18 +92,18 @@ module _ {p : Network} {s : ProtocolState} (i : Inv p s) {u v k c : ℕ} {m : Ms
   E2′ : Tests p s.te s.ib m′ (suc v)
   E2′ = record {
     e2o = i.E2.e2o;
-    e2b = λ j w x a y e b f g. i.E2.e2b j w x a y e (waits j w b .1) f (dn0 p s v k c (h.strike) w a g);
-    e2r = λ j w x e b z. let t = waits j w b in ⊎-elim (λ o. i.E2.e2r j w x e (t .1) o) (λ o. t .0 (o .0)) (dn2 p s v k c (h.strike) w j z);
-    e2i = λ j w x e b d. i.E2.e2i j w x e (waits j w b .1) (dn-both p s v k c (h.strike) j w x d);
+    e2b = λ j w x a y e b f g. i.E2.e2b j w x a y e (waits j w b .1) f (dn0-strike p s v k c (h.strike) w a g);
+    e2r = λ j w x e b z. let t = waits j w b in ⊎-elim (λ o. i.E2.e2r j w x e (t .1) o) (λ o. t .0 (o .0)) (dn2-strike p s v k c (h.strike) w j z);
+    e2i = λ j w x e b d. i.E2.e2i j w x e (waits j w b .1) (dn-both-strike p s v k c (h.strike) j w x d);
     m6 = λ j w x e a b.
-        let z = dn0 p s v k c (h.strike) x j b in
-        let n = dn-other p s v k c (h.strike) x j b in
+        let z = dn0-strike p s v k c (h.strike) x j b in
+        let n = dn-other-strike p s v k c (h.strike) x j b in
         ⊎-elim (λ o. let t = i.E2.m6 j w x e o z in still j x (λ q. ⊎-elim (λ f. f q) (λ f. f (on-k j x q t)) n) t)
         (λ o.
         let y = other-end back e (o .0) (o .1) in
         subst (λ a. Waits S′ a j) y
         (subst (λ a. Waits S′ u a) (o .1) (still k u (λ q. ends-irr p back q) (h.asks (o .2) (ap (λ a. s.mark a k) y ∙ ap (s.mark x) (o .1) ∙ z)))))
-        (dn2 p s v k c (h.strike) w j a);
+        (dn2-strike p s v k c (h.strike) w j a);
   }
 
   E1′ : Testing p S′
@@ -111,10 +111,10 @@ module _ {p : Network} {s : ProtocolState} (i : Inv p s) {u v k c : ℕ} {m : Ms
     e1 = λ j w x l f e n. i.E1.e1 j w x l f e (old w j n);
     e1w = λ j w x l f e n. ⊎-elim
         (λ t. by-eq v w (λ q. own-test j w x l f e n q (on-k j w q (t .0)))
-        (λ d. inl (still j w d (t .0), fresh j w d (t .1), λ z. up1 p s v k c (h.strike) x j (t .2 (dn1 p s v k c (h.strike) w j z)))))
+        (λ d. inl (still j w d (t .0), fresh j w d (t .1), λ z. up1-strike p s v k c (h.strike) x j (t .2 (dn1-strike p s v k c (h.strike) w j z)))))
         (λ t. inr (
           ⊎-elim (λ o. inl o) (λ o. absurd (omega (arith, h.idle .0))) (t .0),
-          up2 p s v k c (h.strike) w j (t .1),
+          up2-strike p s v k c (h.strike) w j (t .1),
           still j x (λ q. gone j w x l f e q (on-k j x q (t .2)) n) (t .2),
           t .3,
         ))
@@ -131,14 +131,14 @@ module _ {p : Network} {s : ProtocolState} (i : Inv p s) {u v k c : ℕ} {m : Ms
           off-end isA j x w (flip e) (y .0),
           off-end isT j x w (flip e) (y .0),
         ));
-    m6t = λ j w x e a b. let z = dn0 p s v k c (h.strike) x j b in
+    m6t = λ j w x e a b. let z = dn0-strike p s v k c (h.strike) x j b in
         ⊎-elim (λ o. omega (arith, i.E1.m6t j w x e o z, pop-le s.ch u k (h.took) isT x j))
-        (λ o. left isT (h.no-test) x j (other-end back e (o .0) (o .1)) (o .1)) (dn2 p s v k c (h.strike) w j a);
+        (λ o. left isT (h.no-test) x j (other-end back e (o .0) (o .1)) (o .1)) (dn2-strike p s v k c (h.strike) w j a);
   }
     where
       -- another's mark is not struck
       fresh : (j w : ℕ) → v ≢ w → s.mark w j ≢ 2 → m′ w j ≢ 2
-      fresh j w d n z = ⊎-elim (λ o. n o) (λ o. d (o .0)) (dn2 p s v k c (h.strike) w j z)
+      fresh j w d n z = ⊎-elim (λ o. n o) (λ o. d (o .0)) (dn2-strike p s v k c (h.strike) w j z)
 
       -- v's own Test has crossed
       own-test : (j w x l f : ℕ) → Edge p j w x → In (test l f) (c′ w j) → v ≡ w → k ≡ j
@@ -175,9 +175,9 @@ module _ {p : Network} {s : ProtocolState} (i : Inv p s) {u v k c : ℕ} {m : Ms
   A1′ : Answers p S′
   A1′ = record {
     a1 = λ j w x e n. let t = i.A1.a1 j w x e (old w j n) in let d = mine j w x e (t.a1w) n (omega arith) in
-        record { a1w = still j x d (t.a1w); a1m = up0 p s v k c (h.strike) x j (inl d) (t.a1m); a1f = t.a1f; a1l = t.a1l };
+        record { a1w = still j x d (t.a1w); a1m = up0-strike p s v k c (h.strike) x j (inl d) (t.a1m); a1f = t.a1f; a1l = t.a1l };
     j1 = λ j w x e n. let t = i.A1.j1 j w x e (old w j n) in let d = mine j w x e (t.j1w) n (omega arith) in
-        record { j1w = still j x d (t.j1w); j1f = t.j1f; j1m = λ z. up2 p s v k c (h.strike) w j (t.j1m (dn0 p s v k c (h.strike) x j z)) };
+        record { j1w = still j x d (t.j1w); j1f = t.j1f; j1m = λ z. up2-strike p s v k c (h.strike) w j (t.j1m (dn0-strike p s v k c (h.strike) x j z)) };
   }
     where
       -- no answer to v is left
@@ -188,8 +188,8 @@ module _ {p : Network} {s : ProtocolState} (i : Inv p s) {u v k c : ℕ} {m : Ms
 
   B2′ : Bests p S′
   B2′ = record {
-    b1e = λ w a n d. let t = o.b1e w a n d in (t .0, t .1, up-both p s v k c (h.strike) (s.be w) w (t .0) (t .2), t .3, t .4, t .5, t .6, t .7, t .8);
-    b2 = λ j w x e a d g. ⊎-elim (λ t. inl t) (⊎-elim (λ t. absurd (omega (arith, h.idle .0))) (λ t. inr (inr t))) (o.b2 j w x e (dn0 p s v k c (h.strike) w j a) d g);
+    b1e = λ w a n d. let t = o.b1e w a n d in (t .0, t .1, up-both-strike p s v k c (h.strike) (s.be w) w (t .0) (t .2), t .3, t .4, t .5, t .6, t .7, t .8);
+    b2 = λ j w x e a d g. ⊎-elim (λ t. inl t) (⊎-elim (λ t. absurd (omega (arith, h.idle .0))) (λ t. inr (inr t))) (o.b2 j w x e (dn0-strike p s v k c (h.strike) w j a) d g);
   }
     where
       o : Bests p s₁

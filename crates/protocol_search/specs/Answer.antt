@@ -10,13 +10,13 @@ module _ (p : Network) (s : ProtocolState) {u v k l f : ℕ} {r : List Msg} (end
   abbrev c′ : ℕ → ℕ → List Msg
   c′ = snoc c₁ v k m
 
-  pub tests : (w j : ℕ) → (u ≢ w) ⊎ (k ≢ j) → sumL isT (c′ w j) ≡ sumL isT (s.ch w j)
-  tests w j n = snoc-sum c₁ v k m isT no-test w j ∙ ap (sumL isT) (else-same s.ch u k r w j n)
+  pub tests-answer : (w j : ℕ) → (u ≢ w) ⊎ (k ≢ j) → sumL isT (c′ w j) ≡ sumL isT (s.ch w j)
+  tests-answer w j n = snoc-sum c₁ v k m isT no-test w j ∙ ap (sumL isT) (else-same s.ch u k r w j n)
 
   pub tests-here : sumL isT (s.ch u k) ≡ 1 + sumL isT (c′ u k)
   tests-here = omega (arith, pop-here s.ch u k q isT, snoc-sum c₁ v k m isT no-test u k)
 
-  pub answers : (w j : ℕ) → (v ≢ w) ⊎ (k ≢ j) → sumL isA (c′ w j) ≡ sumL isA (s.ch w j)
+  answers : (w j : ℕ) → (v ≢ w) ⊎ (k ≢ j) → sumL isA (c′ w j) ≡ sumL isA (s.ch w j)
   answers w j n = ap (sumL isA) (snoc-else c₁ v k m w j n) ∙ pop-sum s.ch u k q isA refl w j
 
   pub answers-here : sumL isA (c′ v k) ≡ sumL isA (s.ch v k) + 1
@@ -41,9 +41,9 @@ module _ (p : Network) (s : ProtocolState) {u v k l f : ℕ} {r : List Msg} (end
         ap (λ a. sumL isA (s.ch v a)) z,
       ))
       (λ y. let n : v ≢ x = λ o. y (other-end (flip ends) (flip e) o z) in
-      omega (arith, tests w j (inl y), answers x j (inl n))))
-      (λ z. omega (arith, tests w j (inr z), answers x j (inr z)))
+      omega (arith, tests-answer w j (inl y), answers x j (inl n))))
+      (λ z. omega (arith, tests-answer w j (inr z), answers x j (inr z)))
 
   -- no Test of one who does not wait on k is touched: u waits there
   pub crossed : Idle s → s.te u ≡ k → (j x : ℕ) → (s.te x ≢ j) ⊎ (s.ot ≡ suc x) → sumL isT (c′ x j) ≡ sumL isT (s.ch x j)
-  crossed idle e j x b = tests x j (by-eq u x (λ y. inr (λ z. ⊎-elim (λ n. n (ap s.te (sym y) ∙ e ∙ z)) (λ o. omega (arith, idle .0)) b)) (λ y. inl y))
+  crossed idle e j x b = tests-answer x j (by-eq u x (λ y. inr (λ z. ⊎-elim (λ n. n (ap s.te (sym y) ∙ e ∙ z)) (λ o. omega (arith, idle .0)) b)) (λ y. inl y))

@@ -25,7 +25,7 @@ module _ {p : Network} {s : ProtocolState} (i : Inv p s) {v k u : ℕ} (ot : s.o
   pub find : s.st v ≡ 1
   find = i.F2.f5t v ot
 
-  pub v≢u : v ≢ u
+  v≢u : v ≢ u
   v≢u = ends-irr p ends
 
   same : (f : Msg → ℕ) → f m ≡ 0 → (w j : ℕ) → sumL f (c′ w j) ≡ sumL f (s.ch w j)
@@ -39,7 +39,7 @@ module _ {p : Network} {s : ProtocolState} (i : Inv p s) {v k u : ℕ} (ot : s.o
   no-wait : (j : ℕ) → ¬ Waits s v j
   no-wait j h = h .1 ot
 
-  pub no-ans : (j w : ℕ) → Edge p j w v → sumL isA (s.ch w j) ≡ 0
+  no-ans : (j w : ℕ) → Edge p j w v → sumL isA (s.ch w j) ≡ 0
   no-ans j w e = no-answer i j w v e (no-wait j)
 
   -- a Test from v crossed, and its edge is Rejected
@@ -51,8 +51,8 @@ module _ {p : Network} {s : ProtocolState} (i : Inv p s) {v k u : ℕ} (ot : s.o
   their-test n = no-tests (s.ch u k) (λ l f h. ⊎-elim (λ t. n (t .0 .0)) (λ t. no-wait k (t .2)) (i.E1.e1w k u v l f (flip ends) h))
 
   -- who waits now: v on k, or another that waited
-  pub waits {κ} : {C : Type κ} (j w : ℕ) → Waits S′ w j → (v ≡ w → k ≡ j → C) → (v ≢ w → Waits s w j → C) → C
-  waits {C} j w h y n = by-eq v w
+  pub waits-next {κ} : {C : Type κ} (j w : ℕ) → Waits S′ w j → (v ≡ w → k ≡ j → C) → (v ≢ w → Waits s w j → C) → C
+  waits-next {C} j w h y n = by-eq v w
       (λ q. y q (sym (upd-same s.te v k) ∙ ap (upd s.te v k) q ∙ h .0))
       (λ d. n d (sym (upd-other s.te v k w d) ∙ h .0, λ o. d (omega arith)))
 
@@ -75,11 +75,11 @@ module _ {p : Network} {s : ProtocolState} (i : Inv p s) {v k u : ℕ} (ot : s.o
   E2′ : Tests p S′.te s.ib s.mark 0
   E2′ = record {
     e2o = λ w. upd-elim (λ x. x ≢ none → (y : ℕ) × Edge p x w y) s.te v k w (λ q n. (u, subst (λ x. Edge p k x u) q ends)) (λ d n. i.E2.e2o w n);
-    e2b = λ j w x h y e a f g. waits j w a
+    e2b = λ j w x h y e a f g. waits-next j w a
         (λ q z. subst (λ n. rank p n ≤ rank p h) z (least .1 h y (subst (λ n. Edge p h n y) (sym q) f) (subst (λ n. s.mark n h ≡ 0) (sym q) g)))
         (λ n z. i.E2.e2b j w x h y e z f g);
-    e2r = λ j w x e a. waits j w a (λ q z b. omega (arith, least .0, ap (λ n. s.mark n j) q, ap (s.mark v) z)) (λ n z. i.E2.e2r j w x e z);
-    e2i = λ j w x e a b. waits j w a
+    e2r = λ j w x e a. waits-next j w a (λ q z b. omega (arith, least .0, ap (λ n. s.mark n j) q, ap (s.mark v) z)) (λ n z. i.E2.e2r j w x e z);
+    e2i = λ j w x e a b. waits-next j w a
         (λ q z. absurd (omega (arith, least .0, ap (λ n. s.mark n j) q, ap (s.mark v) z, b .0)))
         (λ n z. let t = i.E2.e2i j w x e z b in
         (t .0, upd-elim (λ y. y ≢ j) s.te v k x (λ q r. omega (arith, least .0, ap (λ n. s.mark n j) q, ap (s.mark v) r, b .1)) (λ d. t .1)));
@@ -100,14 +100,14 @@ module _ {p : Network} {s : ProtocolState} (i : Inv p s) {v k u : ℕ} (ot : s.o
           λ z. absurd (omega (arith, least .0, ap (λ n. s.mark n j) (t .0), ap (s.mark v) (t .1))),
         ))
         (snoc-in s.ch v k m w j h);
-    e2w = λ j w x e a b. waits j w a
+    e2w = λ j w x e a b. waits-next j w a
         (λ q z. at-v j w x e q z)
-        (λ n y. waits j x b
+        (λ n y. waits-next j x b
         (λ q z. let f = subst (λ r. Edge p r v w) (sym z) (subst (λ r. Edge p j r w) (sym q) (flip e)) in
         let t = i.E1.e2c j w x e y (inr (ot ∙ ap suc q)) in
         omega (arith, t, off w j (inl n), same isA refl x j, ap (λ r. sumL isT (s.ch r j)) q, ap (λ r. sumL isT (s.ch v r)) z, own-test))
         (λ d z. omega (arith, i.E1.e2w j w x e y z, off w j (inl n), same isA refl x j)));
-    e2c = λ j w x e a b. waits j w a
+    e2c = λ j w x e a b. waits-next j w a
         (λ q z. let f = subst (λ r. Edge p r v x) (sym z) (subst (λ r. Edge p j r x) (sym q) e) in
         let y = ends-same ends f in
         omega (
