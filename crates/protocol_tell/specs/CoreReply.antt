@@ -9,7 +9,7 @@ use Rattle.protocol.specs.Prelude.{connects-same, answers-same, testing-same, a
 use Rattle.protocol.specs.Decisions.{HalfOk}
 use Rattle.protocol.specs.Search.{LowOk}
 use Rattle.protocol.specs.Traffic.{InitOk, Tokens, Initiates, Telling, Reports}
-use Rattle.protocol_tell.specs.Laws.{six, init-eq}
+use Rattle.protocol_tell.specs.Laws.{initiate-at, init-eq}
 use Rattle.protocol_tell.specs.Reply as Y
 
 module _ {p : Network} {s : ProtocolState} (i : Inv p s) {u v k l : ℕ} {r : List Msg} (idle : Idle s) (ends : Edge p k u v) (awake : s.st v ≢ 0) (q : s.ch u k ≡ connect l ∷ r)
@@ -18,7 +18,7 @@ module _ {p : Network} {s : ProtocolState} (i : Inv p s) {u v k l : ℕ} {r : Li
   S′ = sendOver (pop s u k r) v k (initiate (s.lev v + 1) k 1)
 
   abbrev c′ : ℕ → ℕ → List Msg
-  c′ = Y.answered i ends q (s.lev v + 1) k 1
+  c′ = Y.replied i ends q (s.lev v + 1) k 1
 
   abbrev head : In (connect l) (s.ch u k)
   head = Y.calling i ends q (s.lev v + 1) k 1
@@ -28,25 +28,25 @@ module _ {p : Network} {s : ProtocolState} (i : Inv p s) {u v k l : ℕ} {r : Li
   pub mark-u : s.mark u k ≡ 1
   mark-u = i.C1.c1m k u v l ends head
 
-  pub mark-v : s.mark v k ≡ 1
+  mark-v : s.mark v k ≡ 1
   mark-v = by-eq (s.mark v k) 1 (λ e. e) (λ n. absurd (i.M1.m1 k v u (flip ends) (omega (arith, i.W0.mark-le v k)) .1 mark-u))
 
-  pub joined : Jn s k u v
+  joined : Jn s k u v
   joined = (mark-u, mark-v)
 
-  pub inside : s.fr u ≡ s.fr v
+  inside : s.fr u ≡ s.fr v
   inside = i.M1.m3 k u v ends joined
 
-  pub core : GC s u ≡ k
+  core : GC s u ≡ k
   core = i.C1.c1 k u v l ends head mark-v .0
 
-  pub level : l + 1 ≡ GL s u
+  level : l + 1 ≡ GL s u
   level = i.C1.c1 k u v l ends head mark-v .1
 
   pub level-v : s.lev v ≡ l
   level-v = i.C1.c1 k u v l ends head mark-v .2
 
-  pub next : s.lev v + 1 ≡ GL s u
+  next : s.lev v + 1 ≡ GL s u
   next = omega (arith, level, level-v)
 
   -- u's Connect was there: u has not been told
@@ -81,13 +81,13 @@ module _ {p : Network} {s : ProtocolState} (i : Inv p s) {u v k l : ℕ} {r : Li
   -- ---- the new channels
 
   old : {y : Msg} (g : Msg → ℕ) → g (initiate (s.lev v + 1) k 1) ≡ 0 → 1 ≤ g y → (w j : ℕ) → In y (c′ w j) → In y (s.ch w j)
-  old = Y.old i ends q (s.lev v + 1) k 1
+  old = Y.old-reply i ends q (s.lev v + 1) k 1
 
   kept : {y : Msg} (g : Msg → ℕ) → g (connect l) ≡ 0 → 1 ≤ g y → (w j : ℕ) → In y (s.ch w j) → In y (c′ w j)
-  kept = Y.kept i ends q (s.lev v + 1) k 1
+  kept = Y.kept-reply i ends q (s.lev v + 1) k 1
 
   same : (g : Msg → ℕ) → g (initiate (s.lev v + 1) k 1) ≡ 0 → g (connect l) ≡ 0 → (w j : ℕ) → sumL g (c′ w j) ≡ sumL g (s.ch w j)
-  same = Y.same i ends q (s.lev v + 1) k 1
+  same = Y.same-reply i ends q (s.lev v + 1) k 1
 
   -- no end of k is half on it, and k is inbound for both
   whole : (w x : ℕ) → Edge p k w x → ¬ Half s w k
@@ -99,7 +99,7 @@ module _ {p : Network} {s : ProtocolState} (i : Inv p s) {u v k l : ℕ} {r : Li
   Dc′ : Tokens p S′
   Dc′ = record {
     d1c = λ j z y e h. Y.hold i ends q (s.lev v + 1) k 1 z j (inr (λ d. whole z y (subst (λ a. Edge p a z y) (sym d) e) (subst (λ a. Half s z a) (sym d) h))) (i.Dc.d1c j z y e h);
-    d1a = λ j z y e h. Y.every i ends q (s.lev v + 1) k 1 z j (λ b d. whole z y (subst (λ a. Edge p a z y) (sym d) e) (subst (λ a. Half s z a) (sym d) h)) (i.Dc.d1a j z y e h);
+    d1a = λ j z y e h. Y.all-reply i ends q (s.lev v + 1) k 1 z j (λ b d. whole z y (subst (λ a. Edge p a z y) (sym d) e) (subst (λ a. Half s z a) (sym d) h)) (i.Dc.d1a j z y e h);
     d2c = λ j w x e h. kept isK refl (omega arith) w j (i.Dc.d2c j w x e h);
     k1 = λ j w x e h. i.Dc.k1 j w x e (old isK refl (omega arith) w j h);
     d3r = λ j x y e h b. same isR refl refl y j ∙ i.Dc.d3r j x y e h b;
@@ -126,18 +126,18 @@ module _ {p : Network} {s : ProtocolState} (i : Inv p s) {u v k l : ℕ} {r : Li
   I1′ : Initiates p S′
   I1′ = record {
     i1 = λ j w x a f b e h. ⊎-elim (λ o. i.I1.i1 j w x a f b e o)
-        (λ t. six (λ n m y. InitOk p s.lev s.fr s.gl s.gc s.ub s.due s.mark n m y) (t .1) (t .0) (other-end (flip ends) e (t .0) (t .1)) (t .2) fresh)
+        (λ t. initiate-at (λ n m y. InitOk p s.lev s.fr s.gl s.gc s.ub s.due s.mark n m y) (t .1) (t .0) (other-end (flip ends) e (t .0) (t .1)) (t .2) fresh)
         (Y.was i ends q (s.lev v + 1) k 1 w j h);
   }
 
   T4′ : Telling p S′
   T4′ = record {
-    u2 = λ j w c e b n. i.T4.u2 j w c e b n ∙ sym (Y.far i ends q (s.lev v + 1) k 1 (s.lev c) w j (inr (λ z. n (low-at w c (subst (λ a. Edge p a w c) (sym z) e) .t4b ∙ z))));
+    u2 = λ j w c e b n. i.T4.u2 j w c e b n ∙ sym (Y.far-reply i ends q (s.lev v + 1) k 1 (s.lev c) w j (inr (λ z. n (low-at w c (subst (λ a. Edge p a w c) (sym z) e) .t4b ∙ z))));
     t2i = λ j w c e b h n d. kept isI refl (omega arith) w j (i.T4.t2i j w c e b h n d);
     t4 = λ j x y e b g. by-eq u x
         (λ a. by-eq k j
         (λ z. let o = other-end ends e a z in
-        inr (inl (six (λ n m h c f d. In (initiate c f d) (S′.ch m n)) z o a (told x j (sym a) (sym z)) (Y.said i ends q (s.lev v + 1) k 1))))
+        inr (inl (initiate-at (λ n m h c f d. In (initiate c f d) (S′.ch m n)) z o a (told x j (sym a) (sym z)) (Y.reply-in i ends q (s.lev v + 1) k 1))))
         (λ z. stays j x y e b g (inr z)))
         (λ a. stays j x y e b g (inl a));
     t4n = λ j x y e b g n.
@@ -155,7 +155,7 @@ module _ {p : Network} {s : ProtocolState} (i : Inv p s) {u v k l : ℕ} {r : Li
 
   R1′ : Reports p S′
   R1′ = reports-same p s c′
-      (λ j w x n e h. let d = no-report j w x n e (old isR refl (omega arith) w j h) in around-same (Y.off i ends q (s.lev v + 1) k 1 w j (inr d) (inr d)) h) i.R1
+      (λ j w x n e h. let d = no-report j w x n e (old isR refl (omega arith) w j h) in around-same (Y.off-reply i ends q (s.lev v + 1) k 1 w j (inr d) (inr d)) h) i.R1
 
   pub inv-core-reply : Inv p S′
   inv-core-reply = inv-passing i c′ (record {

@@ -19,11 +19,11 @@ module _ {p : Network} {s : ProtocolState} (i : Inv p s) {u v k l f x a b d e : 
   abbrev S′ : ProtocolState
   S′ = initiated p (pop s u k r) v k l f x a d e b
 
-  pub head : In (initiate l f x) (s.ch u k)
-  head = pop-head s.ch u k act.q
+  pub initiate-in : In (initiate l f x) (s.ch u k)
+  initiate-in = pop-head s.ch u k act.q
 
   pub ok : InitOk p s.lev s.fr s.gl s.gc s.ub s.due s.mark k u v l f x
-  ok = i.I1.i1 k u v l f x act.ends head
+  ok = i.I1.i1 k u v l f x act.ends initiate-in
 
   -- ---- v before: not informed, Found, not waiting
 
@@ -33,7 +33,7 @@ module _ {p : Network} {s : ProtocolState} (i : Inv p s) {u v k l f x a b d e : 
   pub not-find : s.st v ≢ 1
   not-find = low-find i v low
 
-  pub awake : s.st v ≢ 0
+  awake : s.st v ≢ 0
   awake = mark-awake i v k (λ z. omega (arith, ok.i1j .1))
 
   pub te-none : s.te v ≡ none
@@ -50,8 +50,8 @@ module _ {p : Network} {s : ProtocolState} (i : Inv p s) {u v k l f x a b d e : 
 
   -- ---- the Find bit: Find only at the fragment's level, and then v is due
 
-  pub bit-le : x ≤ 1
-  bit-le = ⊎-elim (λ t. omega (arith, t .0)) (λ t. omega (arith, t .0)) act.mode
+  pub bit-le-tell : x ≤ 1
+  bit-le-tell = ⊎-elim (λ t. omega (arith, t .0)) (λ t. omega (arith, t .0)) act.mode
 
   pub find-of : x ≢ 0 → (a ≡ 1) × (b ≡ suc v)
   find-of n = ⊎-elim (λ t. (t .1, t .2)) (λ t. absurd (n (t .0))) act.mode
@@ -63,7 +63,7 @@ module _ {p : Network} {s : ProtocolState} (i : Inv p s) {u v k l f x a b d e : 
   full n = by-eq l (GL s v) (λ z. z) (λ m. absurd (n (ok.i1z (omega (arith, ok.i1g)))))
 
   pub due-v : x ≢ 0 → s.due v ≡ 1
-  due-v n = sym (ok.i1d (full n)) ∙ omega (arith, bit-le)
+  due-v n = sym (ok.i1d (full n)) ∙ omega (arith, bit-le-tell)
 
   pub undecided : x ≢ 0 → DK s v ≡ 0
   undecided n = by-eq (DK s v) 0 (λ z. z) (λ m. absurd (omega (arith, i.D4.d5 v m, due-v n)))
@@ -166,8 +166,8 @@ module _ {p : Network} {s : ProtocolState} (i : Inv p s) {u v k l f x a b d e : 
   pub st-else : (w : ℕ) → v ≢ w → S′.st w ≡ s.st w
   st-else w n = upd-other s.st v a w n
 
-  pub ib-v : S′.ib v ≡ k
-  ib-v = upd-same s.ib v k
+  pub ib-v-tell : S′.ib v ≡ k
+  ib-v-tell = upd-same s.ib v k
 
   pub ib-else : (w : ℕ) → v ≢ w → S′.ib w ≡ s.ib w
   ib-else w n = upd-other s.ib v k w n
@@ -182,24 +182,24 @@ module _ {p : Network} {s : ProtocolState} (i : Inv p s) {u v k l f x a b d e : 
   be-else w n = upd-other s.be v none w n
 
   -- a sleeper slept, and is not v
-  pub asleep : (w : ℕ) → S′.st w ≡ 0 → (v ≢ w) × (s.st w ≡ 0)
-  asleep w = upd-elim (λ y. y ≡ 0 → (v ≢ w) × (s.st w ≡ 0)) s.st v a w
+  pub asleep-tell : (w : ℕ) → S′.st w ≡ 0 → (v ≢ w) × (s.st w ≡ 0)
+  asleep-tell w = upd-elim (λ y. y ≡ 0 → (v ≢ w) × (s.st w ≡ 0)) s.st v a w
       (λ z h. absurd (⊎-elim (λ t. omega (arith, t .1)) (λ t. omega (arith, t .1)) act.mode)) (λ n h. (n, h))
 
   pub rouse : (w : ℕ) → S′.st w ≢ 0 → s.st w ≢ 0
   rouse w n z = n (st-else w (λ e. awake (ap s.st e ∙ z)) ∙ z)
 
   -- who is informed: v, told at the fragment's level, or one who was
-  pub inf {κ} : {C : Type κ} (w : ℕ) → Inf S′ w → (v ≡ w → l ≡ GL s v → C) → (v ≢ w → Inf s w → C) → C
-  inf w h y n = by-eq v w
+  pub inf-tell {κ} : {C : Type κ} (w : ℕ) → Inf S′ w → (v ≡ w → l ≡ GL s v → C) → (v ≢ w → Inf s w → C) → C
+  inf-tell w h y n = by-eq v w
       (λ z. y z (sym lev-v ∙ ap S′.lev z ∙ h .1 ∙ ap (λ m. GL s m) (sym z)))
       (λ z. n z (h .0, sym (lev-else w z) ∙ h .1))
 
   pub inf-stay : (w : ℕ) → Inf s w → Inf S′ w
   inf-stay w h = (h .0, lev-else w (inf-else w h) ∙ h .1)
 
-  pub inf-v : l ≡ GL s v → Inf S′ v
-  inf-v z = (omega (arith, low), lev-v ∙ z)
+  pub inf-v-tell : l ≡ GL s v → Inf S′ v
+  inf-v-tell z = (omega (arith, low), lev-v ∙ z)
 
   pub was-low : (w : ℕ) → S′.lev w < GL s w → s.lev w < GL s w
   was-low w h = omega (arith, lev-up w)
@@ -238,11 +238,11 @@ module _ {p : Network} {s : ProtocolState} (i : Inv p s) {u v k l f x a b d e : 
   pub was : {y : Msg} (w j : ℕ) → In y (S′.ch w j) → In y (c₁ w j) ⊎ ((v ≡ w) × (kid j ≡ true) × (y ≡ m))
   was w j h = fan-in c₁ v kid m w j h
 
-  pub old : {y : Msg} (g : Msg → ℕ) → g m ≡ 0 → 1 ≤ g y → (w j : ℕ) → In y (S′.ch w j) → In y (s.ch w j)
-  old g z o w j h = ⊎-elim (λ t. pop-in s.ch u k act.q w j t) (λ t. absurd (omega (arith, ap g (t .2)))) (was w j h)
+  pub old-tell : {y : Msg} (g : Msg → ℕ) → g m ≡ 0 → 1 ≤ g y → (w j : ℕ) → In y (S′.ch w j) → In y (s.ch w j)
+  old-tell g z o w j h = ⊎-elim (λ t. pop-in s.ch u k act.q w j t) (λ t. absurd (omega (arith, ap g (t .2)))) (was w j h)
 
-  pub kept : {y : Msg} (g : Msg → ℕ) → g m ≡ 0 → 1 ≤ g y → (w j : ℕ) → In y (s.ch w j) → In y (S′.ch w j)
-  kept g z o w j h = in-fan c₁ v kid m w j (in-pop s.ch u k act.q w j (λ t. omega (arith, ap g t)) h)
+  pub kept-tell : {y : Msg} (g : Msg → ℕ) → g m ≡ 0 → 1 ≤ g y → (w j : ℕ) → In y (s.ch w j) → In y (S′.ch w j)
+  kept-tell g z o w j h = in-fan c₁ v kid m w j (in-pop s.ch u k act.q w j (λ t. omega (arith, ap g t)) h)
 
   -- not the channel from u over k
   pub elsewhere : (j w z : ℕ) → Edge p j w z → v ≢ z → (u ≢ w) ⊎ (k ≢ j)
@@ -252,17 +252,17 @@ module _ {p : Network} {s : ProtocolState} (i : Inv p s) {u v k l f x a b d e : 
   pub hold : {y : Msg} (j w z : ℕ) → Edge p j w z → v ≢ z → In y (s.ch w j) → In y (S′.ch w j)
   hold {y} j w z g n h = in-fan c₁ v kid m w j (subst (λ t. In y t) (sym (else-same s.ch u k r w j (elsewhere j w z g n))) h)
 
-  pub same : (g : Msg → ℕ) → g m ≡ 0 → (w j : ℕ) → sumL g (S′.ch w j) ≡ sumL g (s.ch w j)
-  same g z w j = fan-sum c₁ v kid m g z w j ∙ pop-sum s.ch u k act.q g z w j
+  pub same-tell : (g : Msg → ℕ) → g m ≡ 0 → (w j : ℕ) → sumL g (S′.ch w j) ≡ sumL g (s.ch w j)
+  same-tell g z w j = fan-sum c₁ v kid m g z w j ∙ pop-sum s.ch u k act.q g z w j
 
   -- a channel of which v is at neither end
-  pub off : (j w z : ℕ) → Edge p j w z → v ≢ w → v ≢ z → S′.ch w j ≡ s.ch w j
-  off j w z g n o = fan-else c₁ v kid m w j (inl n) ∙ else-same s.ch u k r w j (elsewhere j w z g o)
+  pub off-tell : (j w z : ℕ) → Edge p j w z → v ≢ w → v ≢ z → S′.ch w j ≡ s.ch w j
+  off-tell j w z g n o = fan-else c₁ v kid m w j (inl n) ∙ else-same s.ch u k r w j (elsewhere j w z g o)
 
   -- the rest of the channel from u over k
-  pub rest : S′.ch u k ≡ r
-  rest = fan-else c₁ v kid m u k (inl (λ z. u≢v (sym z))) ∙ here-new s.ch u k r
+  pub rest-tell : S′.ch u k ≡ r
+  rest-tell = fan-else c₁ v kid m u k (inl (λ z. u≢v (sym z))) ∙ here-new s.ch u k r
 
   -- what is left there stood behind the Initiate
-  pub behind : (y : Msg) → In y (S′.ch u k) → Fits m y
-  behind y h = i.Q1.q1 k u v m y act.ends (subst (λ t. Bef m y t) (sym act.q) (heads (subst (λ t. In y t) rest h)))
+  pub behind-tell : (y : Msg) → In y (S′.ch u k) → Fits m y
+  behind-tell y h = i.Q1.q1 k u v m y act.ends (subst (λ t. Bef m y t) (sym act.q) (heads (subst (λ t. In y t) rest-tell h)))

@@ -13,9 +13,9 @@ init-eq {a} {b} {f} {c} {x} {d} p q r = ap (λ n. initiate n f x) p ∙ ap (λ n
 pub three {κ} : (P : ℕ → ℕ → ℕ → Type κ) {k j v w u z : ℕ} → k ≡ j → v ≡ w → u ≡ z → P k v u → P j w z
 three P {k} {j} {v} {w} {u} {z} o y n h = subst (λ m. P j w m) n (subst (λ m. P j m u) y (subst (λ m. P m v u) o h))
 
-pub six {κ} : (P : ℕ → ℕ → ℕ → ℕ → ℕ → ℕ → Type κ) {k j v w u z a b f c x d : ℕ} → k ≡ j → v ≡ w → u ≡ z → initiate b c d ≡ initiate a f x
+pub initiate-at {κ} : (P : ℕ → ℕ → ℕ → ℕ → ℕ → ℕ → Type κ) {k j v w u z a b f c x d : ℕ} → k ≡ j → v ≡ w → u ≡ z → initiate b c d ≡ initiate a f x
     → P k v u a f x → P j w z b c d
-six P {k} {j} {v} {w} {u} {z} {a} {b} {f} {c} {x} {d} o y n e h =
+initiate-at P {k} {j} {v} {w} {u} {z} {a} {b} {f} {c} {x} {d} o y n e h =
     three (λ m g e. P j w z m g e) (sym (ap arg1 e)) (sym (ap arg2 e)) (sym (ap arg3 e)) (three (λ m g e. P m g e a f x) o y n h)
 
 -- what is sent, and what is filled in, where v sends a copy
