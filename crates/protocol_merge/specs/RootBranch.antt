@@ -6,7 +6,7 @@ use Rattle.protocol.specs.Prelude.{Jn, Inf, Inv, inf-found, inf-awake}
 use Rattle.protocol_merge.specs.Turn.{Turn, root, root-ok, turn-root}
 use Rattle.protocol_merge.specs.Move as M
 use Rattle.protocol_merge.specs.Move.{Move}
-use Rattle.protocol_merge.specs.Pass.{Own, inv-pass}
+use Rattle.protocol_merge.specs.Pass.{PassCase, inv-pass}
 
 -- a table that has the value already
 upd2-id : (f : ℕ → ℕ → ℕ) (v k a : ℕ) → f v k ≡ a → upd2 f v k a ≡ f
@@ -18,7 +18,7 @@ module _ {p : Network} {s : ProtocolState} (i : Inv p s) {v k c : ℕ} (ot : s.o
   turn = turn-root i oo
 
   -- no edge of the fragment is half
-  pub joined : Jn s k v c
+  joined : Jn s k v c
   joined = (branch, by-eq (s.mark c k) 1 (λ e. e) (λ n. absurd (omega (arith, i.D1.m2 k v c ends branch n .0, root i oo .0))))
 
   -- k is not the best weight, which leaves the fragment
@@ -30,7 +30,7 @@ module _ {p : Network} {s : ProtocolState} (i : Inv p s) {v k c : ℕ} (ot : s.o
       ⊎-elim (λ r. x .4 (ap s.fr (sym (r .1)) ∙ sym f)) (λ r. x .4 (ap s.fr (sym (r .0)))) (ends-two ends e)
 
   -- so c is the child that reported it
-  pub child : (s.ib v ≢ k) × Inf s c × (s.ib c ≡ k) × (s.bw c ≡ s.bw v)
+  child : (s.ib v ≢ k) × Inf s c × (s.ib c ≡ k) × (s.bw c ≡ s.bw v)
   child =
       let x = i.B2.b1e v (root-ok i oo .d3i) (root-ok i oo .d3w) inner in
       let q : x .0 ≡ c = ends-same (subst (λ j. Edge p j v (x .0)) best (x .1)) ends in
@@ -56,7 +56,7 @@ module _ {p : Network} {s : ProtocolState} (i : Inv p s) {v k c : ℕ} (ot : s.o
       token : (n : Msg) → isK n ≢ 0 → In n (s.ch v k) → In change (s.ch v k)
       token n z o = some-change (s.ch v k) (omega (arith, in-sum isK o))
 
-  own : Own p s v c k 2 change
+  own : PassCase p s v c k 2 change
   own = record {
     low = omega arith;
     high = omega arith;
@@ -78,7 +78,7 @@ module _ {p : Network} {s : ProtocolState} (i : Inv p s) {v k c : ℕ} (ot : s.o
       d2w = λ z. root-ok i oo .d3w (sym (child .3) ∙ z);
       d2n = λ u j w q e m. omega (
         arith,
-        root-ok i oo .d3b u j w (q ∙ sym (i.M1.m3 k v c ends joined)) e (M.dn0 i turn move u j m),
+        root-ok i oo .d3b u j w (q ∙ sym (i.M1.m3 k v c ends joined)) e (M.dn0-move i turn move u j m),
         ap (key p) (child .3),
       );
     };

@@ -4,7 +4,7 @@ use Rattle.protocol.specs.Prelude.{Network, Edge, ProtocolState, Idle, FirstOwn
 use Rattle.protocol_merge.specs.Turn.{Turn, root-ok, turn-sleeper, turn-root}
 use Rattle.protocol_merge.specs.Leave.{Leave, leave-sleeper, leave-root}
 use Rattle.protocol_merge.specs.Half.{inv-half}
-use Rattle.protocol_merge.specs.Unite.{Ready}
+use Rattle.protocol_merge.specs.Unite.{MergeReady}
 use Rattle.protocol_merge.specs.Merge.{inv-merge}
 
 -- waking v is Found and nothing was open, so these are the states of the lemmas
@@ -18,7 +18,7 @@ module _ {p : Network} {s : ProtocolState} (i : Inv p s) {v k y : ℕ} (idle : I
   wake-level : 0 ≡ GL s v
   wake-level = sym (i.G6.g6 v asleep .g6g)
 
-  pub wake-ready : s.mark y k ≡ 1 → Ready p s v k y 0
+  pub wake-ready : s.mark y k ≡ 1 → MergeReady p s v k y 0
   wake-ready m = record { inv = i; turn = wake-turn; leave = wake-leave; level = wake-level; branch = m }
 
   pub inv-wake-half : s.mark y k ≢ 1 → Inv p (halved (wokenUp s v) v k 0)
@@ -38,7 +38,7 @@ module _ {p : Network} {s : ProtocolState} (i : Inv p s) {v k y : ℕ} (ot : s.o
   pub root-leave : Leave p s v k y
   root-leave = leave-root i oo ends best no-branch
 
-  pub root-ready : s.mark y k ≡ 1 → Ready p s v k y (s.lev v)
+  pub root-ready : s.mark y k ≡ 1 → MergeReady p s v k y (s.lev v)
   root-ready m = record { inv = i; turn = turn-root i oo; leave = root-leave; level = root-ok i oo .d3i .1; branch = m }
 
   pub inv-root-half : s.mark y k ≢ 1 → Inv p (set-oo (halved s v k (s.lev v)) 0)
