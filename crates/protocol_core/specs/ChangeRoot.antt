@@ -5,7 +5,7 @@ use Rattle.protocol.specs.Prelude.{isR, isK, In, at2, here-new, pop-head, pop-i
 use Rattle.protocol.specs.Prelude.{DK, Changing, Inv, decided-find, decided-report}
 use Rattle.protocol.specs.Decisions.{ChangingOk}
 use Rattle.protocol_core.specs.Late.{late-change}
-use Rattle.protocol_core.specs.Rooted.{Ready, inv-rooted}
+use Rattle.protocol_core.specs.Rooted.{RootReady, inv-rooted}
 
 module _ {p : Network} {s : ProtocolState} (i : Inv p s) {u v k : ℕ} {r : List Msg} (idle : Idle s) (ends : Edge p k u v) (q : s.ch u k ≡ change ∷ r) where
   -- it is the fragment's decision
@@ -15,7 +15,7 @@ module _ {p : Network} {s : ProtocolState} (i : Inv p s) {u v k : ℕ} {r : List
   pub changing-ok : ChangingOk p s.fr s.gl s.gc s.lev s.ib s.ub s.bw s.mark k u v
   changing-ok = i.D2.d2 k u v ends changing
 
-  pub inside : s.fr u ≡ s.fr v
+  inside : s.fr u ≡ s.fr v
   inside = i.M1.m3 k u v ends (changing-ok .d2j)
 
   pub dk : DK s v ≡ 2
@@ -37,7 +37,7 @@ module _ {p : Network} {s : ProtocolState} (i : Inv p s) {u v k : ℕ} {r : List
       let b : j ≡ k = sym (t .2) ∙ ap s.de (f ∙ sym inside) ∙ changing .2 in
       omega (arith, none-in isK (rest-none i isK ends q (λ n z. z)) (subst (λ l. In change l) (at2 (upd2 s.ch u k r) a b ∙ here-new s.ch u k r) o))
 
-  ready : Ready p s u v k r
+  ready : RootReady p s u v k r
   ready = record {
     ends = ends;
     inside = inside;

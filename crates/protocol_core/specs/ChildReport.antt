@@ -10,7 +10,7 @@ use Rattle.protocol.specs.Search.{Pending, FindCounts}
 use Rattle.protocol.specs.Traffic.{Tokens, Reports, Owing, Bests}
 use Rattle.protocol.specs.Weigh as W
 use Rattle.protocol.specs.Weigh.{LeavesFragment}
-use Rattle.protocol_core.specs.Late.{Kept, late-report, kept}
+use Rattle.protocol_core.specs.Late.{Kept, late-report, late-kept}
 use Rattle.protocol_core.specs.Core as C
 
 module _ {p : Network} {s : ProtocolState} (i : Inv p s) {u v k w b e : ℕ} {r : List Msg} (idle : Idle s) (ends : Edge p k u v) (q : s.ch u k ≡ report w ∷ r)
@@ -22,16 +22,16 @@ module _ {p : Network} {s : ProtocolState} (i : Inv p s) {u v k w b e : ℕ} {r 
   c′ = upd2 s.ch u k r
 
   others : Kept p S′
-  others = kept i q (late-report w) S′.bw S′.be S′.fc s.halt s.dk s.dn S′.owe (suc v) s.oo
+  others = late-kept i q (late-report w) S′.bw S′.be S′.fc s.halt s.dk s.dn S′.owe (suc v) s.oo
 
   -- it is a child's, and is counted
-  pub child : Child s u v k w
+  child : Child s u v k w
   child = C.child i ends q away
 
   pub owed : s.owe v k ≡ 1
   owed = C.owed i ends q away
 
-  pub inf-u : Inf s u
+  inf-u : Inf s u
   inf-u = child .0
 
   pub found-u : s.st u ≡ 2
@@ -40,19 +40,19 @@ module _ {p : Network} {s : ProtocolState} (i : Inv p s) {u v k w b e : ℕ} {r 
   pub best-u : s.bw u ≡ w
   best-u = child .4
 
-  pub find : s.st v ≡ 1
+  find : s.st v ≡ 1
   find = child .6
 
-  pub joined : Jn s k v u
-  joined = let t = C.joined i ends q in (t .1, t .0)
+  joined : Jn s k v u
+  joined = let t = C.report-joined i ends q in (t .1, t .0)
 
   -- ---- v's best
 
   -- w leaves the fragment, from u's side, which is v's
-  pub leaves : w ≢ none → LeavesFragment p s v w
+  leaves : w ≢ none → LeavesFragment p s v w
   leaves n =
       let t = i.B1.b1 u inf-u (λ z. n (sym best-u ∙ z)) in
-      let f = C.inside i ends q in (
+      let f = C.report-inside i ends q in (
         t .0,
         t .1,
         subst (λ a. Edge p a (t .0) (t .1)) best-u (t .2),
@@ -153,7 +153,7 @@ module _ {p : Network} {s : ProtocolState} (i : Inv p s) {u v k w b e : ℕ} {r 
       -- the best of u, whose Report is gone, is weighed
       cover : (x n : ℕ) → Covered p s x n → Covered p S′ x n
       cover x n t = W.cover i (idle .2) find (flip ends) better leaves c′ (pop-le s.ch u k q isR) x n t (λ d. by-eq u (t .0)
-          (λ z. inl (sym (C.inside i ends q) ∙ ap s.fr z ∙ t .1, omega (arith, W.best-w i (idle .2) find (flip ends) better leaves, ap (key p) (sym (ap s.bw z) ∙ best-u))))
+          (λ z. inl (sym (C.report-inside i ends q) ∙ ap s.fr z ∙ t .1, omega (arith, W.best-w i (idle .2) find (flip ends) better leaves, ap (key p) (sym (ap s.bw z) ∙ best-u))))
           (λ a. inr (live (t .0) a (t .4))))
 
   pub inv-child-report : Inv p S′

@@ -33,8 +33,8 @@ module _ {p : Network} {s : ProtocolState} (i : Inv p s) {u v k w : ℕ} {r : Li
   abbrev c′ : ℕ → ℕ → List Msg
   c′ = upd2 s.ch u k r
 
-  pub inside : s.fr u ≡ s.fr v
-  inside = C.inside i ends q
+  inside : s.fr u ≡ s.fr v
+  inside = C.report-inside i ends q
 
   dk-in : (x : ℕ) → s.fr x ≡ s.fr v → DK S′ x ≡ 4
   dk-in x e = ap S′.dk e ∙ upd-same s.dk (s.fr v) 4
@@ -110,7 +110,7 @@ module _ {p : Network} {s : ProtocolState} (i : Inv p s) {u v k w : ℕ} {r : Li
       dk-of x e z = omega (arith, ap s.dk e, over .0)
 
       level-u : 1 ≤ GL s u
-      level-u = joined-level i k u v ends (C.joined i ends q)
+      level-u = joined-level i k u v ends (C.report-joined i ends q)
 
   ending : Ending p s u v k c′ S′
   ending = ⊎-elim ending-core ending-spent (C.core-or-spent i ends q found)

@@ -5,7 +5,7 @@ use Rattle.protocol.specs.Prelude.{Network, Edge, key, flip, ends-two, other-en
 use Rattle.protocol.specs.Prelude.{isR, arg1, kinds, In, else-same, pop-in, in-pop, pop-le, pop-all}
 use Rattle.protocol.specs.Prelude.{GC, DK, Inf, Jn, Outst, Counting, CoreEnds, Inv, inf-cases, joined-level, up-other, reports-same, take-alike, inv-passing, outst-ch, counting-ch, last-case}
 use Rattle.protocol.specs.Traffic.{Tokens, Owing, Bests}
-use Rattle.protocol_core.specs.Late.{Kept, late-report, kept}
+use Rattle.protocol_core.specs.Late.{Kept, late-report, late-kept}
 use Rattle.protocol_core.specs.Core as C
 
 module _ {p : Network} {s : ProtocolState} (i : Inv p s) {u v k w : ℕ} {r : List Msg} (idle : Idle s) (ends : Edge p k u v) (q : s.ch u k ≡ report w ∷ r)
@@ -17,7 +17,7 @@ module _ {p : Network} {s : ProtocolState} (i : Inv p s) {u v k w : ℕ} {r : Li
   c′ = upd2 s.ch u k r
 
   others : Kept p S′
-  others = kept i q (late-report w) s.bw s.be s.fc s.halt s.dk s.dn s.owe s.op s.oo
+  others = late-kept i q (late-report w) s.bw s.be s.fc s.halt s.dk s.dn s.owe s.op s.oo
 
   -- w is an edge
   pub w-some : w ≢ none
@@ -38,7 +38,7 @@ module _ {p : Network} {s : ProtocolState} (i : Inv p s) {u v k w : ℕ} {r : Li
 
       equal : key p w ≡ key p (s.bw v) → ⊥
       equal z =
-          let lw = i.R1.r1r k u v w ends (C.head i ends q) w-some in
+          let lw = i.R1.r1r k u v w ends (C.report-in i ends q) w-some in
           let n : s.bw v ≢ none = λ o. omega (arith, ap (key p) o, key-none p, key-edge p w lw, rank-lt p w lw) in
           let lv = i.W1.w1w v n in
           let e : w ≡ s.bw v = rank-inj p w (s.bw v) lw lv (omega (arith, key-edge p w lw, key-edge p (s.bw v) lv)) in
@@ -49,17 +49,17 @@ module _ {p : Network} {s : ProtocolState} (i : Inv p s) {u v k w : ℕ} {r : Li
           ∙ sym (a .7) ∙ ap s.side x ∙ b .7 ∙ i.T1.t1d v iv (C.ib-v i ends q idle found c ∙ sym (C.core-v i ends q idle found c)) .1)
         where
           inner : (j x y x′ y′ : ℕ) → Edge p j x y → Edge p j x′ y′ → s.fr x ≡ s.fr u → s.fr y′ ≢ s.fr v → x ≡ x′
-          inner j x y x′ y′ e f g h = ⊎-elim (λ t. t .0) (λ t. absurd (h (ap s.fr (sym (t .0)) ∙ g ∙ C.inside i ends q))) (ends-two e f)
+          inner j x y x′ y′ e f g h = ⊎-elim (λ t. t .0) (λ t. absurd (h (ap s.fr (sym (t .0)) ∙ g ∙ C.report-inside i ends q))) (ends-two e f)
 
   -- at an undecided core it is a core end's
   pub at-core : GC s v ≡ k → DK s v ≡ 0 → CoreEnds s u v k w
   at-core g d = inf-cases i v
-      (λ h. i.R1.r1c k u v w ends (C.head i ends q) h d g)
+      (λ h. i.R1.r1c k u v w ends (C.report-in i ends q) h d g)
       (λ l. absurd (i.T2.t4u k v u (flip ends) jn g l .t4i ib))
       (λ z. absurd (omega (arith, joined-level i k v u (flip ends) jn)))
     where
       jn : Jn s k v u
-      jn = let t = C.joined i ends q in (t .1, t .0)
+      jn = let t = C.report-joined i ends q in (t .1, t .0)
 
   -- v's own Report waits then
   pub own-waits : CoreEnds s u v k w → 1 ≤ sumL isR (s.ch v k)
@@ -95,7 +95,7 @@ module _ {p : Network} {s : ProtocolState} (i : Inv p s) {u v k w : ℕ} {r : Li
       -- x is u: the other end's own Report waits
       from-u : (j x y : ℕ) → Edge p j x y → u ≡ x → k ≡ j → GC s x ≡ j → DK s x ≡ 0 → Inf s y × (s.st y ≡ 2) × (key p (s.bw x) < key p (s.bw y)) × (1 ≤ sumL isR (c′ y j))
       from-u j x y e a b g d =
-          let f = C.inside i ends q in
+          let f = C.report-inside i ends q in
           let c = at-core (sym (ap s.gc f) ∙ ap (λ z. GC s z) a ∙ g ∙ sym b) (sym (ap s.dk f) ∙ ap (λ z. DK s z) a ∙ d) in
           subst (λ y. Inf s y × (s.st y ≡ 2) × (key p (s.bw x) < key p (s.bw y)) × (1 ≤ sumL isR (c′ y j))) (other-end ends e a b) (
             C.inf-v i ends q idle found c,

@@ -5,12 +5,12 @@ use Rattle.protocol.specs.Prelude.{Network, Edge, key, key-none, ProtocolState,
 use Rattle.protocol.specs.Prelude.{Bounds, CoreEnds, Spent, Inv}
 use Rattle.protocol_core.specs.Late.{late-report}
 use Rattle.protocol_core.specs.Core as C
-use Rattle.protocol_core.specs.Rooted.{Ready, inv-rooted}
+use Rattle.protocol_core.specs.Rooted.{RootReady, inv-rooted}
 
 module _ {p : Network} {s : ProtocolState} (i : Inv p s) {u v k w : ℕ} {r : List Msg} (idle : Idle s) (ends : Edge p k u v) (q : s.ch u k ≡ report w ∷ r)
     (ib : s.ib v ≡ k) (found : s.st v ≢ 1) (later : key p (s.bw v) < key p w) where
   -- it is a core end's: a spent one is earlier than v's best
-  pub core : CoreEnds s u v k w
+  core : CoreEnds s u v k w
   core = ⊎-elim (λ t. t)
       (λ t. absurd (⊎-elim (λ l. omega arith) (λ l. omega (arith, ap (key p) (l .0), ap (key p) (l .1))) (t .5)))
       (C.core-or-spent i ends q found)
@@ -37,10 +37,10 @@ module _ {p : Network} {s : ProtocolState} (i : Inv p s) {u v k w : ℕ} {r : Li
       own : (n : ℕ) → s.bw v ≡ n → Spent p s v u k n
       own n z = C.own-spent i ends q idle found core s.dk n (inl (omega (arith, ap (key p) z, ap (key p) (C.best-u i ends q idle found core))))
 
-  ready : Ready p s u v k r
+  ready : RootReady p s u v k r
   ready = record {
     ends = ends;
-    inside = C.inside i ends q;
+    inside = C.report-inside i ends q;
     inf = C.inf-v i ends q idle found core;
     ib = ib;
     ub-v = C.ub-v i ends q idle found core;

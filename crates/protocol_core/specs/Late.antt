@@ -33,8 +33,8 @@ module _ {p : Network} {s : ProtocolState} (i : Inv p s) {u k : ℕ} {m : Msg} {
     abbrev after : ProtocolState
     after = set-oo (set-op (set-owe (set-dn (set-dk (set-halt (set-fc (set-be (set-bw (pop s u k r) bw) be) fc) halt) dk) dn) owe) op) oo
 
-    pub kept : Kept p after
-    kept =
+    pub late-kept : Kept p after
+    late-kept =
         let g = take-hush p s u k q i.G6c in
         let c = take-connects p s u k q i.C1 in
         let n = take-initiates p s u k q i.I1 in

@@ -7,7 +7,7 @@ use Rattle.protocol.specs.Decisions.{RootOk, Rootings}
 use Rattle.protocol_core.specs.Late.{Late}
 use Rattle.protocol_core.specs.Rule.{Ruling, inv-rule}
 
-pub record Ready (p : Network) (s : ProtocolState) (u v k : ℕ) (r : List Msg) : Type 0 where
+pub record RootReady (p : Network) (s : ProtocolState) (u v k : ℕ) (r : List Msg) : Type 0 where
   pub ends : Edge p k u v
   pub inside : s.fr u ≡ s.fr v
   -- v is informed, k is its in-branch and inbound for both ends
@@ -28,7 +28,7 @@ pub record Ready (p : Network) (s : ProtocolState) (u v k : ℕ) (r : List Msg) 
   pub no-token : (j x y : ℕ) → Edge p j x y → s.fr x ≡ s.fr v → ¬ In change (upd2 s.ch u k r x j)
   pub spent : (j a b n : ℕ) → Edge p j a b → s.fr a ≡ s.fr v → In (report n) (upd2 s.ch u k r a j) → Spent p s a b j n
 
-module _ {p : Network} {s : ProtocolState} (i : Inv p s) {u v k : ℕ} {m : Msg} {r : List Msg} (idle : Idle s) (q : s.ch u k ≡ m ∷ r) (late : Late m) (h : Ready p s u v k r) where
+module _ {p : Network} {s : ProtocolState} (i : Inv p s) {u v k : ℕ} {m : Msg} {r : List Msg} (idle : Idle s) (q : s.ch u k ≡ m ∷ r) (late : Late m) (h : RootReady p s u v k r) where
   abbrev dk′ : ℕ → ℕ
   dk′ = upd s.dk (s.fr v) 1
 

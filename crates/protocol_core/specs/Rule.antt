@@ -9,7 +9,7 @@ use Rattle.protocol.specs.Fragments.{Ranges, Sleepers}
 use Rattle.protocol.specs.Decisions.{Halves, ChangeRoots, Rootings, Finishes}
 use Rattle.protocol.specs.Search.{Parents, Finds}
 use Rattle.protocol.specs.Traffic.{Tokens, Reports, Owing, Bests}
-use Rattle.protocol_core.specs.Late.{Late, Kept, kept}
+use Rattle.protocol_core.specs.Late.{Late, Kept, late-kept}
 
 -- the state afterwards
 abbrev pub ruled : ProtocolState → ℕ → ℕ → ℕ → List Msg → ℕ → (ℕ → ℕ) → (ℕ → ℕ) → ℕ → ProtocolState
@@ -53,7 +53,7 @@ module _ {p : Network} {s : ProtocolState} (i : Inv p s) {u v k d : ℕ} {m : Ms
   c′ = upd2 s.ch u k r
 
   others : Kept p S′
-  others = kept i q late s.bw s.be s.fc halt S′.dk dn s.owe s.op oo
+  others = late-kept i q late s.bw s.be s.fc halt S′.dk dn s.owe s.op oo
 
   d-kind : (d ≡ 1) ⊎ (d ≡ 4)
   d-kind = ⊎-elim (λ t. inl (t .0)) (λ t. inr (t .0)) (h.verdict)

@@ -26,19 +26,19 @@ module _ {p : Network} {s : ProtocolState} (i : Inv p s) {v k u : ℕ} (ot : s.o
 
   -- ---- v before the step
 
-  pub find : s.st v ≡ 1
+  find : s.st v ≡ 1
   find = i.F2.f5p v op
 
-  pub inf : Inf s v
+  inf : Inf s v
   inf = i.F1.f1 v find .f1i
 
-  pub undec : DK s v ≡ 0
+  undec : DK s v ≡ 0
   undec = i.F1.f1 v find .f1k
 
-  pub v≢u : v ≢ u
+  v≢u : v ≢ u
   v≢u = ends-irr p ends
 
-  pub jn : Jn s k v u
+  jn : Jn s k v u
   jn = i.U1.u1i k v u ends ib
 
   pub nj : Jn s k u v
@@ -48,7 +48,7 @@ module _ {p : Network} {s : ProtocolState} (i : Inv p s) {v k u : ℕ} (ot : s.o
   frs = i.M1.m3 k v u ends jn
 
   -- the other end is informed, or the edge is the core
-  pub beyond : GC s v ≢ k → Inf s u
+  beyond : GC s v ≢ k → Inf s u
   beyond n = i.T1.t1p k v u ends inf ib n .0
 
   -- no Report of v is there yet
@@ -83,7 +83,7 @@ module _ {p : Network} {s : ProtocolState} (i : Inv p s) {v k u : ℕ} (ot : s.o
   stay : (w : ℕ) → v ≢ w → S′.st w ≡ s.st w
   stay w n = upd-other s.st v 2 w n
 
-  pub found : (w : ℕ) → s.st w ≡ 2 → S′.st w ≡ 2
+  found : (w : ℕ) → s.st w ≡ 2 → S′.st w ≡ 2
   found w h = upd-elim (λ x. x ≡ 2) s.st v 2 w (λ q. refl) (λ n. h)
 
   other : (w : ℕ) → S′.st w ≡ 1 → v ≢ w
