@@ -4,7 +4,7 @@ use Rattle.protocol.specs.Prelude.{List, _∷_, upd2, upd2-elim, Msg, connect, 
 use Rattle.protocol.specs.Prelude.{Network, Edge, flip, ends-same, ProtocolState, Idle, Flag}
 use Rattle.protocol.specs.Prelude.{In, all-in, pop-head, at2, GL, Half, Inv}
 use Rattle.protocol_budget.specs.Paid.{Dues, Tries, Paid}
-use Rattle.protocol_budget.specs.Height.{keep, tb-none, tb-le}
+use Rattle.protocol_budget.specs.Height.{paid-keep, tb-none, tb-le}
 use Rattle.protocol.specs.Prelude.{bulk-in, bulk-out, sendOver, pop, absorbed, half-at}
 use Rattle.protocol_budget.specs.Raise.{Raised, raise}
 
@@ -73,7 +73,7 @@ module _ {p : Network} {z n : ℕ} {s : ProtocolState} (i : Inv p s) (h : Paid p
   }
 
   pub paid-absorb : Paid p z S′ (n + 1)
-  paid-absorb = keep h′ S′ (h′ .H) D′ T′
+  paid-absorb = paid-keep h′ S′ (h′ .H) D′ T′
       (record { ts3 = h′ .L .ts3; lk1 = λ j w y e a b. h′ .L .lk1 j w y e (still w j a) (λ o. b (rejected y j o)); lk2 = h′ .L .lk2 })
     where
       still : (w j : ℕ) → upd2 s.mark v k 1 w j ≡ 0 → s.mark w j ≡ 0

@@ -12,8 +12,8 @@ use Rattle.protocol_budget.specs.Steps.{paid-step, lone-step}
 
 module _ {p : Network} {s : ProtocolState} (i : Inv p s) where
   -- no level is above the logarithm; two fragments: the lower is below it
-  pub level : (v : ℕ) → v < p.N → GL s v ≤ log2 p.N
-  level v l = level-one p.N s.fr (s.fr v) (GL s v) (i.G4.g4 v l)
+  pub level-log : (v : ℕ) → v < p.N → GL s v ≤ log2 p.N
+  level-log v l = level-one p.N s.fr (s.fr v) (GL s v) (i.G4.g4 v l)
 
   two : (x y : ℕ) → x < p.N → y < p.N → s.fr x ≢ s.fr y → GL s x ≤ GL s y → suc (GL s x) ≤ log2 p.N
   two x y a b n l = level-two p.N s.fr (s.fr x) (s.fr y) (GL s x) (GL s y) n (i.G4.g4 x a) (i.G4.g4 y b) l
@@ -69,7 +69,7 @@ module _ {p : Network} {s : ProtocolState} (i : Inv p s) where
       each : (v : ℕ) → v < p.N → 5 * h.tb v + 3 ≤ 5 * log2 p.N + (h.ts v + h.rt v)
       each v l =
           let a = tb-le i (h.H) v in
-          let b = level v l in
+          let b = level-log v l in
           by-eq (h.tb v) (log2 p.N)
           (λ e.
           let g : GL s v ≡ log2 p.N = omega arith in

@@ -5,7 +5,7 @@ use Rattle.protocol.specs.Prelude.{Network, Edge, end-lt, flip, other-end, ends
 use Rattle.protocol.specs.Prelude.{top, top-none, In, all-in, at2, GL, DK, Inf, Inv}
 use Rattle.protocol.specs.Decisions.{HalfOk, RootOk}
 use Rattle.protocol_budget.specs.Paid.{Dues, Paid}
-use Rattle.protocol_budget.specs.Height.{keep, Neutral, heights-send, links-send, dues-decide, tb-inf, tb-le}
+use Rattle.protocol_budget.specs.Height.{paid-keep, Neutral, heights-send, links-send, dues-decide, tb-inf, tb-le}
 use Rattle.protocol.specs.Prelude.{bulk, bulk-in, bulk-out, set-st, set-oo, halved, merged, wokenUp, woken-same, sleep-lev, sleep-ub, no-initiate}
 
 -- v, whose fragment is half, needs no more for its Connect
@@ -93,7 +93,7 @@ module _ {p : Network} {z n : ℕ} {s : ProtocolState} (h : Paid p z s n) {v y :
       (bulk-out s.fr (s.fr y) 1 (bulk s.fr (s.fr v) 1 s.due) w (t .0) ∙ bulk-out s.fr (s.fr v) 1 s.due w (λ e. d (sym e ∙ sym (t .1)))))
 
   pub paid-merge : Paid p z S′ n
-  paid-merge = keep h S′ (h.H)
+  paid-merge = paid-keep h S′ (h.H)
       (record {
         rp1 = λ w q. cases w q (λ a b c d. omega (arith, d, h.D .rp1 w (q ∙ b)));
         rt0 = λ w q o. cases w q (λ a b c d. h.D .rt0 w (q ∙ b) (⊎-elim (λ e. inl (sym c ∙ e)) (λ e. inr (sym c ∙ e)) o));
@@ -124,14 +124,14 @@ module _ {p : Network} {z n : ℕ} {s : ProtocolState} (i : Inv p s) (h : Paid p
 
   pub paid-wake-half : Paid p z (halved (wokenUp s v) v k 0) (n + 1)
   paid-wake-half = subst (λ x. Paid p z (halved x v k 0) (n + 1)) (sym (woken-same i v asleep))
-      (let h′ = woken-half in keep h′ (halved (set-st s (upd s.st v 2)) v k 0) (h′.H) (h′.D) (h′.T) (h′.L))
+      (let h′ = woken-half in paid-keep h′ (halved (set-st s (upd s.st v 2)) v k 0) (h′.H) (h′.D) (h′.T) (h′.L))
 
   pub paid-wake-merge : s.mark y k ≡ 1 → Paid p z (merged (halved (wokenUp s v) v k 0) v y k) (n + 1)
   unfolding woken-half paid-half
   paid-wake-merge m = subst (λ x. Paid p z (merged (halved x v k 0) v y k) (n + 1)) (sym (woken-same i v asleep))
       (let a : GL s y ≡ GL s v = omega (arith, level, o.d1g, sleep-lev i v asleep) in
       let h′ = paid-merge {s = halved s v k 0} woken-half {v = v} {y = y} k (tb-le i (h.H)) a in
-      keep h′ (merged (halved (set-st s (upd s.st v 2)) v k 0) v y k) (h′.H) (h′.D) (h′.T) (h′.L))
+      paid-keep h′ (merged (halved (set-st s (upd s.st v 2)) v k 0) v y k) (h′.H) (h′.D) (h′.T) (h′.L))
     where
       o : HalfOk p s.fr s.gl s.lev s.ub s.mark k y v
       o = i.D1.d1 k y v (flip ends) (i.D1.m2 k y v (flip ends) m (λ a. omega (arith, i.G6.g6m v k asleep)))
@@ -163,7 +163,7 @@ module _ {p : Network} {z n : ℕ} {s : ProtocolState} (i : Inv p s) (h : Paid p
       (λ a f x m. no-initiate i k y v a f x (flip ends) inf m) (λ o. outer .0 (sym (i.M1.m1 k v y ends o .0)))
 
   pub paid-root-half : Paid p z (set-oo (halved s v k (s.lev v)) 0) (n + 1)
-  paid-root-half = let h′ = root-sends in keep h′ (set-oo (halved s v k (s.lev v)) 0) (h′.H) (h′.D) (h′.T) (h′.L)
+  paid-root-half = let h′ = root-sends in paid-keep h′ (set-oo (halved s v k (s.lev v)) 0) (h′.H) (h′.D) (h′.T) (h′.L)
 
   pub paid-root-merge : s.mark y k ≡ 1 → Paid p z (set-oo (merged (halved s v k (s.lev v)) v y k) 0) (n + 1)
   unfolding root-sends paid-half
@@ -171,4 +171,4 @@ module _ {p : Network} {z n : ℕ} {s : ProtocolState} (i : Inv p s) (h : Paid p
       let o = i.D1.d1 k y v (flip ends) (i.D1.m2 k y v (flip ends) m branch) in
       let a : GL s y ≡ GL s v = omega (arith, o.d1g, o.d1l, inf .1, outer .1) in
       let h′ = paid-merge {s = halved s v k (s.lev v)} root-sends {v = v} {y = y} k (tb-le i (h.H)) a in
-      keep h′ (set-oo (merged (halved s v k (s.lev v)) v y k) 0) (h′.H) (h′.D) (h′.T) (h′.L)
+      paid-keep h′ (set-oo (merged (halved s v k (s.lev v)) v y k) 0) (h′.H) (h′.D) (h′.T) (h′.L)

@@ -6,9 +6,9 @@ use Rattle.protocol_budget.specs.Paid.{Heights, Dues, Tries, Links, Paid
 
 -- ---- the same tables, in another state
 
-pub keep : {p : Network} {z n : ℕ} {s : ProtocolState} (h : Paid p z s n) (s′ : ProtocolState) → Heights p s′.lev s′.ub s′.ch (h.tb) → Dues s′.lev s′.fr s′.gl s′.due s′.dk s′.dn s′.dep (h.tb) (h.rp) (h.rt)
+pub paid-keep : {p : Network} {z n : ℕ} {s : ProtocolState} (h : Paid p z s n) (s′ : ProtocolState) → Heights p s′.lev s′.ub s′.ch (h.tb) → Dues s′.lev s′.fr s′.gl s′.due s′.dk s′.dn s′.dep (h.tb) (h.rp) (h.rt)
     → Tries z s′.lev s′.fr s′.gl s′.due (h.tb) (h.ts) s′.ot → Links p z s′.lev s′.te s′.mark s′.ch s′.ot (h.ts) (h.lk) → Paid p z s′ n
-keep h s′ a b c d = record { tb = h.tb; rp = h.rp; ts = h.ts; rt = h.rt; lk = h.lk; H = a; D = b; T = c; L = d; bal = h.bal }
+paid-keep h s′ a b c d = record { tb = h.tb; rp = h.rp; ts = h.ts; rt = h.rt; lk = h.lk; H = a; D = b; T = c; L = d; bal = h.bal }
 
 -- ---- a message that is no Initiate, nor Test, nor Accept
 

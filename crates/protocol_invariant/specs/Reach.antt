@@ -5,7 +5,7 @@ use Rattle.base.specs.Log.{log2}
 use Rattle.base.specs.Ceiling.{ceiling}
 use Rattle.protocol_budget.specs.Ceiling.{Sent, sent-setup, sent-step, sent-ceiling, sent-low}
 use Rattle.protocol_invariant.specs.Step.{inv-step}
-use Rattle.protocol_invariant.specs.Within.{Within, Carried, Unrefused, only-tree, within, carried, unrefused}
+use Rattle.protocol_invariant.specs.Within.{Within, Carried, Unrefused, only-tree, inv-within, carried, unrefused}
 
 -- a state of which the invariant holds, after n messages
 pub record Reach (p : Network) (s : ProtocolState) (n : ℕ) : Type 0 where
@@ -46,4 +46,4 @@ reach-tree h v k m = only-tree (h.inv) v k m
 
 -- VALUES AND MESSAGES ARE WITHIN THEIR LISTS, and no condition of refusal 32 is met
 pub reach-within : {p : Network} {s : ProtocolState} {n : ℕ} → Reach p s n → Within p s × Carried p s × Unrefused p s
-reach-within h = (within (h.inv), carried (h.inv), unrefused (h.inv))
+reach-within h = (inv-within (h.inv), carried (h.inv), unrefused (h.inv))

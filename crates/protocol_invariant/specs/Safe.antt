@@ -4,18 +4,18 @@ use Rattle.protocol.specs.Prelude.{ℕ, suc, _+_, _≤_, _<_, arith, _≡_, ap,
 use Rattle.protocol.specs.Prelude.{List, _∷_, sum, sum-le, Msg, connect, initiate, test, report, Network, Edge, end-lt, flip, ProtocolState}
 use Rattle.protocol.specs.Prelude.{Rouse, In, all-in, GL, Inv}
 use Rattle.base.specs.Log.{log2}
-use Rattle.protocol_budget.specs.Ceiling.{level}
+use Rattle.protocol_budget.specs.Ceiling.{level-log}
 use Rattle.protocol_core.specs.Core.{count}
 
 module _ {p : Network} {s : ProtocolState} (i : Inv p s) where
   -- ---- 31: levels are at most ⌊log2 N⌋
 
   pub lev-le : (v : ℕ) → v < p.N → s.lev v ≤ log2 p.N
-  lev-le v l = omega (arith, i.G2.g2 v, level i v l)
+  lev-le v l = omega (arith, i.G2.g2 v, level-log i v l)
 
   pub connect-le : (k u v l : ℕ) → Edge p k u v → In (connect l) (s.ch u k) → l ≤ log2 p.N
   connect-le k u v l e n =
-      let b = level i u (end-lt p e) in
+      let b = level-log i u (end-lt p e) in
       by-eq (s.mark v k) 1 (λ m. omega (arith, b, i.C1.c1 k u v l e n m .1))
       (λ m. omega (arith, b, all-in (i.Dc.d1a k u v e (i.D1.m2 k u v e (i.C1.c1m k u v l e n) m)) n))
 
@@ -23,7 +23,7 @@ module _ {p : Network} {s : ProtocolState} (i : Inv p s) where
   initiate-ok k u v l f x e n =
       let t = i.I1.i1 k u v l f x e n in (
         omega (arith, t.i1l),
-        omega (arith, t.i1g, level i v (end-lt p (flip e))),
+        omega (arith, t.i1g, level-log i v (end-lt p (flip e))),
         t.i1f,
         by-eq l (GL s v) (λ q. omega (arith, t.i1d q, i.W0.due-le v)) (λ q. omega (arith, t.i1z (omega (arith, t.i1g)))),
       )
@@ -56,7 +56,7 @@ module _ {p : Network} {s : ProtocolState} (i : Inv p s) where
       let b = i.C1.c1m k u v l e n in
       let o : s.mark v k ≡ 1 = by-eq (s.mark v k) 1 (λ q. q) (λ q. absurd (i.M1.m1 k v u (flip e) (omega (arith, i.W0.mark-le v k)) .1 b)) in
       let t = i.C1.c1 k u v l e n o in
-      omega (arith, t .1, t .2, level i u (end-lt p e))
+      omega (arith, t .1, t .2, level-log i u (end-lt p e))
 
   -- a Report of a child is counted
   pub child-count : (k u v w : ℕ) {r : List Msg} → Edge p k u v → s.ch u k ≡ report w ∷ r → s.ib v ≢ k → s.fc v ≢ 0

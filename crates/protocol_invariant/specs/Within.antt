@@ -11,7 +11,7 @@ use Rattle.protocol_invariant.specs.Step.{inv-step}
 use Rattle.protocol_invariant.specs.Safe.{lev-le, connect-le, initiate-ok, test-ok, count-le, to-sleeper, reply-le, child-count, test-level, report-branch, root-edge}
 
 -- the number of v's own edges
-abbrev pub degree : Network → ℕ → ℕ
+abbrev degree : Network → ℕ → ℕ
 degree p v = sum p.g.L (λ k. bit (eqb (p.g.lo k) v || eqb (p.g.hi k) v))
 
 -- the values of the nodes
@@ -86,8 +86,8 @@ module _ {p : Network} {s : ProtocolState} (i : Inv p s) where
   pub only-tree : (v k : ℕ) → s.mark v k ≡ 1 → Tree p k
   only-tree v k m = let t = i.M1.own v k (λ z. omega arith) in i.M1.m5 k v (t .0) (t .1) m
 
-  pub within : Within p s
-  within = record {
+  pub inv-within : Within p s
+  inv-within = record {
     status = i.W0.st-le;
     level = lev-le i;
     no-identity = i.G2.g3z;

@@ -6,7 +6,7 @@ use native.Mathlib.Decide.{ℕ-discrete}
 use Rattle.base.specs.Search.{least, Least}
 use Rattle.graph.specs.Ways.{Any, back}
 use Rattle.protocol_stuck.specs.Informed.{Stuck, no-changing, no-rooting, all-inf}
-use Rattle.protocol_stuck.specs.Waiting.{lower, meets, earlier}
+use Rattle.protocol_stuck.specs.Waiting.{lower, half-meets, half-earlier}
 
 -- a node has an edge, or none
 pub edge? : (p : Network) (v : ℕ) → ((k : ℕ) × (u : ℕ) × Edge p k v u) ⊎ ((k u : ℕ) → ¬ Edge p k v u)
@@ -68,9 +68,9 @@ module _ {p : Network} {s : ProtocolState} (i : Inv p s) (t : Stuck p s) where
           by-rank : (r : ℕ) → ((m : ℕ) → m < r → (v : ℕ) → GL s v ≡ g → DK s v ≡ 3 → rank p (s.de (s.fr v)) ≡ m → Goal v)
               → (v : ℕ) → GL s v ≡ g → DK s v ≡ 3 → rank p (s.de (s.fr v)) ≡ r → Goal v
           by-rank r ir v q d e =
-              let m = meets i t v d in
+              let m = half-meets i t v d in
               far (join (mates v (m.z) (sym (m.mate))) (hop (m.ends) tt))
-              (settle (m.y) (m.wakes) (lower-ones (m.y) (m.alike ∙ q)) (λ h. ir (rank p (s.de (s.fr (m.y)))) (omega (arith, earlier i t v m h)) (m.y) (m.alike ∙ q) h refl))
+              (settle (m.y) (m.wakes) (lower-ones (m.y) (m.alike ∙ q)) (λ h. ir (rank p (s.de (s.fr (m.y)))) (omega (arith, half-earlier i t v m h)) (m.y) (m.alike ∙ q) h refl))
 
           halves : (r v : ℕ) → GL s v ≡ g → DK s v ≡ 3 → rank p (s.de (s.fr v)) ≡ r → Goal v
           halves = strong (λ r. (v : ℕ) → GL s v ≡ g → DK s v ≡ 3 → rank p (s.de (s.fr v)) ≡ r → Goal v) by-rank
@@ -86,28 +86,28 @@ module _ {p : Network} {s : ProtocolState} (i : Inv p s) (t : Stuck p s) where
   closed (go {u = a} {v = b} k e o w) d = let q = inner k a b e d in q ∙ closed w (ap s.dk (sym q) ∙ d)
 
   -- THE FRAGMENT OF EVERY AWAKE NODE IS FINISHED
-  pub finished : (v : ℕ) → s.st v ≢ 0 → DK s v ≡ 4
-  finished v a = let r = reach (GL s v) v refl a in ap s.dk (sym (closed (back (r .1)) (r .3))) ∙ r .3
+  pub awake-finished : (v : ℕ) → s.st v ≢ 0 → DK s v ≡ 4
+  awake-finished v a = let r = reach (GL s v) v refl a in ap s.dk (sym (closed (back (r .1)) (r .3))) ∙ r .3
 
   -- AND IS ITS WHOLE PART, all of it awake
   pub part : (v w : ℕ) → s.st v ≢ 0 → Way p.g Any v w → s.fr v ≡ s.fr w
-  part v w a y = closed y (finished v a)
+  part v w a y = closed y (awake-finished v a)
 
   pub part-awake : (v w : ℕ) → s.st v ≢ 0 → Way p.g Any v w → s.st w ≢ 0
-  part-awake v w a y z = omega (arith, finished v a, ap s.dk (part v w a y), i.G6.g6 w z .g6d)
+  part-awake v w a y z = omega (arith, awake-finished v a, ap s.dk (part v w a y), i.G6.g6 w z .g6d)
 
   -- NO MESSAGE WAITS
   pub nothing : (k u v : ℕ) (m : Msg) → Edge p k u v → ¬ In m (s.ch u k)
   nothing k u v m e n = let b = t.back k u v m e n in which m n (b .0) (b .1)
     where
       not-find : (w : ℕ) → s.st w ≢ 0 → s.st w ≢ 1
-      not-find w a f = omega (arith, finished w a, i.F1.f1 w f .f1k)
+      not-find w a f = omega (arith, awake-finished w a, i.F1.f1 w f .f1k)
 
       awake-u : s.st v ≢ 0 → s.st u ≢ 0
       awake-u a = part-awake v u a (hop (flip e) tt)
 
       which : (m : Msg) → In m (s.ch u k) → s.st v ≢ 0 → Blocked s v k m → ⊥
-      which (connect l) n a b = i.D4.d4 k v u (flip e) (finished v a) (b .1)
+      which (connect l) n a b = i.D4.d4 k v u (flip e) (awake-finished v a) (b .1)
       which (initiate l f x) n a b = b
       which (test l f) n a b = ⊎-elim (λ r. not-find u (awake-u a) (waits-find i k u v e (r .0))) (λ r. not-find v a (waits-find i k v u (flip e) (r .2))) (i.E1.e1w k u v l f e n)
       which accept n a b = b

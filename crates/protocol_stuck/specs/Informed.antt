@@ -9,7 +9,7 @@ pub record Stuck (p : Network) (s : ProtocolState) : Type 0 where
   pub back : (k u v : ℕ) (m : Msg) → Edge p k u v → In m (s.ch u k) → (s.st v ≢ 0) × Blocked s v k m
 
 module _ {p : Network} {s : ProtocolState} (i : Inv p s) (t : Stuck p s) where
-  pub no-initiate : (k u v l f x : ℕ) → Edge p k u v → ¬ In (initiate l f x) (s.ch u k)
+  no-initiate : (k u v l f x : ℕ) → Edge p k u v → ¬ In (initiate l f x) (s.ch u k)
   no-initiate k u v l f x e n = t.back k u v (initiate l f x) e n .1
 
   pub no-ans : (k u v : ℕ) → Edge p k u v → sumL isA (s.ch u k) ≡ 0
@@ -23,7 +23,7 @@ module _ {p : Network} {s : ProtocolState} (i : Inv p s) (t : Stuck p s) where
   no-rooting v = no-root i v (t.idle .2)
 
   -- the core ends are informed: no Connect is on a joined edge, no Initiate anywhere
-  pub core-inf : (k x y : ℕ) → Edge p k x y → Jn s k x y → GC s x ≡ k → Inf s x
+  core-inf : (k x y : ℕ) → Edge p k x y → Jn s k x y → GC s x ≡ k → Inf s x
   core-inf k x y e j g = ⊎-elim
       (λ c. let n = some-connect (s.ch x k) c in absurd (omega (arith, t.back k x y (connect (n .0)) e (n .1) .1 .1, j .1)))
       (⊎-elim (λ n. absurd (no-initiate k y x (GL s x) k 1 (flip e) n)) (λ h. h))
@@ -50,8 +50,8 @@ module _ {p : Network} {s : ProtocolState} (i : Inv p s) (t : Stuck p s) where
       let h = i.G5.g5 v (p.g.lo k) (p.g.hi k) l e in
       spread (i.M1.m4 (p.g.lo k) v (h .1)) (core-inf k (p.g.lo k) (p.g.hi k) e (h .0) (ap s.gc (h .1)))
 
-  pub level : (v : ℕ) → s.lev v ≡ GL s v
-  level v = by-eq (GL s v) 0 (λ z. omega (arith, i.G2.g2 v)) (λ n. all-inf v (omega arith) .1)
+  pub stuck-level : (v : ℕ) → s.lev v ≡ GL s v
+  stuck-level v = by-eq (GL s v) 0 (λ z. omega (arith, i.G2.g2 v)) (λ n. all-inf v (omega arith) .1)
 
   pub not-low : (v : ℕ) → ¬ (s.lev v < GL s v)
-  not-low v l = omega (arith, level v)
+  not-low v l = omega (arith, stuck-level v)

@@ -4,7 +4,7 @@ use Rattle.protocol.specs.Prelude.{none, report, Network, Edge, Tree, Graph, Jo
 use Rattle.graph.specs.Cycle.{needed}
 use Rattle.graph.specs.Ways.{against}
 use Rattle.protocol_stuck.specs.Informed.{Stuck}
-use Rattle.protocol_stuck.specs.Finished.{finished, part-awake, nothing}
+use Rattle.protocol_stuck.specs.Finished.{awake-finished, part-awake, nothing}
 
 -- a way to another node begins with an edge
 pub leaves : {g : Graph} {S : ℕ → Type 0} {v w : ℕ} → Way g S v w → v ≢ w → (k : ℕ) × (u : ℕ) × Joins g k v u
@@ -15,8 +15,8 @@ module _ {p : Network} {s : ProtocolState} (i : Inv p s) (t : Stuck p s) where
   -- MARKS: Branch at both ends, or Rejected at both
   pub marks : (k v u : ℕ) → Edge p k v u → s.st v ≢ 0 → Jn s k v u ⊎ ((s.mark v k ≡ 2) × (s.mark u k ≡ 2))
   marks k v u e a =
-      let d = finished i t v a in
-      let f = finished i t u (part-awake i t v u a (hop e tt)) in
+      let d = awake-finished i t v a in
+      let f = awake-finished i t u (part-awake i t v u a (hop e tt)) in
       by-eq (s.mark v k) 1
       (λ b. by-eq (s.mark u k) 1 (λ c. inl (b, c)) (λ c. absurd (omega (arith, i.D1.m2 k v u e b c .0))))
       (λ b.
@@ -38,7 +38,7 @@ module _ {p : Network} {s : ProtocolState} (i : Inv p s) (t : Stuck p s) where
 
   -- a part with an edge has a core, a tree edge, whose ends have halted
   pub level-pos : (k v u : ℕ) → Edge p k v u → s.st v ≢ 0 → 1 ≤ GL s v
-  level-pos k v u e a = by-eq (GL s v) 0 (λ z. absurd (omega (arith, i.G6.g7 k v u e a z, finished i t v a))) (λ n. omega arith)
+  level-pos k v u e a = by-eq (GL s v) 0 (λ z. absurd (omega (arith, i.G6.g7 k v u e a z, awake-finished i t v a))) (λ n. omega arith)
 
   pub core-tree : (v x y : ℕ) → 1 ≤ GL s v → Edge p (GC s v) x y → Tree p (GC s v)
   core-tree v x y l e = i.M1.m5 (GC s v) x y e (i.G5.g5 v x y l e .0 .0)
@@ -47,7 +47,7 @@ module _ {p : Network} {s : ProtocolState} (i : Inv p s) (t : Stuck p s) where
   core-halted v x y a l e =
       let q = i.G5.g5 v x y l e .1 in
       by-eq (s.halt x) 0
-      (λ z. absurd (nothing i t (GC s v) y x (report none) (flip e) (i.Dc.d4r (GC s v) x y e (ap s.gc q) (ap s.dk q ∙ finished i t v a) (omega (arith, ap s.gl q)) z)))
+      (λ z. absurd (nothing i t (GC s v) y x (report none) (flip e) (i.Dc.d4r (GC s v) x y e (ap s.gc q) (ap s.dk q ∙ awake-finished i t v a) (omega (arith, ap s.gl q)) z)))
       (λ n. omega (arith, i.W0.halt-le x))
 
   -- nobody else has; a node without edges has

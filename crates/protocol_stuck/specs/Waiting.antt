@@ -5,7 +5,7 @@ use Rattle.protocol.specs.Prelude.{rank, rank-inj, isT, isR, In, some-test, som
 use mathlib.Core.Logic.{Dec·and}
 use native.Mathlib.Decide.{ℕ-discrete}
 use Rattle.base.specs.Search.{best, Best}
-use Rattle.protocol_stuck.specs.Informed.{Stuck, no-ans, all-inf, level, not-low}
+use Rattle.protocol_stuck.specs.Informed.{Stuck, no-ans, all-inf, stuck-level, not-low}
 
 -- a sum that is not zero has a term that is not
 pub some-term : (n : ℕ) (f : ℕ → ℕ) → sum n f ≢ 0 → (k : ℕ) × (k < n) × (f k ≢ 0)
@@ -109,18 +109,18 @@ module _ {p : Network} {s : ProtocolState} (i : Inv p s) (t : Stuck p s) where
         where
           crossed : (k u x : ℕ) → Edge p k u x → s.te u ≢ k → (l f : ℕ) → In (test l f) (s.ch u k) → ⊥
           crossed k u x e z l f m = ⊎-elim (λ r. z (r .0 .0))
-              (λ r. omega (arith, t.back k u x (test l f) e m .1, i.E1.e1 k u x l f e m .0, level i t u, level i t x, ap s.gl (r .3))) (i.E1.e1w k u x l f e m)
+              (λ r. omega (arith, t.back k u x (test l f) e m .1, i.E1.e1 k u x l f e m .0, stuck-level i t u, stuck-level i t x, ap s.gl (r .3))) (i.E1.e1w k u x l f e m)
 
       tested : (k x u : ℕ) → Edge p k x u → Waits s x k → (s.st u ≢ 0) × (GL s u < GL s x)
       tested k x u e w =
           let m = some-test (s.ch x k) (sent k x u e w) in
           let b = t.back k x u (test (m .0) (m .1)) e (m .2) in
-          (b .0, omega (arith, b .1, i.E1.e1 k x u (m .0) (m .1) e (m .2) .0, level i t u, level i t x))
+          (b .0, omega (arith, b .1, i.E1.e1 k x u (m .0) (m .1) e (m .2) .0, stuck-level i t u, stuck-level i t x))
 
   -- ---- a fragment that is half
 
   -- its Connect waits at y, of the same level, which is not finished
-  pub record Meets (v : ℕ) : Type 0 where
+  pub record HalfMeets (v : ℕ) : Type 0 where
     pub z : ℕ
     pub k : ℕ
     pub y : ℕ
@@ -131,8 +131,8 @@ module _ {p : Network} {s : ProtocolState} (i : Inv p s) (t : Stuck p s) where
     pub alike : GL s y ≡ GL s v
     pub basic : s.mark y k ≡ 0
 
-  pub meets : (v : ℕ) → DK s v ≡ 3 → Meets v
-  meets v d =
+  pub half-meets : (v : ℕ) → DK s v ≡ 3 → HalfMeets v
+  half-meets v d =
       let h = half-of i v d in
       let b = t.back (h .1) (h .0) (h .2) (connect (GL s (h .0))) (h .3) (i.Dc.d1c (h .1) (h .0) (h .2) (h .3) (h .4)) in
       let o = i.D1.d1 (h .1) (h .0) (h .2) (h .3) (h .4) in
@@ -144,13 +144,13 @@ module _ {p : Network} {s : ProtocolState} (i : Inv p s) (t : Stuck p s) where
         half = h .4;
         mate = h .5;
         wakes = b .0;
-        alike = omega (arith, b .1 .0, o.d1g, level i t (h .2), ap s.gl (h .5));
+        alike = omega (arith, b .1 .0, o.d1g, stuck-level i t (h .2), ap s.gl (h .5));
         basic = o.d1y;
       }
 
   -- where y's fragment is half too, it is on an earlier edge
-  pub earlier : (v : ℕ) (m : Meets v) → DK s (m.y) ≡ 3 → rank p (s.de (s.fr (m.y))) < rank p (s.de (s.fr v))
-  earlier v m d =
+  pub half-earlier : (v : ℕ) (m : HalfMeets v) → DK s (m.y) ≡ 3 → rank p (s.de (s.fr (m.y))) < rank p (s.de (s.fr v))
+  half-earlier v m d =
       let h = half-of i (m.y) d in
       let o = i.D1.d1 (h .1) (h .0) (h .2) (h .3) (h .4) in
       let own = i.D1.d1 (m.k) (m.z) (m.y) (m.ends) (m.half) in
