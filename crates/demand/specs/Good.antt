@@ -14,9 +14,9 @@ use Rattle.field.specs.Held.{stateOf, fresh}
 use Rattle.protocol.specs.State as protocol
 use Rattle.protocol.specs.Step.{Idle}
 use Rattle.protocol_invariant.specs.Reach.{Reach, reach-setup}
-use Rattle.protocol_bridge.specs.Real.{Real, real, ownP, place}
+use Rattle.protocol_bridge.specs.Real.{Real, real, ownP, placeIn}
 use Rattle.protocol_bridge.specs.Fin.{Shows, mark-at}
-use Rattle.protocol_bridge.specs.Reached.{After}
+use Rattle.protocol_bridge.specs.Reached.{AfterResponse}
 use Rattle.demand_view.specs.Net.{net, own-same, ends-own}
 use Rattle.demand_view.specs.View.{nodes, chans, tables-show, view, nodes-in}
 use Rattle.demand_view.specs.Start.{view-start}
@@ -48,11 +48,11 @@ module _ (p : Plan) (a : Accepted p) where
     rule-is v f = ap₂ f (sym (own-same p a v)) (mark-is v)
 
     -- the protocol goes on to tables r with the response w placed at v
-    module _ {v c : ℕ} {r : Real} {w : Work} (f : After (net p a) r v c (s .sent) w) where
+    module _ {v c : ℕ} {r : Real} {w : Work} (f : AfterResponse (net p a) r v c (s .sent) w) where
       -- marks are of own links only (M1)
       pub bare : (k : ℕ) → isOwn p v k ≡ false → w .mark k ≡ 0
       bare k o = by-eq (w .mark k) 0 (λ e. e)
           (λ n. absurd (true≢false (sym (ends-own p a (f.reach.inv.M1.own v k (λ e. n (sym (mark-at {w = w} (record { is = f.is }) k) ∙ e)) .1)) ∙ o)))
 
-      pub good-after : (s′ : State) → s′ .sent ≡ s .sent + length (w .sends) → view p s′ ≡ place r v w → Good p a s′
+      pub good-after : (s′ : State) → s′ .sent ≡ s .sent + length (w .sends) → view p s′ ≡ placeIn r v w → Good p a s′
       good-after s′ e q = record { at = f.to; is = f.is ∙ sym q; idle = f.idle; reach = subst (Reach (net p a) (f.to)) (sym e) (f.reach) }

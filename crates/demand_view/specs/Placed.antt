@@ -18,7 +18,7 @@ use Rattle.field_laws.specs.Lists.{WorkOk}
 use Rattle.field_laws.specs.Fits.{sends-pack}
 use Rattle.field_laws.specs.Keeps.{Sized}
 use Rattle.field_laws.specs.Sends.{Packs}
-use Rattle.protocol_bridge.specs.Real.{post, place}
+use Rattle.protocol_bridge.specs.Real.{post, placeIn}
 use Rattle.protocol_bridge.specs.Place.{toPop}
 use Rattle.demand_view.specs.View.{chans, tables, view, place-tables, nodes, nodes-put, marks-put}
 use Rattle.demand_view.specs.Chans.{chans-post, chans-taken, chans-back, split, ahead, behind}
@@ -39,20 +39,20 @@ module _ (p : Plan) (a : Accepted p) (v : ℕ) (w : Work) (ok : WorkOk (ownOf p 
   module _ (bare : (k : ℕ) → isOwn p v k ≡ false → w .mark k ≡ 0) (l : v < modulesOf p) (s : State) (size : Sized p s) where
     -- modules and marks are those of the response; the words t have the channels of c with the response's sends
     view-put : (t back : List ℕ) (c : ℕ → ℕ → List Msg) → chans p ((t ++ posted p v (w .sends)) ++ back) ≡ post c v (w .sends)
-        → view p (placed p v w s t back) ≡ place (tables (nodes p (s .cells)) (marksIn p (s .marks)) c) v w
+        → view p (placed p v w s t back) ≡ placeIn (tables (nodes p (s .cells)) (marksIn p (s .marks)) c) v w
     view-put t back c h =
         ap₂ (λ f m. tables f m (chans p ((t ++ posted p v (w .sends)) ++ back))) (nodes-put p (s .cells) v (w .node) l (size .cells)) (marks-put p (s .marks) v (w .mark) (size .marks) bare)
         ∙ ap (tables (upd (nodes p (s .cells)) v (w .node)) (upd (marksIn p (s .marks)) v (w .mark))) h
         ∙ sym (place-tables (nodes p (s .cells)) (marksIn p (s .marks)) c v w)
 
-    pub view-woken : view p (placed p v w s (s .words) []) ≡ place (view p s) v w
+    pub view-woken : view p (placed p v w s (s .words) []) ≡ placeIn (view p s) v w
     view-woken = view-put (s .words) [] (chans p (s .words)) (ap (chans p) (append-nil (s .words ++ posted p v (w .sends))) ∙ chans-post p v (s .words) packs owns)
 
     module _ (x : ℕ) (r : List ℕ) (o : FirstThat (inQueue p v) (s .words) x r) (f : linkIn x < 2 * linksOf p) where
       pub view-taken : view p (placed p v w s r [])
-          ≡ place (toPop (from p (linkIn x)) (linkOf (linkIn x)) (chans p r (from p (linkIn x)) (linkOf (linkIn x))) (view p s)) v w
+          ≡ placeIn (toPop (from p (linkIn x)) (linkOf (linkIn x)) (chans p r (from p (linkIn x)) (linkOf (linkIn x))) (view p s)) v w
       view-taken = view-put r [] _ (ap (chans p) (append-nil (r ++ posted p v (w .sends))) ∙ chans-taken p a v x (s .words) r o f (w .sends) packs owns)
 
       pub view-back : view p (placed p v w s r (x ∷ []))
-          ≡ place (toPop (from p (linkIn x)) (linkOf (linkIn x)) (ahead p v x r (w .sends) ++ (msgIn x ∷ behind p v x r (w .sends))) (view p s)) v w
+          ≡ placeIn (toPop (from p (linkIn x)) (linkOf (linkIn x)) (ahead p v x r (w .sends) ++ (msgIn x ∷ behind p v x r (w .sends))) (view p s)) v w
       view-back = view-put r (x ∷ []) _ (chans-back p a v x (s .words) r o f (w .sends) packs owns)

@@ -16,12 +16,12 @@ use Rattle.protocol.specs.State.{ProtocolState}
 use Rattle.protocol.specs.Step.{Step, Idle, pop}
 use Rattle.protocol.specs.Run.{sends, Steps, done, then}
 use Rattle.protocol.specs.Inv.{Inv}
-use Rattle.protocol_bridge.specs.Real.{Real, real, post, place}
+use Rattle.protocol_bridge.specs.Real.{Real, real, post, placeIn}
 use Rattle.protocol_bridge.specs.Place.{toStatus, toBest, toTest, toCount, toHalted, toMark, toChans, toSend, toPop, toTold, toWoken, place-status, place-best, place-test, place-count, place-halted, place-mark, place-woken, place-told, place-send, place-copied, place-pop}
 
 -- the tables x are r with the response w, as far as it has come, placed at v
 pub record At (r : Real) (v : ℕ) (w : Work) (x : Real) : Type 0 where
-  pub is : x ≡ place r v w
+  pub is : x ≡ placeIn r v w
 
 -- n has v's values in the tables r: a response that has done nothing changes none. (n may have values that no table has.)
 abbrev pub Shows : Real → ℕ → Node → Type 0
@@ -119,20 +119,20 @@ pub record Fin (p : Network) (r : Real) (v c b : ℕ) (w : Work) (s : ProtocolSt
 
 module _ {p : Network} {r : Real} {v c : ℕ} {w : Work} {s : ProtocolState} where
   -- nothing is left to do
-  abbrev pub over : Idle s → w .answer ≡ c → At r v w (real s) → Fin p r v c (length (w .sends)) w s
-  over idle z a = record { to = s; n = 0; steps = done; idle = idle; answer = z; at = a; count = omega arith }
+  abbrev pub fin-over : Idle s → w .answer ≡ c → At r v w (real s) → Fin p r v c (length (w .sends)) w s
+  fin-over idle z a = record { to = s; n = 0; steps = done; idle = idle; answer = z; at = a; count = omega arith }
 
   -- a step, then the rest
-  pub after : {s′ : ProtocolState} {b d : ℕ} (t : Step p s s′) → b + sends t ≡ d → Fin p r v c d w s′ → Fin p r v c b w s
-  after {b} t q f = record { to = f.to; n = sends t + f.n; steps = then t (f.steps); idle = f.idle; answer = f.answer; at = f.at; count = omega (arith, f.count) }
+  pub fin-step : {s′ : ProtocolState} {b d : ℕ} (t : Step p s s′) → b + sends t ≡ d → Fin p r v c d w s′ → Fin p r v c b w s
+  fin-step {b} t q f = record { to = f.to; n = sends t + f.n; steps = then t (f.steps); idle = f.idle; answer = f.answer; at = f.at; count = omega (arith, f.count) }
 
   -- the last step
-  pub last : {s′ : ProtocolState} {b : ℕ} (t : Step p s s′) → b + sends t ≡ length (w .sends) → Idle s′ → w .answer ≡ c → At r v w (real s′) → Fin p r v c b w s
-  last {s′} t q idle z a = record { to = s′; n = sends t + 0; steps = then t done; idle = idle; answer = z; at = a; count = omega arith }
+  pub fin-last : {s′ : ProtocolState} {b : ℕ} (t : Step p s s′) → b + sends t ≡ length (w .sends) → Idle s′ → w .answer ≡ c → At r v w (real s′) → Fin p r v c b w s
+  fin-last {s′} t q idle z a = record { to = s′; n = sends t + 0; steps = then t done; idle = idle; answer = z; at = a; count = omega arith }
 
 -- an equal response
-pub same : {p : Network} {r : Real} {v c b : ℕ} {w w′ : Work} {s : ProtocolState} → w′ ≡ w → Fin p r v c b w s → Fin p r v c b w′ s
-same {p} {r} {v} {c} {b} {s = s} e f = subst (λ y. Fin p r v c b y s) (sym e) f
+pub fin-same : {p : Network} {r : Real} {v c b : ℕ} {w w′ : Work} {s : ProtocolState} → w′ ≡ w → Fin p r v c b w s → Fin p r v c b w′ s
+fin-same {p} {r} {v} {c} {b} {s = s} e f = subst (λ y. Fin p r v c b y s) (sym e) f
 
 -- the first steps, then the rest
 pub steps-app : {p : Network} {s s′ s″ : ProtocolState} {n m : ℕ} → Steps p s s′ n → Steps p s′ s″ m → (k : ℕ) × (k ≡ n + m) × Steps p s s″ k

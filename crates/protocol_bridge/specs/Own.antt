@@ -44,13 +44,13 @@ module _ (p : Network) (v : ℕ) where
     pub is : k ≡ none
     pub nothing : (j u : ℕ) → Edge p j v u → f j ≡ true → ⊥
 
-  pub record Finds (f : ℕ → Bool) (k : ℕ) : Type 0 where
+  pub record FindsFirst (f : ℕ → Bool) (k : ℕ) : Type 0 where
     pub other : ℕ
     pub ends : Edge p k v other
     pub holds : f k ≡ true
     pub least : (j u : ℕ) → Edge p j v u → f j ≡ true → rank p k ≤ rank p j
 
-  pub searched : (f : ℕ → Bool) → Lacks f (earliest (ownP p v) f p.g.L) ⊎ Finds f (earliest (ownP p v) f p.g.L)
+  pub searched : (f : ℕ → Bool) → Lacks f (earliest (ownP p v) f p.g.L) ⊎ FindsFirst f (earliest (ownP p v) f p.g.L)
   searched f = ⊎-elim
       (λ e. inl (record { is = e .is; nothing = λ j u h q. e .nothing j (joins-lt h) (ends-own h) q }))
       (λ e. let t = own-ends k (e .mine) in
@@ -91,5 +91,5 @@ module _ (p : Network) (v : ℕ) where
   number-sum f (suc n) = omega (arith, number-sum f n)
 
   -- the find-count is at most the number of own edges
-  pub count-le : {s : ProtocolState} → Inv p s → s.fc v ≤ degree (ownP p v)
-  count-le i = omega (arith, number-sum anyEdge p.g.L, S.count-le i v (λ k. ownP p v .own k && true) (λ k u e. rw (ends-own e)))
+  pub fc-degree : {s : ProtocolState} → Inv p s → s.fc v ≤ degree (ownP p v)
+  fc-degree i = omega (arith, number-sum anyEdge p.g.L, S.count-le i v (λ k. ownP p v .own k && true) (λ k u e. rw (ends-own e)))

@@ -36,8 +36,8 @@ post c v [] = c
 post c v (x ∷ l) = post (upd2 c v (x .edge) (c v (x .edge) ++ (x .msg ∷ []))) v l
 
 -- r with v's values and marks as the response w leaves them, and w's messages sent
-abbrev pub place : Real → ℕ → Work → Real
-place r v w =
+abbrev pub placeIn : Real → ℕ → Work → Real
+placeIn r v w =
     record {
       st = upd r.st v (w .node .status);
       lev = upd r.lev v (w .node .level);
