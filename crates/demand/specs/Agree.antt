@@ -16,12 +16,12 @@ use Rattle.protocol.specs.Network.{Edge}
 use Rattle.protocol_stuck.specs.Parts.{SamePart, PartCore, PartFinished}
 use Rattle.protocol_bridge.specs.Fin.{st-is, halt-is}
 use Rattle.demand_view.specs.Net.{net}
-use Rattle.demand.specs.Good.{Good, node-shown, mark-is}
+use Rattle.demand.specs.Good.{Good, node-shown, good-mark}
 use Rattle.demand.specs.Rest.{at-rest}
 
 module _ (p : Plan) (a : Accepted p) (s : State) (g : Good p a s) where
   mark-of : (v k : ℕ) → g.at.mark v k ≡ markAt p s v k
-  mark-of v k = ap (λ f. f k) (mark-is p a s g v)
+  mark-of v k = ap (λ f. f k) (good-mark p a s g v)
 
   halt-of : (v : ℕ) → v < modulesOf p → g.at.halt v ≡ nodeAt s v .halted
   halt-of v l = halt-is (node-shown p a s g v l)

@@ -17,7 +17,7 @@ use Rattle.protocol_invariant.specs.Reach.{Reach, reach-setup}
 use Rattle.protocol_bridge.specs.Real.{Real, real, ownP, placeIn}
 use Rattle.protocol_bridge.specs.Fin.{Shows, mark-at}
 use Rattle.protocol_bridge.specs.Reached.{AfterResponse}
-use Rattle.demand_view.specs.Net.{net, own-same, ends-own}
+use Rattle.demand_view.specs.Net.{net, own-same, net-ends-own}
 use Rattle.demand_view.specs.View.{nodes, chans, tables-show, view, nodes-in}
 use Rattle.demand_view.specs.Start.{view-start}
 
@@ -40,19 +40,19 @@ module _ (p : Plan) (a : Accepted p) where
         subst (λ r. Shows r v (nodeAt s v)) (sym g.is)
         (subst (Shows (view p s) v) (nodes-in p (s .cells) v l) (tables-show (nodes p (s .cells)) (marksIn p (s .marks)) (chans p (s .words)) v))
 
-    pub mark-is : (v : ℕ) → g.at.mark v ≡ markAt p s v
-    mark-is v = ap (λ (r : Real). r.mark v) (g.is)
+    pub good-mark : (v : ℕ) → g.at.mark v ≡ markAt p s v
+    good-mark v = ap (λ (r : Real). r.mark v) (g.is)
 
     -- a rule of one node, applied there, is applied here
     pub rule-is : (v : ℕ) (f : Own → (ℕ → ℕ) → Work) → f (ownP (net p a) v) (g.at.mark v) ≡ f (ownOf p v) (markAt p s v)
-    rule-is v f = ap₂ f (sym (own-same p a v)) (mark-is v)
+    rule-is v f = ap₂ f (sym (own-same p a v)) (good-mark v)
 
     -- the protocol goes on to tables r with the response w placed at v
     module _ {v c : ℕ} {r : Real} {w : Work} (f : AfterResponse (net p a) r v c (s .sent) w) where
       -- marks are of own links only (M1)
-      pub bare : (k : ℕ) → isOwn p v k ≡ false → w .mark k ≡ 0
-      bare k o = by-eq (w .mark k) 0 (λ e. e)
-          (λ n. absurd (true≢false (sym (ends-own p a (f.reach.inv.M1.own v k (λ e. n (sym (mark-at {w = w} (record { is = f.is }) k) ∙ e)) .1)) ∙ o)))
+      pub no-mark : (k : ℕ) → isOwn p v k ≡ false → w .mark k ≡ 0
+      no-mark k o = by-eq (w .mark k) 0 (λ e. e)
+          (λ n. absurd (true≢false (sym (net-ends-own p a (f.reach.inv.M1.own v k (λ e. n (sym (mark-at {w = w} (record { is = f.is }) k) ∙ e)) .1)) ∙ o)))
 
       pub good-after : (s′ : State) → s′ .sent ≡ s .sent + length (w .sends) → view p s′ ≡ placeIn r v w → Good p a s′
       good-after s′ e q = record { at = f.to; is = f.is ∙ sym q; idle = f.idle; reach = subst (Reach (net p a) (f.to)) (sym e) (f.reach) }

@@ -29,7 +29,7 @@ use Rattle.protocol.specs.Step as protocol
 use Rattle.protocol_stuck.specs.Parts.{AllFinished, stuck-finished, rest-finished}
 use Rattle.protocol_bridge.specs.Real.{Real, ownP}
 use Rattle.protocol_bridge.specs.Fin.{st-is}
-use Rattle.demand_view.specs.Net.{net, ends-own, ends-of, dest-is}
+use Rattle.demand_view.specs.Net.{net, net-ends-own, ends-of, dest-is}
 use Rattle.demand_view.specs.Chans.{chans-own}
 use Rattle.demand_view.specs.Start.{chans-none}
 use Rattle.demand.specs.Good.{Good, node-shown, rule-is}
@@ -70,7 +70,7 @@ first-in x l = bool-cases (handedIn x)
 module _ (p : Plan) (a : Accepted p) (s : State) (g : Good p a s) where
   -- the protocol's channel from u over its own edge k
   chan-is : {k u v : ℕ} → Edge (net p a) k u v → g.at.ch u k ≡ chan (endOf p u k) (s .words)
-  chan-is {k} {u} e = ap (λ (r : Real). r.ch u k) (g.is) ∙ chans-own p (s .words) u k (ends-own p a e)
+  chan-is {k} {u} e = ap (λ (r : Real). r.ch u k) (g.is) ∙ chans-own p (s .words) u k (net-ends-own p a e)
 
   -- the protocol's channels are empty: no word
   none-waits : All (λ x. wordFits p x ≡ true) (s .words) → ((k u v : ℕ) → Edge (net p a) k u v → g.at.ch u k ≡ []) → s .words ≡ []
@@ -108,4 +108,4 @@ module _ (p : Plan) (a : Accepted p) (s : State) (g : Good p a s) where
 
   -- AT REST the protocol is finished
   pub at-rest : s .words ≡ [] → AllFinished (net p a) (g.at)
-  at-rest z = rest-finished (g.reach.inv) (g.idle) (λ k u v e. chan-is e ∙ ap (chan (endOf p u k)) z ∙ sym (chans-own p [] u k (ends-own p a e)) ∙ chans-none p a u k)
+  at-rest z = rest-finished (g.reach.inv) (g.idle) (λ k u v e. chan-is e ∙ ap (chan (endOf p u k)) z ∙ sym (chans-own p [] u k (net-ends-own p a e)) ∙ chans-none p a u k)

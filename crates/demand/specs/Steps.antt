@@ -35,9 +35,9 @@ use Rattle.protocol_bridge.specs.Reached as R
 use Rattle.protocol_bridge.specs.Reached.{after-fits, wake-after, respond-after}
 use Rattle.demand_view.specs.Net.{net, ends-of}
 use Rattle.demand_view.specs.View.{view, tables, nodes, chans}
-use Rattle.demand_view.specs.Chans.{chans-hand, chans-head, ahead, behind}
+use Rattle.demand_view.specs.Chans.{chans-hand, chans-head, handedPart, unhandedPart}
 use Rattle.demand_view.specs.Placed.{view-woken, view-taken, view-back, rest-cut}
-use Rattle.demand.specs.Good.{Good, node-shown, rule-is, bare, good-after}
+use Rattle.demand.specs.Good.{Good, node-shown, rule-is, no-mark, good-after}
 
 -- what a step has to leave
 pub record Fine (p : Plan) (a : Accepted p) (r : After State) : Type 0 where
@@ -69,7 +69,7 @@ module _ (p : Plan) (a : Accepted p) (s : State) (i : Sound p s) (g : Good p a s
       (subst (R.AfterResponse (net p a) (real g.at) v 0 (s .sent)) (rule-is p a s g v (λ o m. wakes o (nodeAt s v) m))
       (wake-after (g.reach) (g.idle) (node-shown p a s g v l) l (st-is (node-shown p a s g v l) ∙ z))) in
       carried-out v w (s .words) [] (λ e. omega (arith, f.answer)) (after-fits f)
-      (good-after p a s g f (placed p v w s (s .words) []) refl (view-woken p a v w (wake-ok p a s i v l) (bare p a s g f) l s (i .sized)))
+      (good-after p a s g f (placed p v w s (s .words) []) refl (view-woken p a v w (wake-ok p a s i v l) (no-mark p a s g f) l s (i .sized)))
 
   wake-fine : (v : ℕ) → Fine p a (wake p v s)
   unfolding wake
@@ -142,19 +142,19 @@ module _ (p : Plan) (a : Accepted p) (s : State) (i : Sound p s) (g : Good p a s
     consumed f =
         subst (λ b. Fine p a (carryOut p v w s r b)) (sym (back-none (λ e. omega (arith, f.answer))))
         (carried-out v w r [] (λ e. omega (arith, f.answer)) (after-fits f)
-        (good-after p a s g f (placed p v w s r []) refl (view-taken p a v w ok (bare p a s g f) l s (i .sized) x r o fits)))
+        (good-after p a s g f (placed p v w s r []) refl (view-taken p a v w ok (no-mark p a s g f) l s (i .sized) x r o fits)))
 
-    put-back : R.AfterResponse (net p a) (toPop u k (ahead p v x r (w .sends) ++ (msgIn x ∷ behind p v x r (w .sends))) (view p s)) v 1 (s .sent) w
+    put-back : R.AfterResponse (net p a) (toPop u k (handedPart p v x r (w .sends) ++ (msgIn x ∷ unhandedPart p v x r (w .sends))) (view p s)) v 1 (s .sent) w
         → Fine p a (carryOut p v w s r (backOf w x))
     put-back f =
         subst (λ b. Fine p a (carryOut p v w s r b)) (sym (back-one (f.answer)))
         (carried-out v w r (x ∷ []) (λ e. omega (arith, f.answer)) (after-fits f)
-        (good-after p a s g f (placed p v w s r (x ∷ [])) refl (view-back p a v w ok (bare p a s g f) l s (i .sized) x r o fits)))
+        (good-after p a s g f (placed p v w s r (x ∷ [])) refl (view-back p a v w ok (no-mark p a s g f) l s (i .sized) x r o fits)))
 
     served : Fine p a (carryOut p v w s r (backOf w x))
     served = ⊎-elim
         (λ f. consumed (told 0 (chans p r u k) f))
-        (λ t. put-back (told 1 _ (t .1 (ahead p v x r (w .sends)) (behind p v x r (w .sends)) (rest-cut p a v w ok x (s .words) r o fits))))
+        (λ t. put-back (told 1 _ (t .1 (handedPart p v x r (w .sends)) (unhandedPart p v x r (w .sends)) (rest-cut p a v w ok x (s .words) r o fits))))
         (respond-after (g.reach) (g.idle) (node-shown p a s g v l) ends head)
 
   serve-fine : (v : ℕ) → Fine p a (serve p v s)

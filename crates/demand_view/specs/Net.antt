@@ -34,15 +34,15 @@ module _ (p : Plan) (a : Accepted p) where
   own-same v = refl
 
   -- an own link leads to another module, and the other way round
-  pub own-ends : (v k : ℕ) → isOwn p v k ≡ true → (u : ℕ) × Edge net k v u
+  own-ends : (v k : ℕ) → isOwn p v k ≡ true → (u : ℕ) × Edge net k v u
   own-ends v k o = ⊎-elim
       (λ e. (higherOf p k, up (own-below p v k o) e refl))
       (λ h. (lowerOf p k, down (own-below p v k o) (h .1) refl))
       (own-end p v k o)
 
-  pub ends-own : {k v u : ℕ} → Edge net k v u → isOwn p v k ≡ true
-  ends-own {k} (up l e f) = own-lower p _ k l e
-  ends-own {k} (down l e f) =
+  pub net-ends-own : {k v u : ℕ} → Edge net k v u → isOwn p v k ≡ true
+  net-ends-own {k} (up l e f) = own-lower p _ k l e
+  net-ends-own {k} (down l e f) =
       own-higher p _ k l (λ q. omega (arith, a .each k l .ordered)) ∙ eq-eqb _ _ e
 
   -- a directed link leads from one end of its link to the other
@@ -54,6 +54,6 @@ module _ (p : Plan) (a : Accepted p) where
   -- and v's directed link over k leads to k's other end
   pub dest-is : {k v u : ℕ} → Edge net k v u → dest p (endOf p v k) ≡ u
   dest-is {k} {v} e =
-      let o = ends-own e in
+      let o = net-ends-own e in
       let d = endOf p v k in
       ends-same (subst (λ x. Edge net k x (dest p d)) (from-over p v k o) (subst (λ x. Edge net x (from p d) (dest p d)) (link-over p v k) (ends-of d (over-below p v k o)))) e

@@ -21,7 +21,7 @@ use Rattle.field_laws.specs.Sends.{Packs}
 use Rattle.protocol_bridge.specs.Real.{post, placeIn}
 use Rattle.protocol_bridge.specs.Place.{toPop}
 use Rattle.demand_view.specs.View.{chans, tables, view, place-tables, nodes, nodes-put, marks-put}
-use Rattle.demand_view.specs.Chans.{chans-post, chans-taken, chans-back, split, ahead, behind}
+use Rattle.demand_view.specs.Chans.{chans-post, chans-taken, chans-back, chans-split, handedPart, unhandedPart}
 
 module _ (p : Plan) (a : Accepted p) (v : ℕ) (w : Work) (ok : WorkOk (ownOf p v) (limitOf p) w) where
   packs : All Packs (w .sends)
@@ -32,8 +32,8 @@ module _ (p : Plan) (a : Accepted p) (v : ℕ) (w : Work) (ok : WorkOk (ownOf p 
 
   -- x was served, r are the other words: the rest of its channel, cut where it goes when it is put back
   pub rest-cut : (x : ℕ) (s r : List ℕ) → FirstThat (inQueue p v) s x r → linkIn x < 2 * linksOf p
-      → chans p r (from p (linkIn x)) (linkOf (linkIn x)) ≡ ahead p v x r (w .sends) ++ behind p v x r (w .sends)
-  rest-cut x s r o f = split p a v x s r o f (w .sends) packs owns
+      → chans p r (from p (linkIn x)) (linkOf (linkIn x)) ≡ handedPart p v x r (w .sends) ++ unhandedPart p v x r (w .sends)
+  rest-cut x s r o f = chans-split p a v x s r o f (w .sends) packs owns
 
   -- marks are of own links only
   module _ (bare : (k : ℕ) → isOwn p v k ≡ false → w .mark k ≡ 0) (l : v < modulesOf p) (s : State) (size : Sized p s) where
@@ -54,5 +54,5 @@ module _ (p : Plan) (a : Accepted p) (v : ℕ) (w : Work) (ok : WorkOk (ownOf p 
       view-taken = view-put r [] _ (ap (chans p) (append-nil (r ++ posted p v (w .sends))) ∙ chans-taken p a v x (s .words) r o f (w .sends) packs owns)
 
       pub view-back : view p (placed p v w s r (x ∷ []))
-          ≡ placeIn (toPop (from p (linkIn x)) (linkOf (linkIn x)) (ahead p v x r (w .sends) ++ (msgIn x ∷ behind p v x r (w .sends))) (view p s)) v w
+          ≡ placeIn (toPop (from p (linkIn x)) (linkOf (linkIn x)) (handedPart p v x r (w .sends) ++ (msgIn x ∷ unhandedPart p v x r (w .sends))) (view p s)) v w
       view-back = view-put r (x ∷ []) _ (chans-back p a v x (s .words) r o f (w .sends) packs owns)
