@@ -20,7 +20,7 @@ use Rattle.field_laws.specs.Chan.{isUp, msgs, chan, up-parts, air-parts}
 use Rattle.field_laws.specs.Places.{link-over, over-from}
 use Rattle.field_laws.specs.Fits.{word-link}
 use Rattle.field_laws.specs.Keeps.{Sound}
-use Rattle.field_roundlaws.specs.Progress.{Blocked}
+use Rattle.field_roundlaws.specs.Progress.{BlockedWord}
 use Rattle.graph.specs.Ways.{flip}
 use Rattle.plan.specs.Links.{Plan}
 use Rattle.protocol.specs.Network.{Edge, end-lt}
@@ -85,7 +85,7 @@ module _ (p : Plan) (a : Accepted p) (s : State) (g : Good p a s) where
           absurd (in-nil (subst (In (msgIn x)) e (first-in x l)))
 
   -- a word that its node would put back is a message that is blocked
-  blocked : {k u v : ℕ} (e : Edge (net p a) k u v) (x : ℕ) → linkIn x ≡ endOf p u k → Blocked p s x → (g.at.st v ≢ 0) × protocol.Blocked (g.at) v k (msgIn x)
+  blocked : {k u v : ℕ} (e : Edge (net p a) k u v) (x : ℕ) → linkIn x ≡ endOf p u k → BlockedWord p s x → (g.at.st v ≢ 0) × protocol.Blocked (g.at) v k (msgIn x)
   blocked {k} {u} {v} e x q b =
       let l = end-lt (net p a) (flip e) in
       let dv : dest p (linkIn x) ≡ v = ap (dest p) q ∙ dest-is p a e in
@@ -98,7 +98,7 @@ module _ (p : Plan) (a : Accepted p) (s : State) (g : Good p a s) where
       )
 
   -- NOTHING WAITS where every waiting message is blocked
-  pub stuck-none : Sound p s → All (Blocked p s) (s .words) → s .words ≡ []
+  pub stuck-none : Sound p s → All (BlockedWord p s) (s .words) → s .words ≡ []
   stuck-none i h = none-waits (i .fits .words) (stuck-finished (g.reach.inv) (record { idle = g.idle; back = back }) .silent)
     where
       back : (k u v : ℕ) (m : Msg) → Edge (net p a) k u v → In m (g.at.ch u k) → (g.at.st v ≢ 0) × protocol.Blocked (g.at) v k m

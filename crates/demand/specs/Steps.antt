@@ -24,7 +24,7 @@ use Rattle.field.specs.Step.{inAir, inQueue, carryOut, wakeWork, wake, hand, se
 use Rattle.field_laws.specs.Chan.{queue-parts}
 use Rattle.field_laws.specs.Lists.{WorkOk}
 use Rattle.field_laws.specs.Fits.{word-link, word-shaped}
-use Rattle.field_laws.specs.Cases.{Handed}
+use Rattle.field_laws.specs.Cases.{HandedOver}
 use Rattle.field_laws.specs.Keeps.{Sound, wake-ok, serve-ok}
 use Rattle.protocol.specs.Network.{Edge}
 use Rattle.protocol_bridge.specs.Real.{Real, real}
@@ -81,7 +81,7 @@ module _ (p : Plan) (a : Accepted p) (s : State) (i : Sound p s) (g : Good p a s
 
   -- ---- hand over: the same state of the protocol
 
-  handed : (d : ℕ) (s′ : State) → Handed p d s s′ → Good p a s′
+  handed : (d : ℕ) (s′ : State) → HandedOver p d s s′ → Good p a s′
   handed d s′ h =
       let x = h .word in
       let e : chans p (h .rest ++ (handOver x ∷ [])) ≡ chans p (s .words) = chans-hand p d x (s .words) (h .rest) (h .first) (word-shaped p x (All-here (first-out (h .first)) (i .fits .words))) in

@@ -13,7 +13,7 @@ use Rattle.plan.specs.Weights.{orderOf}
 use Rattle.plan.specs.Accepted.{Accepted}
 use Rattle.field.specs.laws.Edges.{own-lower, own-higher}
 use Rattle.field.specs.Edges.{isOwn, ownOf, linkOf, from, dest, endOf}
-use Rattle.field_laws.specs.Places.{own-below, own-end, from-over, link-over, over-below}
+use Rattle.field_laws.specs.Places.{own-link-below, own-end, from-over, link-over, over-below}
 use Rattle.protocol.specs.Network.{Network, Edge}
 use Rattle.protocol_bridge.specs.Real.{ownP}
 
@@ -36,8 +36,8 @@ module _ (p : Plan) (a : Accepted p) where
   -- an own link leads to another module, and the other way round
   own-ends : (v k : ℕ) → isOwn p v k ≡ true → (u : ℕ) × Edge net k v u
   own-ends v k o = ⊎-elim
-      (λ e. (higherOf p k, up (own-below p v k o) e refl))
-      (λ h. (lowerOf p k, down (own-below p v k o) (h .1) refl))
+      (λ e. (higherOf p k, up (own-link-below p v k o) e refl))
+      (λ h. (lowerOf p k, down (own-link-below p v k o) (h .1) refl))
       (own-end p v k o)
 
   pub net-ends-own : {k v u : ℕ} → Edge net k v u → isOwn p v k ≡ true

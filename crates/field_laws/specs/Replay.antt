@@ -20,7 +20,7 @@ use Rattle.base.specs.Keep.{many}
 use Rattle.field_calls.specs.Rounds.{handTurn, handPhase, serveTurn, servePhase, round, atRest, roundsRun}
 use Rattle.field_calls.specs.Call.{Call, after}
 use Rattle.field_calls.specs.Trail.{Taken, ifTaken, stepsOf, trail}
-use Rattle.field_laws.specs.Cases.{refusal-some, Outcome, took, kept, steps}
+use Rattle.field_laws.specs.Cases.{refusal-not-0, StepOutcome, took, kept, step-outcome}
 use Rattle.field_laws.specs.Trace.{onState, call-tells}
 use Rattle.field_laws.specs.Laid.{Live}
 use Rattle.field_laws.specs.After.{list-tells}
@@ -38,12 +38,12 @@ module _ (p : Plan) where
 
   replay-step : (kind number : ℕ) (s : State) → Replay p s (ifTaken p kind number s) (step p kind number s .state)
   unfolding ifTaken
-  replay-step kind number s = go (step p kind number s) refl (steps p s kind number)
+  replay-step kind number s = go (step p kind number s) refl (step-outcome p s kind number)
     where
-      go : {Took : State → Type 0} (a : After State) → step p kind number s ≡ a → Outcome s Took a
+      go : {Took : State → Type 0} (a : After State) → step p kind number s ≡ a → StepOutcome s Took a
           → Replay p s (cond (eqb (a .answer) 0) (record { kind = kind; number = number; at = s } ∷ []) []) (a .state)
       go _ e (took h) = next e done
-      go _ e (kept r h) = rw (eqb-diff r 0 (refusal-some r h)) done
+      go _ e (kept r h) = rw (eqb-diff r 0 (refusal-not-0 r h)) done
 
   -- THE LAW, for every call ..
   pub call-replay : (c : Call) (s : State) → Replay p s (stepsOf p c s) (onState p c s .state)
@@ -65,10 +65,10 @@ abbrev pub Ended : Plan → List ℕ → ℕ → Ran State → Type 0
 Ended p bytes n r = ((r .answer ≡ 0) × (r .done ≡ n)) ⊎ Stopped p bytes n r
 
 module _ (p : Plan) (bytes : List ℕ) where
-  one-more : (n d : ℕ) (y : State) → d ≡ n → {a : After State} {Took : State → Type 0} → stepAt p bytes n y ≡ a → Outcome y Took a → Ended p bytes (suc n) (countedTurn d a)
+  one-more : (n d : ℕ) (y : State) → d ≡ n → {a : After State} {Took : State → Type 0} → stepAt p bytes n y ≡ a → StepOutcome y Took a → Ended p bytes (suc n) (countedTurn d a)
   one-more n d y e q (took h) = inl (refl, ap suc e)
   one-more n d y e q (kept r h) =
-      let z = refusal-some r h in
+      let z = refusal-not-0 r h in
       inr (rw (eqb-diff r 0 z) (record { some = z; below = omega arith; at = ap (λ k. stepAt p bytes k y) e ∙ q }))
 
   -- THE LAW
@@ -78,11 +78,11 @@ module _ (p : Plan) (bytes : List ℕ) where
   run-ends (suc n) s = go (runs never n (stepAt p bytes) s) (run-ends n s)
     where
       go : (r : Ran State) → Ended p bytes n r → Ended p bytes (suc n) (cond (eqb (r .answer) 0 && not (never (r .state))) (countedTurn (r .done) (stepAt p bytes n (r .state))) r)
-      go r (inl h) = rw (eq-eqb (r .answer) 0 (h .0)) (one-more n (r .done) (r .state) (h .1) refl (steps p (r .state) (kindOf bytes n) (numberOf bytes n)))
+      go r (inl h) = rw (eq-eqb (r .answer) 0 (h .0)) (one-more n (r .done) (r .state) (h .1) refl (step-outcome p (r .state) (kindOf bytes n) (numberOf bytes n)))
       go r (inr h) = rw (ne-eqb (r .answer) 0 (h .some)) (inr (record { some = h .some; below = omega (arith, h .below); at = h .at }))
 
   -- the steps done are the steps taken
-  pub run-done : (n : ℕ) (s : State) → length (runsTrace never n (stepAt p bytes) (λ i. ifTaken p (kindOf bytes i) (numberOf bytes i)) s) ≡ runs never n (stepAt p bytes) s .done
+  run-done : (n : ℕ) (s : State) → length (runsTrace never n (stepAt p bytes) (λ i. ifTaken p (kindOf bytes i) (numberOf bytes i)) s) ≡ runs never n (stepAt p bytes) s .done
   unfolding runs runsTrace ifTaken
   run-done zero s = refl
   run-done (suc n) s =
@@ -115,11 +115,11 @@ RoundsEnded p limit r =
 
 module _ (p : Plan) where
   step-goes : (kind number : ℕ) (s : State) → Goes p (step p kind number s)
-  step-goes kind number s = go (steps p s kind number) refl
+  step-goes kind number s = go (step-outcome p s kind number) refl
     where
-      go : {a : After State} {Took : State → Type 0} → Outcome s Took a → step p kind number s ≡ a → Goes p a
+      go : {a : After State} {Took : State → Type 0} → StepOutcome s Took a → step p kind number s ≡ a → Goes p a
       go (took h) e = inl refl
-      go (kept r h) e = inr (record { some = refusal-some r h; kind = kind; number = number; at = e })
+      go (kept r h) e = inr (record { some = refusal-not-0 r h; kind = kind; number = number; at = e })
 
   -- turns that go, one after the other
   loop-goes : (n : ℕ) (g : ℕ → State → After State) → ((k : ℕ) (y : State) → Goes p (g k y)) → (x : State) → Goes p (loop n g x)

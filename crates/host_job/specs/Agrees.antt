@@ -23,7 +23,7 @@ use Rattle.field.specs.Step.{settle, wake, step}
 use Rattle.field.specs.Held.{Held, stateOf, setUp, stepAlone}
 use Rattle.field_calls.specs.Call.{Call, one, rounds, after, answers, does, runRounds}
 use Rattle.field_calls.specs.Trail.{trail, stepsOf, ifTaken, messagesSent, wokenIn, wakesOne}
-use Rattle.field_calls.specs.Demand.{TreeLink, BothSay, Agreed, Allowed, Settles, Claim}
+use Rattle.field_calls.specs.Demand.{TreeLink, BothSay, Agreed, Allowed, ComesToRest, Claim}
 use Rattle.field_laws.specs.After.{Started, started, begun-live, fresh-node}
 use Rattle.field_laws.specs.Laid.{Live}
 use Rattle.demand.specs.Demand.{demand3}
@@ -104,7 +104,7 @@ module _ (p : Plan) (lent : List ℕ) (ok : setUp p lent .answer ≡ 0) where
   -- AT THE END: "comes to rest unrefused within N more rounds than the ceiling"; the sent count is exact and within the ceiling; all modules
   -- agree on the tree, and exactly the ends of one tree link have halted
   pub record Outcome : Type 0 where
-    pub settles : Settles p (settled p lent)
+    pub settles : ComesToRest p (settled p lent)
     pub exact : stateOf (settled p lent .state) .sent ≡ messagesSent p (trail calls start)
     pub ceiling : stateOf (settled p lent .state) .sent ≤ ceilingOf p
     pub agreed : Agreed p (stateOf (settled p lent .state))
