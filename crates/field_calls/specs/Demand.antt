@@ -71,7 +71,7 @@ pub record Claim (p : Plan) (start : Held) (calls : List Call) : Type 0 where
   -- "If a module was woken and the field is at rest, .."
   pub agreed : wokenIn p (trail calls start) ≢ [] → stateOf (after calls start) .words ≡ [] → Agreed p (stateOf (after calls start))
   -- "Whatever such a list leaves, a run of rounds from there, its limit the ceiling plus N or more, comes to rest .."
-  pub settles : (limit : ℕ) → ceilingOf p + modulesOf p ≤ limit → ComesToRest p (runRounds limit (after calls start))
+  pub rests : (limit : ℕ) → ceilingOf p + modulesOf p ≤ limit → ComesToRest p (runRounds limit (after calls start))
 
 -- "For every accepted plan of N modules and L links, and every list of wakeups, hand-overs and services from its setup on, given singly or in
 -- runs, refused ones included": accepted, and lent M words or more, is a setup that is not refused.

@@ -157,7 +157,7 @@ module _ (p : Plan) (a : Accepted p) (Good : State → Type 0) (proto : Protocol
         ceiling = s′ .fits .ceiling;
         refusals = allowed cs h i e g;
         agreed = λ n r. let k = one-of n (w .woken) in proto .agreed (stateOf h′) s′ g′ (k .0) (k .1) r;
-        settles = settling h′ i′ e′ g′;
+        rests = settling h′ i′ e′ g′;
       }
 
 -- THE REDUCTION

@@ -112,10 +112,10 @@ module _ (p : Plan) (lent : List ℕ) (ok : setUp p lent .answer ≡ 0) where
   pub outcome : Outcome
   unfolding after does
   outcome = record {
-    settles = rw settled-is (first .settles 65535 room);
+    settles = rw settled-is (first .rests 65535 room);
     exact = rw settled-is (whole .exact);
     ceiling = rw settled-is (whole .ceiling);
-    agreed = rw settled-is (whole .agreed (woken p start live wakes _) (first .settles 65535 room .rest));
+    agreed = rw settled-is (whole .agreed (woken p start live wakes _) (first .rests 65535 room .rest));
   }
 
   -- THE TREE OF THE CENTRAL BUILDER: both ends of a link say branch where its byte is 1, rejected where it is 0
