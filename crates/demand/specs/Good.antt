@@ -11,7 +11,7 @@ use Rattle.node.specs.Work.{Own, Work}
 use Rattle.field.specs.Edges.{isOwn, ownOf, marksIn}
 use Rattle.field.specs.State.{State, nodeAt, markAt}
 use Rattle.field.specs.Held.{stateOf, fresh}
-use Rattle.protocol.specs.State as protocol
+use Rattle.protocol.specs.State.{ProtocolState, setupState}
 use Rattle.protocol.specs.Step.{Idle}
 use Rattle.protocol_invariant.specs.Reach.{Reach, reach-setup}
 use Rattle.protocol_bridge.specs.Real.{Real, real, ownP, placeIn}
@@ -23,7 +23,7 @@ use Rattle.demand_view.specs.Start.{view-start}
 
 pub record Good (p : Plan) (a : Accepted p) (s : State) : Type 0 where
   -- a state of the protocol, between two responses, whose tables are the field's
-  pub at : protocol.ProtocolState
+  pub at : ProtocolState
   pub is : real at ≡ view p s
   pub idle : Idle at
   -- it has the invariant, and the messages sent are paid for
@@ -31,7 +31,7 @@ pub record Good (p : Plan) (a : Accepted p) (s : State) : Type 0 where
 
 module _ (p : Plan) (a : Accepted p) where
   pub good-start : (lent : List ℕ) → Good p a (stateOf (record { field = fresh p; words = replicate (length lent) 0 }))
-  good-start lent = record { at = protocol.setupState; is = sym (view-start p a lent); idle = (refl, refl, refl); reach = reach-setup (net p a) }
+  good-start lent = record { at = setupState; is = sym (view-start p a lent); idle = (refl, refl, refl); reach = reach-setup (net p a) }
 
   module _ (s : State) (g : Good p a s) where
     -- the values of a module, the marks and the channels, read from the protocol's state

@@ -25,7 +25,7 @@ use Rattle.graph.specs.Ways.{flip}
 use Rattle.plan.specs.Links.{Plan}
 use Rattle.protocol.specs.Network.{Edge, end-lt}
 use Rattle.protocol.specs.Chan.{In, first, in-nil, in-cons, in-app, in-right}
-use Rattle.protocol.specs.Step as protocol
+use Rattle.protocol.specs.Step.{Blocked}
 use Rattle.protocol_stuck.specs.Parts.{AllFinished, stuck-finished, rest-finished}
 use Rattle.protocol_bridge.specs.Real.{Real, ownP}
 use Rattle.protocol_bridge.specs.Fin.{st-is}
@@ -85,7 +85,7 @@ module _ (p : Plan) (a : Accepted p) (s : State) (g : Good p a s) where
           absurd (in-nil (subst (In (msgIn x)) e (first-in x l)))
 
   -- a word that its node would put back is a message that is blocked
-  blocked : {k u v : ℕ} (e : Edge (net p a) k u v) (x : ℕ) → linkIn x ≡ endOf p u k → BlockedWord p s x → (g.at.st v ≢ 0) × protocol.Blocked (g.at) v k (msgIn x)
+  blocked : {k u v : ℕ} (e : Edge (net p a) k u v) (x : ℕ) → linkIn x ≡ endOf p u k → BlockedWord p s x → (g.at.st v ≢ 0) × Blocked (g.at) v k (msgIn x)
   blocked {k} {u} {v} e x q b =
       let l = end-lt (net p a) (flip e) in
       let dv : dest p (linkIn x) ≡ v = ap (dest p) q ∙ dest-is p a e in
@@ -101,10 +101,10 @@ module _ (p : Plan) (a : Accepted p) (s : State) (g : Good p a s) where
   pub stuck-none : Sound p s → All (BlockedWord p s) (s .words) → s .words ≡ []
   stuck-none i h = none-waits (i .fits .words) (stuck-finished (g.reach.inv) (record { idle = g.idle; back = back }) .silent)
     where
-      back : (k u v : ℕ) (m : Msg) → Edge (net p a) k u v → In m (g.at.ch u k) → (g.at.st v ≢ 0) × protocol.Blocked (g.at) v k m
+      back : (k u v : ℕ) (m : Msg) → Edge (net p a) k u v → In m (g.at.ch u k) → (g.at.st v ≢ 0) × Blocked (g.at) v k m
       back k u v m e n =
           let x = word-of (endOf p u k) h (subst (In m) (chan-is e) n) in
-          subst (λ y. (g.at.st v ≢ 0) × protocol.Blocked (g.at) v k y) (x .msg) (blocked e (x .word) (x .link) (x .holds))
+          subst (λ y. (g.at.st v ≢ 0) × Blocked (g.at) v k y) (x .msg) (blocked e (x .word) (x .link) (x .holds))
 
   -- AT REST the protocol is finished
   pub at-rest : s .words ≡ [] → AllFinished (net p a) (g.at)

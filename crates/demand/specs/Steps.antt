@@ -31,8 +31,7 @@ use Rattle.protocol_bridge.specs.Real.{Real, real}
 use Rattle.protocol_bridge.specs.Place.{toPop}
 use Rattle.protocol_bridge.specs.Fin.{st-is}
 use Rattle.protocol_bridge.specs.Bridge.{response}
-use Rattle.protocol_bridge.specs.Reached as R
-use Rattle.protocol_bridge.specs.Reached.{after-fits, wake-after, respond-after}
+use Rattle.protocol_bridge.specs.Reached.{after-fits, wake-after, respond-after, AfterResponse}
 use Rattle.demand_view.specs.Net.{net, ends-of}
 use Rattle.demand_view.specs.View.{view, tables, nodes, chans}
 use Rattle.demand_view.specs.Chans.{chans-hand, chans-head, handedPart, unhandedPart}
@@ -64,9 +63,9 @@ module _ (p : Plan) (a : Accepted p) (s : State) (i : Sound p s) (g : Good p a s
   woken : (v : ℕ) → v < modulesOf p → nodeAt s v .status ≡ ASLEEP → Fine p a (carryOut p v (wakeWork p v s) s (s .words) [])
   woken v l z =
       let w = wakeWork p v s in
-      let f : R.AfterResponse (net p a) (view p s) v 0 (s .sent) w =
-      subst (λ r. R.AfterResponse (net p a) r v 0 (s .sent) w) (g.is)
-      (subst (R.AfterResponse (net p a) (real g.at) v 0 (s .sent)) (rule-is p a s g v (λ o m. wakes o (nodeAt s v) m))
+      let f : AfterResponse (net p a) (view p s) v 0 (s .sent) w =
+      subst (λ r. AfterResponse (net p a) r v 0 (s .sent) w) (g.is)
+      (subst (AfterResponse (net p a) (real g.at) v 0 (s .sent)) (rule-is p a s g v (λ o m. wakes o (nodeAt s v) m))
       (wake-after (g.reach) (g.idle) (node-shown p a s g v l) l (st-is (node-shown p a s g v l) ∙ z))) in
       carried-out v w (s .words) [] (λ e. omega (arith, f.answer)) (after-fits f)
       (good-after p a s g f (placed p v w s (s .words) []) refl (view-woken p a v w (wake-ok p a s i v l) (no-mark p a s g f) l s (i .sized)))
@@ -126,9 +125,9 @@ module _ (p : Plan) (a : Accepted p) (s : State) (i : Sound p s) (g : Good p a s
     same = rule-is p a s g v (λ y m. respond y (limitOf p) (msgIn x) k (nodeAt s v) m)
 
     -- the bridge's steps, told of the field
-    told : (c : ℕ) (t : List Msg) → R.AfterResponse (net p a) (toPop u k t (real g.at)) v c (s .sent) (response (net p a) (g.at) (nodeAt s v) v k (msgIn x))
-        → R.AfterResponse (net p a) (toPop u k t (view p s)) v c (s .sent) w
-    told c t f = subst (λ y. R.AfterResponse (net p a) (toPop u k t y) v c (s .sent) w) (g.is) (subst (R.AfterResponse (net p a) (toPop u k t (real g.at)) v c (s .sent)) same f)
+    told : (c : ℕ) (t : List Msg) → AfterResponse (net p a) (toPop u k t (real g.at)) v c (s .sent) (response (net p a) (g.at) (nodeAt s v) v k (msgIn x))
+        → AfterResponse (net p a) (toPop u k t (view p s)) v c (s .sent) w
+    told c t f = subst (λ y. AfterResponse (net p a) (toPop u k t y) v c (s .sent) w) (g.is) (subst (AfterResponse (net p a) (toPop u k t (real g.at)) v c (s .sent)) same f)
 
     back-none : w .answer ≢ BACK → backOf w x ≡ []
     unfolding backOf
@@ -138,13 +137,13 @@ module _ (p : Plan) (a : Accepted p) (s : State) (i : Sound p s) (g : Good p a s
     unfolding backOf
     back-one e = rw (eq-eqb (w .answer) BACK e) refl
 
-    consumed : R.AfterResponse (net p a) (toPop u k (chans p r u k) (view p s)) v 0 (s .sent) w → Fine p a (carryOut p v w s r (backOf w x))
+    consumed : AfterResponse (net p a) (toPop u k (chans p r u k) (view p s)) v 0 (s .sent) w → Fine p a (carryOut p v w s r (backOf w x))
     consumed f =
         subst (λ b. Fine p a (carryOut p v w s r b)) (sym (back-none (λ e. omega (arith, f.answer))))
         (carried-out v w r [] (λ e. omega (arith, f.answer)) (after-fits f)
         (good-after p a s g f (placed p v w s r []) refl (view-taken p a v w ok (no-mark p a s g f) l s (i .sized) x r o fits)))
 
-    put-back : R.AfterResponse (net p a) (toPop u k (handedPart p v x r (w .sends) ++ (msgIn x ∷ unhandedPart p v x r (w .sends))) (view p s)) v 1 (s .sent) w
+    put-back : AfterResponse (net p a) (toPop u k (handedPart p v x r (w .sends) ++ (msgIn x ∷ unhandedPart p v x r (w .sends))) (view p s)) v 1 (s .sent) w
         → Fine p a (carryOut p v w s r (backOf w x))
     put-back f =
         subst (λ b. Fine p a (carryOut p v w s r b)) (sym (back-one (f.answer)))

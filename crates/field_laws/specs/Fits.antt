@@ -21,8 +21,7 @@ use Rattle.format_word.specs.Word.{headerIn, carriedIn, linkIn, laidOut, shaped
 use Rattle.format_word.specs.Laws.{over, over-laid-out, packs-laid-out}
 use Rattle.node.specs.declared.Node.{Node}
 use Rattle.node.specs.Work.{Own, Send, FOUND, REJECTED}
-use Rattle.field.specs.Edges as O
-use Rattle.field.specs.Edges.{isOwn, ownOf, limitOf, ceilingOf}
+use Rattle.field.specs.Edges.{isOwn, ownOf, limitOf, ceilingOf, endOf}
 use Rattle.field.specs.State.{State, nodeAt, msgIn, wordOf, posted}
 use Rattle.field.specs.Valid.{allOf, linkOrNone, ownOrNone, carriedFits, linkFits, levelFits, wordFits, valuesListed, levelWithin, countWithin, identityFits, nodeFits, markFits, fits}
 use Rattle.plan.specs.Accepted.{Accepted}
@@ -229,7 +228,7 @@ module _ (p : Plan) (a : Accepted p) (v : ℕ) (x : Send) (h : SendOk (ownOf p v
   unfolding wordFits
   send-fits =
       let m = x .msg in
-      let d = O.endOf p v (x .edge) in
+      let d = endOf p v (x .edge) in
       let b = in-bits m (send-packs .listed) in
       let u = word-parts p v x send-packs in
       let q = parts-of-byte (partsOf m .kind) (partsOf m .level) (partsOf m .find) (b .kind) (b .level) (b .find) .1 in

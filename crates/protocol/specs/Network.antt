@@ -9,7 +9,7 @@ use Rattle.base.specs.Cond.{eqb-cases}
 use Rattle.graph.specs.Graph.{Graph, Joins, up, down}
 use Rattle.graph.specs.Order.{Order, InTree}
 use Rattle.graph.specs.Ways.{joins-lt, ends-diff}
-use Rattle.graph.specs.Rank as R
+use Rattle.graph.specs.Rank.{rank-bound, rankIn, rankIn-inj}
 use Rattle.format_message.specs.Msg.{none}
 
 pub record Network : Type 0 where
@@ -33,7 +33,7 @@ Tree p k = InTree p.g (p.order.earlier) k
 
 -- place of an edge in the order: smaller is earlier
 abbrev pub rank : Network → ℕ → ℕ
-rank p k = R.rankIn p.order k
+rank p k = rankIn p.order k
 
 -- the same for an edge or none: none is later than all
 unfoldable pub key : Network → ℕ → ℕ
@@ -52,10 +52,10 @@ module _ (p : Network) where
   key-edge k l = key-some k (λ e. omega (arith, p.small))
 
   pub rank-lt : (k : ℕ) → k < p.g.L → rank p k < p.g.L
-  rank-lt k l = R.rank-bound p.order k l
+  rank-lt k l = rank-bound p.order k l
 
   pub rank-inj : (e f : ℕ) → e < p.g.L → f < p.g.L → rank p e ≡ rank p f → e ≡ f
-  rank-inj e f a b q = R.rankIn-inj p.order e f a b q
+  rank-inj e f a b q = rankIn-inj p.order e f a b q
 
   -- an edge of the graph is not none, and its ends differ
   pub edge-some : {k u v : ℕ} → Edge p k u v → k ≢ none

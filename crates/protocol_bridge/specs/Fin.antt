@@ -8,9 +8,8 @@ use lib.ListN.{length, length-append}
 use Rattle.base.specs.Cond.{upd-same}
 use Rattle.format_message.specs.Msg.{Msg}
 use Rattle.node.specs.declared.Node.{Node}
-use Rattle.node.specs.Work.{Work, Send, start, withNode, setMark, setStatus, setBest, setTest, setCount, setHalted}
-use Rattle.node.specs.Work as W
-use Rattle.node.specs.Rules as N
+use Rattle.node.specs.Work.{Work, Send, start, withNode, setMark, setStatus, setBest, setTest, setCount, setHalted, send}
+use Rattle.node.specs.Rules.{copied, informed, woken}
 use Rattle.protocol.specs.Network.{Network, Edge}
 use Rattle.protocol.specs.State.{ProtocolState}
 use Rattle.protocol.specs.Step.{Step, Idle, pop}
@@ -86,16 +85,16 @@ module _ {r : Real} {v : ℕ} {w : Work} {x : Real} (a : At r v w x) where
   pub at-mark : (k c : ℕ) → At r v (setMark k c w) (toMark v k c x)
   at-mark k c = record { is = ap (toMark v k c) (a.is) ∙ place-mark r v w k c }
 
-  pub at-send : (k : ℕ) (m : Msg) → At r v (W.send k m w) (toSend v k m x)
+  pub at-send : (k : ℕ) (m : Msg) → At r v (send k m w) (toSend v k m x)
   at-send k m = record { is = ap (toSend v k m) (a.is) ∙ place-send r v w k m }
 
-  pub at-woken : At r v (withNode (N.woken (w .node)) w) (toWoken v (N.woken (w .node)) x)
-  at-woken = record { is = ap (toWoken v (N.woken (w .node))) (a.is) ∙ place-woken r v w }
+  pub at-woken : At r v (withNode (woken (w .node)) w) (toWoken v (woken (w .node)) x)
+  at-woken = record { is = ap (toWoken v (woken (w .node))) (a.is) ∙ place-woken r v w }
 
-  pub at-told : (l f b k : ℕ) → At r v (withNode (N.informed l f b k (w .node)) w) (toTold v (N.informed l f b k (w .node)) x)
-  at-told l f b k = record { is = ap (toTold v (N.informed l f b k (w .node))) (a.is) ∙ place-told r v w l f b k }
+  pub at-told : (l f b k : ℕ) → At r v (withNode (informed l f b k (w .node)) w) (toTold v (informed l f b k (w .node)) x)
+  at-told l f b k = record { is = ap (toTold v (informed l f b k (w .node))) (a.is) ∙ place-told r v w l f b k }
 
-  pub at-copied : (cs : List Send) → At r v (N.copied cs w) (toChans (post x.ch v cs) x)
+  pub at-copied : (cs : List Send) → At r v (copied cs w) (toChans (post x.ch v cs) x)
   at-copied cs = record { is = ap (λ (y : Real). toChans (post y.ch v cs) y) (a.is) ∙ place-copied r v w cs }
 
   -- a change of another node's channel
@@ -103,7 +102,7 @@ module _ {r : Real} {v : ℕ} {w : Work} {x : Real} (a : At r v w x) where
   at-pop u k l d = record { is = ap (toPop u k l) (a.is) ∙ place-pop r v w u k l d }
 
 -- one message more
-pub one-more : (w : Work) (k : ℕ) (m : Msg) → length (w .sends) + 1 ≡ length (W.send k m w .sends)
+pub one-more : (w : Work) (k : ℕ) (m : Msg) → length (w .sends) + 1 ≡ length (send k m w .sends)
 one-more w k m = sym (length-append (w .sends) (record { edge = k; msg = m } ∷ []))
 
 -- THE REST OF A RESPONSE: from s, where b messages are sent, small steps lead to an idle state whose tables are r with w placed at v;

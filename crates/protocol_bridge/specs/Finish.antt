@@ -8,8 +8,7 @@ use lib.ListN.{length}
 use borrow.Author.Tests.{eq-eqb, eqb-true}
 use Rattle.base.specs.Cond.{by-eq, upd}
 use Rattle.format_message.specs.Msg.{none, connect, test, report, change}
-use Rattle.node.specs.Work.{Work, FOUND, BRANCH, basic, withNode, setMark, setStatus, setTest, earliest}
-use Rattle.node.specs.Work as W
+use Rattle.node.specs.Work.{Work, FOUND, BRANCH, basic, withNode, setMark, setStatus, setTest, earliest, send}
 use Rattle.node.specs.Rules.{doReport, doTest, changeRoot}
 use Rattle.node.specs.Laws.{report-counts, report-tests, report-sends, test-over, test-sends, root-told, root-connects}
 use Rattle.protocol.specs.Network.{Network, Edge, edge-some}
@@ -32,7 +31,7 @@ module _ {p : Network} {s : ProtocolState} (i : Inv p s) {r : Real} {v : ℕ} {w
 
     now : w .node .count ≡ 0 → w .node .test ≡ none → Fin p r v 0 (length (w .sends)) (doReport w) s
     now n h =
-        fin-same (report-sends w n h (λ q. edge-some p (branch .1) (ib-is a ∙ q)) ∙ sym (ap₂ (λ k x. W.send k (report x) (withNode (setStatus FOUND (w .node)) w)) (ib-is a) (bw-is a)))
+        fin-same (report-sends w n h (λ q. edge-some p (branch .1) (ib-is a ∙ q)) ∙ sym (ap₂ (λ k x. send k (report x) (withNode (setStatus FOUND (w .node)) w)) (ib-is a) (bw-is a)))
         (fin-last (report-now t o c (branch .1) refl (fc-is a ∙ n) (te-is a ∙ h)) (one-more w (s.ib v) (report (s.bw v))) (t, refl, c) z (at-status (at-send a (s.ib v) (report (s.bw v))) FOUND))
 
     pub report-fin : Fin p r v 0 (length (w .sends)) (doReport w) s
@@ -58,7 +57,7 @@ module _ {p : Network} {s : ProtocolState} (i : Inv p s) {r : Real} {v : ℕ} {w
     mark-k = mark-at a k ∙ ap (w .mark) (be-is a)
 
     told : s.mark v k ≡ 1 → Fin p r v 0 (length (w .sends)) (changeRoot w) s
-    told h = fin-same (root-told w some (sym mark-k ∙ h) ∙ ap (λ j. W.send j change w) is-k)
+    told h = fin-same (root-told w some (sym mark-k ∙ h) ∙ ap (λ j. send j change w) is-k)
         (fin-last (root-branch t o c (ends .1) refl h) (one-more w k change) (t, o, refl) z (at-send a k change))
 
     connects : s.mark v k ≢ 1 → Fin p r v 0 (length (w .sends)) (changeRoot w) s
@@ -66,7 +65,7 @@ module _ {p : Network} {s : ProtocolState} (i : Inv p s) {r : Real} {v : ℕ} {w
         let m = connect (s.lev v) in
         let y = ends .0 in
         let a′ = at-mark (at-send a k m) k BRANCH in
-        fin-same (root-connects w some (λ q. h (mark-k ∙ q)) ∙ ap₂ (λ j l. setMark j BRANCH (W.send j (connect l) w)) is-k (sym (lev-is a)))
+        fin-same (root-connects w some (λ q. h (mark-k ∙ q)) ∙ ap₂ (λ j l. setMark j BRANCH (send j (connect l) w)) is-k (sym (lev-is a)))
         (by-eq (s.mark y k) 1
         (λ b. fin-last (root-merge t o c (ends .1) refl h b) (one-more w k m) (t, o, refl) z a′)
         (λ b. fin-last (root-half t o c (ends .1) refl h b) (one-more w k m) (t, o, refl) z a′))
@@ -92,7 +91,7 @@ module _ {p : Network} (keeps : Keeps p) {s : ProtocolState} (i : Inv p s) {r : 
   test-edge : FindsFirst p v (basic w) edge → Fin p r v 0 (length (w .sends)) (doTest (ownP p v) w) s
   test-edge h =
       let m = test (s.lev v) (s.id v) in
-      fin-same (test-sends edge w (edge-some p (h .ends)) (λ q. omega (arith, lev-is a, test-level i v t)) ∙ sym (ap₂ (λ l f. W.send edge (test l f) (withNode (setTest edge (w .node)) w)) (lev-is a) (id-is a)))
+      fin-same (test-sends edge w (edge-some p (h .ends)) (λ q. omega (arith, lev-is a, test-level i v t)) ∙ sym (ap₂ (λ l f. send edge (test l f) (withNode (setTest edge (w .node)) w)) (lev-is a) (id-is a)))
       (fin-last (test-next t o c (h .ends) (mark-at a edge ∙ eqb-true (w .mark edge) 0 (h .holds), λ j u e q. h .least j u e (is-basic j q)))
       (one-more w edge m) (refl, o, c) z (at-test (at-send a edge m) edge))
 

@@ -12,8 +12,7 @@ use Rattle.base.specs.Sum.{sum}
 use Rattle.format_message.specs.Msg.{Msg, initiate}
 use Rattle.node.specs.Work.{Work, FIND, FOUND, branches, number, onEach, withNode, setCount, degree}
 use Rattle.node.specs.Work as W
-use Rattle.node.specs.Rules.{told, copies, onInitiate}
-use Rattle.node.specs.Rules as N
+use Rattle.node.specs.Rules.{told, copies, onInitiate, informed}
 use Rattle.node.specs.Laws.{seek-tests, initiate-find, initiate-found}
 use Rattle.protocol.specs.Prelude.{Network, ProtocolState, Step, Mode, Place, GC, pop-head, pop, copy, fan, initiated, copy-yes}
 use Rattle.protocol.specs.Step.{tell}
@@ -72,7 +71,7 @@ module _ {p : Network} (keeps : Keeps p) {s : ProtocolState} {r : Real} {u v k l
   told-at : (c d e b : ℕ) → s.fc v + x * many ≡ c → At r v (withNode (setCount c (told o l f x k w .node)) (told o l f x k w)) (real (next d e b))
   told-at c d e b h =
       subst (λ n. At r v (withNode (setCount n (told o l f x k w .node)) (told o l f x k w)) (real (next d e b))) h
-      (subst (λ t. At r v (withNode (setCount (s.fc v + x * many) (told o l f x k w .node)) (told o l f x k w)) (toCount v (s.fc v + x * many) (toChans t (toTold v (N.informed l f x k (w .node)) (real s₀)))))
+      (subst (λ t. At r v (withNode (setCount (s.fc v + x * many) (told o l f x k w .node)) (told o l f x k w)) (toCount v (s.fc v + x * many) (toChans t (toTold v (informed l f x k (w .node)) (real s₀)))))
       (sym chans) (at-count (at-copied (at-told sv.at l f x k) (copies o k m w)) (s.fc v + x * many)))
 
   -- depth and side of v

@@ -10,14 +10,14 @@ use Rattle.base.specs.Cond.{bit, eqb-cases, ltb-cases, by-eq}
 use Rattle.base.specs.Sum.{sum}
 use Rattle.graph.specs.Graph.{up, down}
 use Rattle.graph.specs.Ways.{joins-lt}
-use Rattle.graph.specs.Rank as R
+use Rattle.graph.specs.Rank.{rank-not-earlier, rankIn-lt}
 use Rattle.format_message.specs.Msg.{none}
 use Rattle.node.specs.Work.{before, earliest, number, anyEdge, degree}
 use Rattle.node.specs.First.{first, before-none, before-edges, none-before}
 use Rattle.protocol.specs.Network.{Network, Edge, key, rank, key-none, key-edge, rank-lt}
 use Rattle.protocol.specs.State.{ProtocolState}
 use Rattle.protocol.specs.Inv.{Inv}
-use Rattle.protocol_invariant.specs.Safe as S
+use Rattle.protocol_invariant.specs.Safe.{count-le}
 use Rattle.protocol_bridge.specs.Real.{ownP}
 
 module _ (p : Network) (v : ℕ) where
@@ -59,7 +59,7 @@ module _ (p : Network) (v : ℕ) where
         ends = t .1;
         holds = e .holds;
         least = λ j u h q. by-eq j k (λ z. omega (arith, ap (rank p) z))
-            (λ d. omega (arith, R.rankIn-lt p.order k j (e .below) (e .least j (joins-lt h) (ends-own h) q d)));
+            (λ d. omega (arith, rankIn-lt p.order k j (e .below) (e .least j (joins-lt h) (ends-own h) q d)));
       }))
       (first (ownP p v) f p.order.trans p.order.total p.small p.g.L (omega arith))
     where
@@ -74,14 +74,14 @@ module _ (p : Network) (v : ℕ) where
         (λ e. absurd (true≢false (sym h ∙ (rw e (none-before (ownP p v) b)))))
         (λ n. by-eq b none
         (λ e. omega (arith, key-edge p a (la n), rank-lt p a (la n), ap (key p) e, key-none p))
-        (λ m. omega (arith, key-edge p a (la n), key-edge p b (lb m), R.rankIn-lt p.order a b (la n) (sym (before-edges (ownP p v) a b n m) ∙ h))))
+        (λ m. omega (arith, key-edge p a (la n), key-edge p b (lb m), rankIn-lt p.order a b (la n) (sym (before-edges (ownP p v) a b n m) ∙ h))))
 
     pub before-ge : before (ownP p v) a b ≡ false → key p b ≤ key p a
     before-ge h = by-eq a none
         (λ e. by-eq b none (λ q. omega (arith, ap (key p) e, ap (key p) q)) (λ m. omega (arith, ap (key p) e, key-none p, key-edge p b (lb m), rank-lt p b (lb m))))
         (λ n. by-eq b none
         (λ e. absurd (true≢false (sym (rw e (before-none (ownP p v) a n)) ∙ h)))
-        (λ m. omega (arith, key-edge p a (la n), key-edge p b (lb m), R.rank-not-earlier p.order a b (la n) (lb m) (sym (before-edges (ownP p v) a b n m) ∙ h))))
+        (λ m. omega (arith, key-edge p a (la n), key-edge p b (lb m), rank-not-earlier p.order a b (la n) (lb m) (sym (before-edges (ownP p v) a b n m) ∙ h))))
 
   -- ---- counts
 
@@ -92,4 +92,4 @@ module _ (p : Network) (v : ℕ) where
 
   -- the find-count is at most the number of own edges
   pub fc-degree : {s : ProtocolState} → Inv p s → s.fc v ≤ degree (ownP p v)
-  fc-degree i = omega (arith, number-sum anyEdge p.g.L, S.count-le i v (λ k. ownP p v .own k && true) (λ k u e. rw (ends-own e)))
+  fc-degree i = omega (arith, number-sum anyEdge p.g.L, count-le i v (λ k. ownP p v .own k && true) (λ k u e. rw (ends-own e)))

@@ -9,8 +9,7 @@ use lib.ListN.{length}
 use Rattle.base.specs.Cond.{by-eq, bool-cases, upd, upd2}
 use Rattle.graph.specs.Ways.{joins-lt}
 use Rattle.format_message.specs.Msg.{Msg, none, accept, report, change}
-use Rattle.node.specs.Work.{Work, putBack, before, withNode, setCount}
-use Rattle.node.specs.Work as W
+use Rattle.node.specs.Work.{Work, putBack, before, withNode, setCount, Own}
 use Rattle.node.specs.Rules.{onAccept, onReport, onChange, coreReport, better, doReport, changeRoot}
 use Rattle.node.specs.Laws.{child-reports, report-child, report-waits, report-core, core-decides, core-halts, core-edge, core-idle}
 use Rattle.protocol.specs.Prelude.{Network, key, ProtocolState, Step, Blocked, Better, In, pop-head, pop, rooted, bested, set-te, set-op, set-owe, set-fc}
@@ -64,7 +63,7 @@ change-fin keeps sv = rooted-fin keeps sv (change-root sv.idle sv.ends sv.head) 
 
 -- (10) Report
 module _ {p : Network} (keeps : Keeps p) {s : ProtocolState} {r : Real} {u v k x : ℕ} {rest : List Msg} {w : Work} (sv : Serving p s r u v k (report x) rest w) where
-  abbrev o : W.Own
+  abbrev o : Own
   o = ownP p v
 
   here : In (report x) (s.ch u k)

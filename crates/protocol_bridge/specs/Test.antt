@@ -10,8 +10,7 @@ use lib.ListN.{length}
 use lib.Dec.{eqb}
 use Rattle.base.specs.Cond.{by-eq, eqb-cases}
 use Rattle.format_message.specs.Msg.{Msg, test, accept, reject}
-use Rattle.node.specs.Work.{Work, BASIC, REJECTED, putBack}
-use Rattle.node.specs.Work as W
+use Rattle.node.specs.Work.{Work, BASIC, REJECTED, putBack, Own}
 use Rattle.node.specs.Rules.{doTest, strike, onTest, onReject}
 use Rattle.node.specs.Laws.{test-waits, test-accepted, test-crossed, test-rejected}
 use Rattle.protocol.specs.Prelude.{Network, ProtocolState, Step, Blocked, Strike, pop, remarked, set-ot}
@@ -46,7 +45,7 @@ reject-fin {p} keeps {s} {r} {u} {v} {k} {rest} {w} sv =
 
 -- (6) Test
 module _ {p : Network} (keeps : Keeps p) {s : ProtocolState} {r : Real} {u v k l f : ℕ} {rest : List Msg} {w : Work} (sv : Serving p s r u v k (test l f) rest w) where
-  abbrev o : W.Own
+  abbrev o : Own
   o = ownP p v
 
   module _ (le : l ≤ s.lev v) where

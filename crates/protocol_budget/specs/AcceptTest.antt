@@ -8,7 +8,7 @@ use Rattle.graph.specs.Size.{level-two}
 use Rattle.protocol_budget.specs.Paid.{LT, Tries, Links, Paid, lt-else, lt-same, yes-le}
 use Rattle.protocol_budget.specs.Height.{heights-pop, heights-send}
 use Rattle.protocol_search.specs.AcceptTest as A
-use Rattle.protocol_search.specs.Answer as W
+use Rattle.protocol_search.specs.Answer.{tests-answer}
 
 module _ {p : Network} {z n : ℕ} (last : log2 p.N ≤ z) {s : ProtocolState} (i : Inv p s) (h : Paid p z s n) {u v k l f : ℕ} {r : List Msg} (idle : Idle s) (ends : Edge p k u v)
     (awake : s.st v ≢ 0) (q : s.ch u k ≡ test l f ∷ r) (low : l ≤ s.lev v) (differ : s.id v ≢ f) where
@@ -50,7 +50,7 @@ module _ {p : Network} {z n : ℕ} (last : log2 p.N ≤ z) {s : ProtocolState} (
   lt : (w j : ℕ) → LT z s.lev c′ w j ≡ LT z s.lev s.ch w j
   lt w j = by-eq u w
       (λ e. let b : s.lev w ≢ z = λ o. below (ap s.lev e ∙ o) in lt-else z s.lev c′ w j b ∙ sym (lt-else z s.lev s.ch w j b))
-      (λ d. lt-same z s.lev s.ch w j c′ (W.tests-answer p s ends q accept refl refl w j (inl d)))
+      (λ d. lt-same z s.lev s.ch w j c′ (tests-answer p s ends q accept refl refl w j (inl d)))
 
   yes : (w j : ℕ) → sumL isY (s.ch w j) ≤ sumL isY (c′ w j)
   yes w j = by-eq v w
@@ -80,7 +80,7 @@ module _ {p : Network} {z n : ℕ} (last : log2 p.N ≤ z) {s : ProtocolState} (
         let y : k ≡ j = sym (waits .0) ∙ ap s.te o ∙ a .0 in
         let t = other-end ends e o y in
         omega (arith, snoc-here c₁ v k accept isY, ap (λ m. sumL isY (c′ m j)) t, ap (λ m. sumL isY (c′ v m)) y))
-        (λ d. omega (arith, other w d, h.L .ts3 j w x e a b, W.tests-answer p s ends q accept refl refl w j (inl d), yes x j));
+        (λ d. omega (arith, other w d, h.L .ts3 j w x e a b, tests-answer p s ends q accept refl refl w j (inl d), yes x j));
     lk1 = λ j w x e a b. omega (arith, h.L .lk1 j w x e a b, lt w j, lt x j);
     lk2 = λ j w x e a b. omega (arith, h.L .lk2 j w x e a (omega (arith, snoc-sum c₁ v k accept isT refl w j, pop-le s.ch u k q isT w j)), lt w j, lt x j);
   }

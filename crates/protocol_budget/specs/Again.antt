@@ -6,8 +6,8 @@ use Rattle.protocol.specs.Prelude.{isI, isT, isA, isY, In, pop-head, pop-sum, e
 use Rattle.protocol_budget.specs.Paid.{LT, Paid, lt-else, lt-same, yes-le}
 use Rattle.protocol_budget.specs.Height.{heights-pop, tb-inf}
 use Rattle.protocol_search.specs.CrossedTest as C
-use Rattle.protocol_search.specs.Rejected as J
-use Rattle.protocol_search.specs.Own as O
+use Rattle.protocol_search.specs.Rejected.{alone, reject-ok}
+use Rattle.protocol_search.specs.Own.{inf-tested, inf-tester, tester-inside}
 use Rattle.protocol_search.specs.Strike.{struck, up2-strike, dn0-strike, dn-other-strike}
 
 module _ {p : Network} {z n : ℕ} {s : ProtocolState} (i : Inv p s) (h : Paid p z s n) {u v k c : ℕ} {m : Msg} {r : List Msg} (idle : Idle s) (ends : Edge p k u v)
@@ -136,8 +136,8 @@ two-of {z = z} {s = s} i h {u} {v} {k} e f w t y = by-eq (s.lev v) z
 module _ {p : Network} {z n : ℕ} {s : ProtocolState} (i : Inv p s) (h : Paid p z s n) {u v k c : ℕ} {r : List Msg} (idle : Idle s) (ends : Edge p k u v) where
   pub paid-rejected : (q : s.ch u k ≡ reject ∷ r) (strike : Strike s v k c) → Paid p z (set-ot (remarked (pop s u k r) v k c) (suc v)) n
   paid-rejected q strike =
-      let said = J.reject-ok i idle ends q strike in
-      let a = J.alone i idle ends q strike in
+      let said = reject-ok i idle ends q strike in
+      let a = alone i idle ends q strike in
       let f = i.F1.f1 v (waits-find i k v u (flip ends) (said .j1w)) .f1i in
       paid-kept i h idle ends q refl refl (said .j1w) strike
       (two-of i h (flip ends) f (said .j1w) (omega (arith, a, ap (sumL isA) q)) (omega (arith, a, ap (sumL isA) q, ap (sumL isY) q, yes-le r)))
@@ -150,7 +150,7 @@ module _ {p : Network} {z n : ℕ} {s : ProtocolState} (i : Inv p s) (h : Paid p
       let a = i.E1.e2w k u v ends (t .0) wait in
       let b = i.E1.e2w k v u (flip ends) wait (t .0) in
       let y = h.L .lk1 k v u (flip ends) basic (t .1) in
-      let d : s.lev u ≡ s.lev v = fu .1 ∙ ap s.gl (O.tester-inside i ends head low same) ∙ sym (fv .1) in
+      let d : s.lev u ≡ s.lev v = fu .1 ∙ ap s.gl (tester-inside i ends head low same) ∙ sym (fv .1) in
       paid-both i h idle ends q refl refl wait strike (t .0) basic (omega (arith, ap (sumL isT) q, a))
       (by-eq (s.lev v) z
       (λ o. omega (arith, h.T .ts0 v (tb-inf i (h.H) v fv) (sym (fv .1) ∙ o), h.T .ts0 u (tb-inf i (h.H) u fu) (sym (fu .1) ∙ d ∙ o)))
@@ -189,7 +189,7 @@ module _ {p : Network} {z n : ℕ} {s : ProtocolState} (i : Inv p s) (h : Paid p
       unanswered = C.unanswered i idle ends awake q low same edge strike
 
       fu : Inf s u
-      fu = O.inf-tester i ends head low same
+      fu = inf-tester i ends head low same
 
       fv : Inf s v
-      fv = O.inf-tested i ends head low same
+      fv = inf-tested i ends head low same

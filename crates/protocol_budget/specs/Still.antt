@@ -6,8 +6,8 @@ use Rattle.protocol.specs.Prelude.{isT, isY, rot-top, pop-head, pop-sum, else-s
 use Rattle.protocol_budget.specs.Paid.{Paid, heights-same, links-same}
 use Rattle.protocol_budget.specs.Height.{paid-keep, Neutral, heights-pop, links-pop, dues-decide, dues-finish}
 use Rattle.protocol_search.specs.Back.{not-initiate}
-use Rattle.protocol_search.specs.Accepted as A
-use Rattle.protocol_search.specs.TestNone as N
+use Rattle.protocol_search.specs.Accepted.{waits-accepted}
+use Rattle.protocol_search.specs.TestNone.{waits-none}
 
 module _ {p : Network} {z n : ℕ} {s : ProtocolState} (i : Inv p s) (h : Paid p z s n) where
   pub paid-report-later : Paid p z (set-op s 0) n
@@ -84,9 +84,9 @@ module _ {p : Network} {z n : ℕ} {s : ProtocolState} (i : Inv p s) (h : Paid p
   paid-test-none {v} ot op oo basic = paid-keep h (set-op (set-ot (set-te s (upd s.te v none)) 0) (suc v)) (h.H) (h.D)
       (record { ts0 = h.T .ts0; ts1 = h.T .ts1; ts2 = λ w e. absurd (omega arith) })
       (record {
-        ts3 = λ k w u e a m. h.L .ts3 k w u e (N.waits-none i ot op oo basic k w u e a .1) m;
+        ts3 = λ k w u e a m. h.L .ts3 k w u e (waits-none i ot op oo basic k w u e a .1) m;
         lk1 = h.L .lk1;
-        lk2 = λ k x y e a m. h.L .lk2 k x y e (N.waits-none i ot op oo basic k x y e a .1) m;
+        lk2 = λ k x y e a m. h.L .lk2 k x y e (waits-none i ot op oo basic k x y e a .1) m;
       })
 
   pub paid-accepted : {u v k b e : ℕ} {r : List Msg} (idle : Idle s) (ends : Edge p k u v) (q : s.ch u k ≡ accept ∷ r) (better : Better p s v k k b e)
@@ -94,11 +94,11 @@ module _ {p : Network} {z n : ℕ} {s : ProtocolState} (i : Inv p s) (h : Paid p
   paid-accepted {u} {v} {k} {b} {e} {r} idle ends q better = paid-keep h (set-op (bested (set-te (pop s u k r) (upd s.te v none)) v b e) (suc v))
       (heights-pop s.ch u k q refl (h.H)) (h.D) (h.T)
       (record {
-        ts3 = λ j w x f a m. let o = A.waits-accepted i idle ends q better j w x f a in omega (arith, h.L .ts3 j w x f (o .1) m, tests w j, yes j w x f (o .0));
+        ts3 = λ j w x f a m. let o = waits-accepted i idle ends q better j w x f a in omega (arith, h.L .ts3 j w x f (o .1) m, tests w j, yes j w x f (o .0));
         lk1 = λ j w x f a m. omega (arith, h.L .lk1 j w x f a m, ap (λ y. y * bit (eqb (s.lev w) z)) (tests w j), ap (λ y. y * bit (eqb (s.lev x) z)) (tests x j));
         lk2 = λ j w x f a m. omega (
           arith,
-          h.L .lk2 j w x f (A.waits-accepted i idle ends q better j w x f a .1) (omega (arith, tests w j)),
+          h.L .lk2 j w x f (waits-accepted i idle ends q better j w x f a .1) (omega (arith, tests w j)),
           ap (λ y. y * bit (eqb (s.lev w) z)) (tests w j),
           ap (λ y. y * bit (eqb (s.lev x) z)) (tests x j),
         );

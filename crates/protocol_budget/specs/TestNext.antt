@@ -6,7 +6,7 @@ use Rattle.protocol.specs.Prelude.{isT, isY, snoc, snoc-sum, snoc-here, snoc-el
 use Rattle.protocol_budget.specs.Paid.{LT, Paid, lt-last, lt-else, lt-none, lt-le, lt-same}
 use Rattle.protocol_budget.specs.Height.{heights-send}
 use Rattle.protocol.specs.Prelude.{set-te, set-ot, sendOver}
-use Rattle.protocol_search.specs.TestNext as N
+use Rattle.protocol_search.specs.TestNext.{find, own-test, their-test, waits-next}
 
 module _ {p : Network} {z n : ℕ} {s : ProtocolState} (i : Inv p s) (h : Paid p z s n) {v k u : ℕ} (ot : s.ot ≡ suc v) (op : s.op ≡ 0) (oo : s.oo ≡ 0) (ends : Edge p k v u) (first : FirstBasic p s v k) where
   abbrev m : Msg
@@ -19,13 +19,13 @@ module _ {p : Network} {z n : ℕ} {s : ProtocolState} (i : Inv p s) (h : Paid p
   S′ = set-ot (set-te (sendOver s v k m) (upd s.te v k)) 0
 
   inf : Inf s v
-  inf = i.F1.f1 v (N.find i ot op oo ends first) .f1i
+  inf = i.F1.f1 v (find i ot op oo ends first) .f1i
 
   own : sumL isT (s.ch v k) ≡ 0
-  own = N.own-test i ot op oo ends first
+  own = own-test i ot op oo ends first
 
   waits {κ} : {C : Type κ} (j w : ℕ) → Waits S′ w j → (v ≡ w → k ≡ j → C) → (v ≢ w → Waits s w j → C) → C
-  waits j w a y d = N.waits-next i ot op oo ends first j w a y d
+  waits j w a y d = waits-next i ot op oo ends first j w a y d
 
   -- the other end is not Rejected
   fair : s.mark u k ≢ 2
@@ -107,7 +107,7 @@ module _ {p : Network} {z n : ℕ} {s : ProtocolState} (i : Inv p s) (h : Paid p
       theirs : LT z s.lev s.ch u k ≤ 1
       theirs = by-eq (s.te u) k
           (λ e. omega (arith, lt-le z s.lev s.ch u k, i.E1.e2c k u v (flip ends) (e, λ o. v≢u (omega arith)) (inr ot)))
-          (λ e. omega (arith, lt-le z s.lev s.ch u k, N.their-test i ot op oo ends first e))
+          (λ e. omega (arith, lt-le z s.lev s.ch u k, their-test i ot op oo ends first e))
         where
           v≢u : v ≢ u
           v≢u = ends-irr p ends
