@@ -44,7 +44,7 @@ pub use Rattle.protocol.specs.Facts.{joined-level, half-of, changing-of,
 pub use Rattle.protocol.specs.Facts.{no-initiate, no-connect, no-connect-decided, decided-initiate, decided-report, decided-test, rest-none}
 pub use Rattle.protocol.specs.Same.{outst-ch, counting-ch, last-case, counting-to, covered-to, owing-same, bests-same, connects-same, initiates-same, init-ok, answers-same, testing-same}
 pub use Rattle.protocol.specs.Same.{around-same, Alike, core-same, reports-same}
-pub use Rattle.protocol.specs.Flow.{Flow, flow, inv-asking, inv-passing}
+pub use Rattle.protocol.specs.Flow.{Flow, flow, inv-search, inv-asking, inv-passing}
 pub use Rattle.protocol.specs.Reopen.{flow-open}
 pub use Rattle.protocol.specs.Take.{take-alike, take-hush, take-connects, take-initiates, take-telling, take-ordered, Plain, plain-test, plain-accept, plain-reject, flow-take}
 pub use Rattle.protocol.specs.Post.{post-before, post-telling, flow-post}

@@ -1,7 +1,7 @@
 -- A mark of v for k that is Basic becomes Rejected: what stays of the clauses that read marks.
 use Rattle.protocol.specs.Prelude.{ℕ, _≤_, arith, _≡_, refl, sym, ap, subst, _∙_, _≢_, _⊎_, inl, inr, ⊎-elim}
 use Rattle.protocol.specs.Prelude.{upd2, upd2-elim, by-eq, Network, Edge, key, rank, flip, other-end, wider, ProtocolState, Strike, set-mark, set-ch, set-ot, List, Msg}
-use Rattle.protocol.specs.Prelude.{Both, Bounding, Inv, Flow, init-ok, at2}
+use Rattle.protocol.specs.Prelude.{Both, Bounding, Inv, Flow, inv-search, init-ok, at2}
 use Rattle.protocol.specs.Fragments.{Ranges, Cores, Sleepers, Marks, Inbounds}
 use Rattle.protocol.specs.Decisions.{Halves, ChangeRoots, Rootings, Finishes}
 use Rattle.protocol.specs.Search.{Kids, Pending, Tests}
@@ -204,11 +204,8 @@ module _ {p : Network} {s : ProtocolState} (i : Inv p s) {u v k c : ℕ} (ends :
     striking = set-ot (set-mark (set-ch s c′) m′) ot
 
     pub inv-strike : Pending s.st s.te s.fc ot s.op → Tests p s.te s.ib m′ ot → Flow p striking → Testing p striking → Answers p striking → Bests p striking → Inv p striking
-    inv-strike f2 e2 f e1 a1 b2 = record {
+    inv-strike = inv-search i m′ s.te ot s.op c′ (record {
       W0 = ranges-strike;
-      W1 = i.W1;
-      G2 = i.G2;
-      G4 = i.G4;
       G5 = cores-strike;
       G6 = sleepers-strike;
       M1 = marks-strike;
@@ -217,22 +214,5 @@ module _ {p : Network} {s : ProtocolState} (i : Inv p s) {u v k c : ℕ} (ends :
       D2 = change-roots-strike;
       D3 = rootings-strike;
       D4 = finishes-strike;
-      T1 = i.T1;
       T2 = kids-strike;
-      F1 = i.F1;
-      F2 = f2;
-      F4 = i.F4;
-      E2 = e2;
-      B1 = i.B1;
-      G6c = f.G6c;
-      Dc = f.Dc;
-      C1 = f.C1;
-      I1 = f.I1;
-      T4 = f.T4;
-      E1 = e1;
-      A1 = a1;
-      R1 = f.R1;
-      F4c = f.F4c;
-      B2 = b2;
-      Q1 = f.Q1;
-    }
+    })
