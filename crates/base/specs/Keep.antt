@@ -41,25 +41,25 @@ module _ {A : Type 0} where
   keep-none q x e = keep-no q x [] e ∙ keep-nil q
 
   -- w is the first of l that passes, and r is l without it
-  pub data First (p : A → Bool) : List A → A → List A → Type 0 where
-    first : {w : A} {l : List A} → p w ≡ true → First p (w ∷ l) w l
-    later : {x w : A} {l r : List A} → p x ≡ false → First p l w r → First p (x ∷ l) w (x ∷ r)
+  pub data FirstThat (p : A → Bool) : List A → A → List A → Type 0 where
+    first : {w : A} {l : List A} → p w ≡ true → FirstThat p (w ∷ l) w l
+    later : {x w : A} {l r : List A} → p x ≡ false → FirstThat p l w r → FirstThat p (x ∷ l) w (x ∷ r)
 
-  pub first-passes : {p : A → Bool} {l r : List A} {w : A} → First p l w r → p w ≡ true
+  pub first-passes : {p : A → Bool} {l r : List A} {w : A} → FirstThat p l w r → p w ≡ true
   first-passes (first e) = e
   first-passes (later e f) = first-passes f
 
-  pub first-out : {p : A → Bool} {l r : List A} {w : A} → First p l w r → Out l w r
+  pub first-out : {p : A → Bool} {l r : List A} {w : A} → FirstThat p l w r → Out l w r
   first-out (first e) = here
   first-out (later e f) = there (first-out f)
 
   -- what passes a narrower test q: w is their head ..
-  pub head-of : {p : A → Bool} {l r : List A} {w : A} (q : A → Bool) → ((x : A) → p x ≡ false → q x ≡ false) → q w ≡ true → First p l w r → keep q l ≡ w ∷ keep q r
+  pub head-of : {p : A → Bool} {l r : List A} {w : A} (q : A → Bool) → ((x : A) → p x ≡ false → q x ≡ false) → q w ≡ true → FirstThat p l w r → keep q l ≡ w ∷ keep q r
   head-of q n e (first {w} {l} h) = keep-yes q w l e
   head-of {w} q n e (later {x} {l = l} {r = r} h f) = keep-no q x l (n x h) ∙ head-of q n e f ∙ ap (λ y. w ∷ y) (sym (keep-no q x r (n x h)))
 
   -- .. and what passes a test that w does not is as it was
-  pub others : {p : A → Bool} {l r : List A} {w : A} (q : A → Bool) → q w ≡ false → First p l w r → keep q l ≡ keep q r
+  pub others : {p : A → Bool} {l r : List A} {w : A} (q : A → Bool) → q w ≡ false → FirstThat p l w r → keep q l ≡ keep q r
   others q e (first {w} {l} h) = keep-no q w l e
   others {w} q e (later {x} {l = l} {r = r} h f) = bool-cases (q x)
       (λ y. keep-yes q x l y ∙ ap (λ z. x ∷ z) (others q e f) ∙ sym (keep-yes q x r y))
@@ -76,20 +76,12 @@ module _ {A : Type 0} where
   place q (x ∷ l) = cond (q x) 0 (suc (place q l))
 
   pub place-first : (p : A → Bool) (l : List A) (z : A) → place p l < length l
-      → First p l (getD l (place p l) z) (take (place p l) l ++ drop (suc (place p l)) l)
+      → FirstThat p l (getD l (place p l) z) (take (place p l) l ++ drop (suc (place p l)) l)
   unfolding place
   place-first p [] z h = absurd (not-suc-le-zero h)
   place-first p (x ∷ l) z h = bool-cases (p x)
       (λ e. rw e (first e))
       (λ e. rw e (later e (place-first p l z (le-of-suc-le-suc (rw e at h)))))
-
-  -- nobody passes
-  pub place-none : (p : A → Bool) (l : List A) → length l ≤ place p l → keep p l ≡ []
-  unfolding place
-  place-none p [] h = keep-nil p
-  place-none p (x ∷ l) h = bool-cases (p x)
-      (λ e. absurd (not-suc-le-zero (rw e at h)))
-      (λ e. keep-no p x l e ∙ place-none p l (le-of-suc-le-suc (rw e at h)))
 
   pub place-some : (p : A → Bool) (l : List A) → 1 ≤ length (keep p l) → place p l < length l
   unfolding place keep

@@ -16,12 +16,12 @@ pub record Ran (S : Type 0) : Type 0 where
   pub state : S
 
 module _ {S : Type 0} where
-  abbrev pub taken : S → After S
-  taken x = record { answer = 0; state = x }
+  abbrev pub takenTo : S → After S
+  takenTo x = record { answer = 0; state = x }
 
   -- "A refused call alters no field": x is what it was given
-  abbrev pub refused : ℕ → S → After S
-  refused number x = record { answer = number; state = x }
+  abbrev pub refusedBy : ℕ → S → After S
+  refusedBy number x = record { answer = number; state = x }
 
   -- a call that answers r, on x: what it leaves where that is 0
   abbrev pub answering : ℕ → S → S → After S
@@ -33,19 +33,19 @@ module _ {S : Type 0} where
 
   -- turns 0 to n - 1, up to the first that is refused
   unfoldable pub loop : ℕ → (ℕ → S → After S) → S → After S
-  loop zero g x = taken x
+  loop zero g x = takenTo x
   loop (suc n) g x = then (loop n g x) (g n)
 
   -- one turn more, counted if it is taken
-  abbrev pub counted : ℕ → After S → Ran S
-  counted done a = record { done = cond (eqb (a .answer) 0) (suc done) done; answer = a .answer; state = a .state }
+  abbrev pub countedTurn : ℕ → After S → Ran S
+  countedTurn done a = record { done = cond (eqb (a .answer) 0) (suc done) done; answer = a .answer; state = a .state }
 
   -- turns 0 to n - 1, up to the first that is refused or before which `rest` holds
   unfoldable pub runs : (S → Bool) → ℕ → (ℕ → S → After S) → S → Ran S
   runs rest zero g x = record { done = 0; answer = 0; state = x }
   runs rest (suc n) g x =
       let r = runs rest n g x in
-      cond (eqb (r .answer) 0 && not (rest (r .state))) (counted (r .done) (g n (r .state))) r
+      cond (eqb (r .answer) 0 && not (rest (r .state))) (countedTurn (r .done) (g n (r .state))) r
 
   -- Turn k tells the list `t k x` of what it does from state x (for example, the steps that it takes).
 

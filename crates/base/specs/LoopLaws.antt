@@ -10,7 +10,7 @@ use mathlib.Core.List.{List, [], _++_}
 use lib.Dec.{eqb}
 use Rattle.base.specs.Cond.{eqb-cases, eqb-diff, by-eq}
 use Rattle.base.specs.Search.{lt-suc-cases}
-use Rattle.base.specs.Loop.{After, Ran, taken, then, loop, counted, runs, loopTrace, runsTrace}
+use Rattle.base.specs.Loop.{After, Ran, takenTo, then, loop, countedTurn, runs, loopTrace, runsTrace}
 
 -- both answers of a test, in a goal P
 pub by-test {κ} : (b : Bool) (P : Bool → Type κ) → P true → P false → P b
@@ -40,20 +40,20 @@ module _ {S : Type 0} where
   unfolding loop
   loop-suc n g x = refl
 
-  pub loop-zero : (g : ℕ → S → After S) (x : S) → loop 0 g x ≡ taken x
+  pub loop-zero : (g : ℕ → S → After S) (x : S) → loop 0 g x ≡ takenTo x
   unfolding loop
   loop-zero g x = refl
 
   -- For code: k turns are done and left y; z is the turn at k.
-  module _ (g : ℕ → S → After S) (k : ℕ) (x y : S) (z : After S) (d : loop k g x ≡ taken y) (e : z ≡ g k y) where
+  module _ (g : ℕ → S → After S) (k : ℕ) (x y : S) (z : After S) (d : loop k g x ≡ takenTo y) (e : z ≡ g k y) where
     next : then (loop k g x) (g k) ≡ z
-    next = ap (λ a. then a (g k)) d ∙ then-on (taken y) (g k) refl ∙ sym e
+    next = ap (λ a. then a (g k)) d ∙ then-on (takenTo y) (g k) refl ∙ sym e
 
     -- it is taken
-    pub on : z .answer ≡ 0 → loop (k + 1) g x ≡ taken (z .state)
+    pub on : z .answer ≡ 0 → loop (k + 1) g x ≡ takenTo (z .state)
     on h = ap (λ n. loop n g x) (add-one k) ∙ loop-suc k g x ∙ next ∙ is z h
       where
-        is : (a : After S) → a .answer ≡ 0 → a ≡ taken (a .state)
+        is : (a : After S) → a .answer ≡ 0 → a ≡ takenTo (a .state)
         is a q = ap (λ r. record { answer = r; state = a .state }) q
 
     -- it is refused
@@ -64,7 +64,7 @@ module _ {S : Type 0} where
         (λ lt. ap (λ a. then a (g n)) (off n lt h) ∙ then-off z (g n) h)
 
   -- no turn is left
-  pub over : (g : ℕ → S → After S) (n k : ℕ) (x y : S) → loop k g x ≡ taken y → n ≤ k → k ≤ n → loop n g x ≡ taken y
+  over : (g : ℕ → S → After S) (n k : ℕ) (x y : S) → loop k g x ≡ takenTo y → n ≤ k → k ≤ n → loop n g x ≡ takenTo y
   over g n k x y d l r = ap (λ i. loop i g x) (omega arith) ∙ d
 
   -- what every turn keeps, refused or not
@@ -104,7 +104,7 @@ module _ {S : Type 0} where
         let r = runs rest n g x in
         let y = r .state in
         let i = runs-tell rest n x (λ k z l. turn k z (omega arith)) in
-        by-test (eqb (r .answer) 0 && not (rest y)) (λ b. R x (runsTrace rest n g t x ++ cond b (t n y) []) (cond b (counted (r .done) (g n y)) r .state))
+        by-test (eqb (r .answer) 0 && not (rest y)) (λ b. R x (runsTrace rest n g t x ++ cond b (t n y) []) (cond b (countedTurn (r .done) (g n y)) r .state))
         (more x y (g n y .state) (runsTrace rest n g t x) (t n y) i (turn n y (omega arith)))
         (more x y y (runsTrace rest n g t x) [] i (none y))
 
@@ -116,7 +116,7 @@ module _ {S : Type 0} where
   runs-keep P rest (suc n) g x h s =
       let r = runs rest n g x in
       let i = runs-keep P rest n g x h (λ k y l. s k y (omega arith)) in
-      by-test (eqb (r .answer) 0 && not (rest (r .state))) (λ b. P (cond b (counted (r .done) (g n (r .state))) r .state))
+      by-test (eqb (r .answer) 0 && not (rest (r .state))) (λ b. P (cond b (countedTurn (r .done) (g n (r .state))) r .state))
       (s n (r .state) (omega arith) i) i
 
   -- an answer that no turn gives is not given by the run: A holds of 0 and of what the turns answer
@@ -127,7 +127,7 @@ module _ {S : Type 0} where
   runs-answer P A rest (suc n) g x h z s =
       let r = runs rest n g x in
       let p = runs-keep P rest n g x h (λ k y l i. s k y (omega arith) i .0) in
-      by-test (eqb (r .answer) 0 && not (rest (r .state))) (λ b. A (cond b (counted (r .done) (g n (r .state))) r .answer))
+      by-test (eqb (r .answer) 0 && not (rest (r .state))) (λ b. A (cond b (countedTurn (r .done) (g n (r .state))) r .answer))
       (s n (r .state) (omega arith) p .1)
       (runs-answer P A rest n g x h z (λ k y l. s k y (omega arith)))
 
@@ -137,7 +137,7 @@ went k y = record { done = k; answer = 0; state = y }
 
 module _ {S : Type 0} (rest : S → Bool) (g : ℕ → S → After S) where
   pub runs-suc : (n : ℕ) (x : S) → runs rest (suc n) g x
-      ≡ cond (eqb (runs rest n g x .answer) 0 && not (rest (runs rest n g x .state))) (counted (runs rest n g x .done) (g n (runs rest n g x .state))) (runs rest n g x)
+      ≡ cond (eqb (runs rest n g x .answer) 0 && not (rest (runs rest n g x .state))) (countedTurn (runs rest n g x .done) (g n (runs rest n g x .state))) (runs rest n g x)
   unfolding runs
   runs-suc n x = refl
 
@@ -150,8 +150,8 @@ module _ {S : Type 0} (rest : S → Bool) (g : ℕ → S → After S) where
         (λ f. let i = rests n (omega arith) h in runs-suc n x ∙ rw (i, h) refl)
 
     module _ (z : After S) (e : z ≡ g k y) (more : rest y ≡ false) where
-      turned : runs rest (suc k) g x ≡ counted k z
-      turned = runs-suc k x ∙ rw (d, more) (ap (counted k) (sym e))
+      turned : runs rest (suc k) g x ≡ countedTurn k z
+      turned = runs-suc k x ∙ rw (d, more) (ap (countedTurn k) (sym e))
 
       -- turn z is taken
       pub goes : z .answer ≡ 0 → runs rest (k + 1) g x ≡ went (k + 1) (z .state)

@@ -45,10 +45,6 @@ pub upto-out : (k : ℕ) (f g : ℕ → ℕ) (j : ℕ) → k ≤ j → upto k f 
 unfolding upto
 upto-out k f g j l = rw (le-ltb j k l)
 
-pub upto-same : (l : ℕ) (f g z : ℕ → ℕ) → ((k : ℕ) → k < l → f k ≡ g k) → (k : ℕ) → upto l f z k ≡ upto l g z k
-unfolding upto
-upto-same l f g z h k = ltb-cases k l (λ b. cond b (f k) (z k) ≡ cond b (g k) (z k)) (λ m. h k m) (λ m. refl)
-
 -- A LOOP THAT FILLS: its start, a turn, its end
 module _ (n : ℕ) (f g : ℕ → ℕ) where
   pub fill-start : (s : List ℕ) → length s ≡ n → ((k : ℕ) → k < n → getD s k 0 ≡ g k) → s ≡ tabulate n (upto 0 f g)

@@ -44,17 +44,17 @@ every-of-none p zero l = refl
 every-of-none p (suc v) l = absurd (omega arith)
 
 -- the answer of a decision
-unfoldable pub decided : {A : Type 0} → Dec A → Bool
-decided (yes a) = true
-decided (no n) = false
+unfoldable pub decides : {A : Type 0} → Dec A → Bool
+decides (yes a) = true
+decides (no n) = false
 
-pub decided-yes : {A : Type 0} (d : Dec A) → decided d ≡ true → A
-unfolding decided
+pub decided-yes : {A : Type 0} (d : Dec A) → decides d ≡ true → A
+unfolding decides
 decided-yes (yes a) e = a
 decided-yes (no n) e = absurd (true≢false (sym e))
 
-pub yes-decided : {A : Type 0} (d : Dec A) → A → decided d ≡ true
-unfolding decided
+pub yes-decided : {A : Type 0} (d : Dec A) → A → decides d ≡ true
+unfolding decides
 yes-decided (yes a) x = refl
 yes-decided (no n) x = absurd (n x)
 

@@ -12,16 +12,16 @@ use Rattle.node.specs.Work.{BRANCH, REJECTED}
 use Rattle.field.specs.State.{State, nodeAt, markAt}
 use Rattle.field_calls.specs.Demand.{TreeLink, BothSay, Core, Agreed}
 use Rattle.field_roundlaws.specs.Awake.{Awake}
-use Rattle.protocol.specs.Network.{Ends}
+use Rattle.protocol.specs.Network.{Edge}
 use Rattle.protocol_stuck.specs.Parts.{SamePart, PartCore, PartFinished}
 use Rattle.protocol_bridge.specs.Fin.{st-is, halt-is}
 use Rattle.demand_view.specs.Net.{net}
-use Rattle.demand.specs.Good.{Good, node-shown, mark-is}
+use Rattle.demand.specs.Good.{Good, node-shown, good-mark}
 use Rattle.demand.specs.Rest.{at-rest}
 
 module _ (p : Plan) (a : Accepted p) (s : State) (g : Good p a s) where
   mark-of : (v k : ℕ) → g.at.mark v k ≡ markAt p s v k
-  mark-of v k = ap (λ f. f k) (mark-is p a s g v)
+  mark-of v k = ap (λ f. f k) (good-mark p a s g v)
 
   halt-of : (v : ℕ) → v < modulesOf p → g.at.halt v ≡ nodeAt s v .halted
   halt-of v l = halt-is (node-shown p a s g v l)
@@ -45,7 +45,7 @@ module _ (p : Plan) (a : Accepted p) (s : State) (g : Good p a s) where
     low-in : (k : ℕ) → k < linksOf p → SamePart (net p a) w (lowerOf p k)
     low-in k l = all (lowerOf p k) (omega (arith, a .each k l .ordered, a .each k l .inside))
 
-    link-ends : (k : ℕ) → k < linksOf p → Ends (net p a) k (lowerOf p k) (higherOf p k)
+    link-ends : (k : ℕ) → k < linksOf p → Edge (net p a) k (lowerOf p k) (higherOf p k)
     link-ends k l = up l refl refl
 
     says : (c k : ℕ) → (g.at.mark (lowerOf p k) k ≡ c) × (g.at.mark (higherOf p k) k ≡ c) → BothSay p s c k

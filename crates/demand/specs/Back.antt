@@ -7,17 +7,17 @@ use Rattle.format_message.specs.Msg.{Msg, connect, initiate, test, accept, reje
 use Rattle.node.specs.declared.Node.{Node}
 use Rattle.node.specs.Work.{Own, Work, BACK, start}
 use Rattle.node.specs.Rules.{respond}
-use Rattle.field_roundlaws.specs.Steady.{Waits, ends-awake}
-use Rattle.protocol.specs.State.{State}
+use Rattle.field_roundlaws.specs.Steady.{PutsBack, ends-awake}
+use Rattle.protocol.specs.State.{ProtocolState}
 use Rattle.protocol.specs.Step.{Blocked}
 use Rattle.protocol_bridge.specs.Real.{real}
 use Rattle.protocol_bridge.specs.Fin.{Shows, st-is, lev-is, ib-is}
 
-module _ (o : Own) (limit : ℕ) (s : State) {n : Node} {v : ℕ} (shows : Shows (real s) v n) (j : ℕ) (up : s.st v ≢ 0) where
+module _ (o : Own) (limit : ℕ) (s : ProtocolState) {n : Node} {v : ℕ} (shows : Shows (real s) v n) (j : ℕ) (up : s.st v ≢ 0) where
   abbrev w : Work
   w = start n (s.mark v)
 
-  blocks : (m : Msg) → Waits j w m → Blocked s v j m
+  blocks : (m : Msg) → PutsBack j w m → Blocked s v j m
   blocks (connect l) h = rw (lev-is shows) h
   blocks (initiate l f x) h = h
   blocks (test l f) h = rw (lev-is shows) h

@@ -20,16 +20,16 @@ use Rattle.field_laws.specs.Chan.{isUp, msgs, chan, up-parts, air-parts}
 use Rattle.field_laws.specs.Places.{link-over, over-from}
 use Rattle.field_laws.specs.Fits.{word-link}
 use Rattle.field_laws.specs.Keeps.{Sound}
-use Rattle.field_roundlaws.specs.Progress.{Blocked}
+use Rattle.field_roundlaws.specs.Progress.{BlockedWord}
 use Rattle.graph.specs.Ways.{flip}
 use Rattle.plan.specs.Links.{Plan}
-use Rattle.protocol.specs.Network.{Ends, end-lt}
+use Rattle.protocol.specs.Network.{Edge, end-lt}
 use Rattle.protocol.specs.Chan.{In, first, in-nil, in-cons, in-app, in-right}
-use Rattle.protocol.specs.Step as protocol
+use Rattle.protocol.specs.Step.{Blocked}
 use Rattle.protocol_stuck.specs.Parts.{AllFinished, stuck-finished, rest-finished}
 use Rattle.protocol_bridge.specs.Real.{Real, ownP}
 use Rattle.protocol_bridge.specs.Fin.{st-is}
-use Rattle.demand_view.specs.Net.{net, ends-own, ends-of, dest-is}
+use Rattle.demand_view.specs.Net.{net, net-ends-own, ends-of, dest-is}
 use Rattle.demand_view.specs.Chans.{chans-own}
 use Rattle.demand_view.specs.Start.{chans-none}
 use Rattle.demand.specs.Good.{Good, node-shown, rule-is}
@@ -69,14 +69,14 @@ first-in x l = bool-cases (handedIn x)
 
 module _ (p : Plan) (a : Accepted p) (s : State) (g : Good p a s) where
   -- the protocol's channel from u over its own edge k
-  chan-is : {k u v : ℕ} → Ends (net p a) k u v → g.at.ch u k ≡ chan (endOf p u k) (s .words)
-  chan-is {k} {u} e = ap (λ (r : Real). r.ch u k) (g.is) ∙ chans-own p (s .words) u k (ends-own p a e)
+  chan-is : {k u v : ℕ} → Edge (net p a) k u v → g.at.ch u k ≡ chan (endOf p u k) (s .words)
+  chan-is {k} {u} e = ap (λ (r : Real). r.ch u k) (g.is) ∙ chans-own p (s .words) u k (net-ends-own p a e)
 
   -- the protocol's channels are empty: no word
-  none-waits : All (λ x. wordFits p x ≡ true) (s .words) → ((k u v : ℕ) → Ends (net p a) k u v → g.at.ch u k ≡ []) → s .words ≡ []
+  none-waits : All (λ x. wordFits p x ≡ true) (s .words) → ((k u v : ℕ) → Edge (net p a) k u v → g.at.ch u k ≡ []) → s .words ≡ []
   none-waits i f = go (s .words) i (λ k u v e. sym (chan-is e) ∙ f k u v e)
     where
-      go : (l : List ℕ) → All (λ x. wordFits p x ≡ true) l → ((k u v : ℕ) → Ends (net p a) k u v → chan (endOf p u k) l ≡ []) → l ≡ []
+      go : (l : List ℕ) → All (λ x. wordFits p x ≡ true) l → ((k u v : ℕ) → Edge (net p a) k u v → chan (endOf p u k) l ≡ []) → l ≡ []
       go [] h n = refl
       go (x ∷ l) (con h t) n =
           let d = linkIn x in
@@ -85,7 +85,7 @@ module _ (p : Plan) (a : Accepted p) (s : State) (g : Good p a s) where
           absurd (in-nil (subst (In (msgIn x)) e (first-in x l)))
 
   -- a word that its node would put back is a message that is blocked
-  blocked : {k u v : ℕ} (e : Ends (net p a) k u v) (x : ℕ) → linkIn x ≡ endOf p u k → Blocked p s x → (g.at.st v ≢ 0) × protocol.Blocked (g.at) v k (msgIn x)
+  blocked : {k u v : ℕ} (e : Edge (net p a) k u v) (x : ℕ) → linkIn x ≡ endOf p u k → BlockedWord p s x → (g.at.st v ≢ 0) × Blocked (g.at) v k (msgIn x)
   blocked {k} {u} {v} e x q b =
       let l = end-lt (net p a) (flip e) in
       let dv : dest p (linkIn x) ≡ v = ap (dest p) q ∙ dest-is p a e in
@@ -98,14 +98,14 @@ module _ (p : Plan) (a : Accepted p) (s : State) (g : Good p a s) where
       )
 
   -- NOTHING WAITS where every waiting message is blocked
-  pub stuck-none : Sound p s → All (Blocked p s) (s .words) → s .words ≡ []
+  pub stuck-none : Sound p s → All (BlockedWord p s) (s .words) → s .words ≡ []
   stuck-none i h = none-waits (i .fits .words) (stuck-finished (g.reach.inv) (record { idle = g.idle; back = back }) .silent)
     where
-      back : (k u v : ℕ) (m : Msg) → Ends (net p a) k u v → In m (g.at.ch u k) → (g.at.st v ≢ 0) × protocol.Blocked (g.at) v k m
+      back : (k u v : ℕ) (m : Msg) → Edge (net p a) k u v → In m (g.at.ch u k) → (g.at.st v ≢ 0) × Blocked (g.at) v k m
       back k u v m e n =
           let x = word-of (endOf p u k) h (subst (In m) (chan-is e) n) in
-          subst (λ y. (g.at.st v ≢ 0) × protocol.Blocked (g.at) v k y) (x .msg) (blocked e (x .word) (x .link) (x .holds))
+          subst (λ y. (g.at.st v ≢ 0) × Blocked (g.at) v k y) (x .msg) (blocked e (x .word) (x .link) (x .holds))
 
   -- AT REST the protocol is finished
   pub at-rest : s .words ≡ [] → AllFinished (net p a) (g.at)
-  at-rest z = rest-finished (g.reach.inv) (g.idle) (λ k u v e. chan-is e ∙ ap (chan (endOf p u k)) z ∙ sym (chans-own p [] u k (ends-own p a e)) ∙ chans-none p a u k)
+  at-rest z = rest-finished (g.reach.inv) (g.idle) (λ k u v e. chan-is e ∙ ap (chan (endOf p u k)) z ∙ sym (chans-own p [] u k (net-ends-own p a e)) ∙ chans-none p a u k)

@@ -9,9 +9,9 @@ use lib.ListN.{length}
 use lib.Dec.{leb}
 use borrow.Author.Tests.{leb-false, eq-eqb, ne-eqb, le-ltb}
 use Rattle.base.specs.Cond.{bool-cases, eqb-cases, by-eq, eqb-diff}
-use Rattle.base.specs.Loop.{After, taken, refused}
+use Rattle.base.specs.Loop.{After, takenTo, refusedBy}
 use Rattle.base.specs.Pool.{All-here}
-use Rattle.base.specs.Keep.{First, first-out, first-passes, place, place-first}
+use Rattle.base.specs.Keep.{FirstThat, first-out, first-passes, place, place-first}
 use Rattle.format_message.specs.Msg.{Msg}
 use Rattle.format_word.specs.Word.{linkIn, handOver}
 use Rattle.plan.specs.Accepted.{Accepted}
@@ -24,20 +24,19 @@ use Rattle.field.specs.Step.{inAir, inQueue, carryOut, wakeWork, wake, hand, se
 use Rattle.field_laws.specs.Chan.{queue-parts}
 use Rattle.field_laws.specs.Lists.{WorkOk}
 use Rattle.field_laws.specs.Fits.{word-link, word-shaped}
-use Rattle.field_laws.specs.Cases.{Handed}
+use Rattle.field_laws.specs.Cases.{HandedOver}
 use Rattle.field_laws.specs.Keeps.{Sound, wake-ok, serve-ok}
-use Rattle.protocol.specs.Network.{Ends}
+use Rattle.protocol.specs.Network.{Edge}
 use Rattle.protocol_bridge.specs.Real.{Real, real}
 use Rattle.protocol_bridge.specs.Place.{toPop}
 use Rattle.protocol_bridge.specs.Fin.{st-is}
 use Rattle.protocol_bridge.specs.Bridge.{response}
-use Rattle.protocol_bridge.specs.Reached as R
-use Rattle.protocol_bridge.specs.Reached.{after-fits, wake-after, respond-after}
+use Rattle.protocol_bridge.specs.Reached.{after-fits, wake-after, respond-after, AfterResponse}
 use Rattle.demand_view.specs.Net.{net, ends-of}
 use Rattle.demand_view.specs.View.{view, tables, nodes, chans}
-use Rattle.demand_view.specs.Chans.{chans-hand, chans-head, ahead, behind}
+use Rattle.demand_view.specs.Chans.{chans-hand, chans-head, handedPart, unhandedPart}
 use Rattle.demand_view.specs.Placed.{view-woken, view-taken, view-back, rest-cut}
-use Rattle.demand.specs.Good.{Good, node-shown, rule-is, bare, good-after}
+use Rattle.demand.specs.Good.{Good, node-shown, rule-is, no-mark, good-after}
 
 -- what a step has to leave
 pub record Fine (p : Plan) (a : Accepted p) (r : After State) : Type 0 where
@@ -47,10 +46,10 @@ pub record Fine (p : Plan) (a : Accepted p) (r : After State) : Type 0 where
 
 module _ (p : Plan) (a : Accepted p) (s : State) (i : Sound p s) (g : Good p a s) where
   -- refused by another number
-  other : (r : ℕ) → 41 ≤ r → Fine p a (refused r s)
+  other : (r : ℕ) → 41 ≤ r → Fine p a (refusedBy r s)
   other r l = record { good = g; no32 = λ e. omega arith; no33 = λ e. omega arith }
 
-  done : (s′ : State) → Good p a s′ → Fine p a (taken s′)
+  done : (s′ : State) → Good p a s′ → Fine p a (takenTo s′)
   done s′ h = record { good = h; no32 = λ e. omega arith; no33 = λ e. omega arith }
 
   -- a response that is not refused, for whose messages there is room
@@ -64,24 +63,24 @@ module _ (p : Plan) (a : Accepted p) (s : State) (i : Sound p s) (g : Good p a s
   woken : (v : ℕ) → v < modulesOf p → nodeAt s v .status ≡ ASLEEP → Fine p a (carryOut p v (wakeWork p v s) s (s .words) [])
   woken v l z =
       let w = wakeWork p v s in
-      let f : R.After (net p a) (view p s) v 0 (s .sent) w =
-      subst (λ r. R.After (net p a) r v 0 (s .sent) w) (g.is)
-      (subst (R.After (net p a) (real g.at) v 0 (s .sent)) (rule-is p a s g v (λ o m. wakes o (nodeAt s v) m))
+      let f : AfterResponse (net p a) (view p s) v 0 (s .sent) w =
+      subst (λ r. AfterResponse (net p a) r v 0 (s .sent) w) (g.is)
+      (subst (AfterResponse (net p a) (real g.at) v 0 (s .sent)) (rule-is p a s g v (λ o m. wakes o (nodeAt s v) m))
       (wake-after (g.reach) (g.idle) (node-shown p a s g v l) l (st-is (node-shown p a s g v l) ∙ z))) in
       carried-out v w (s .words) [] (λ e. omega (arith, f.answer)) (after-fits f)
-      (good-after p a s g f (placed p v w s (s .words) []) refl (view-woken p a v w (wake-ok p a s i v l) (bare p a s g f) l s (i .sized)))
+      (good-after p a s g f (placed p v w s (s .words) []) refl (view-woken p a v w (wake-ok p a s i v l) (no-mark p a s g f) l s (i .sized)))
 
   wake-fine : (v : ℕ) → Fine p a (wake p v s)
   unfolding wake
   wake-fine v = bool-cases (leb (modulesOf p) v)
       (λ b. rw b (other 41 (omega arith)))
-      (λ b. rw b (eqb-cases (nodeAt s v .status) ASLEEP (λ t. Fine p a (cond (not t) (refused 43 s) (carryOut p v (wakeWork p v s) s (s .words) [])))
+      (λ b. rw b (eqb-cases (nodeAt s v .status) ASLEEP (λ t. Fine p a (cond (not t) (refusedBy 43 s) (carryOut p v (wakeWork p v s) s (s .words) [])))
       (λ e. woken v (leb-false _ _ b) e)
       (λ n. other 43 (omega arith))))
 
   -- ---- hand over: the same state of the protocol
 
-  handed : (d : ℕ) (s′ : State) → Handed p d s s′ → Good p a s′
+  handed : (d : ℕ) (s′ : State) → HandedOver p d s s′ → Good p a s′
   handed d s′ h =
       let x = h .word in
       let e : chans p (h .rest ++ (handOver x ∷ [])) ≡ chans p (s .words) = chans-hand p d x (s .words) (h .rest) (h .first) (word-shaped p x (All-here (first-out (h .first)) (i .fits .words))) in
@@ -100,7 +99,7 @@ module _ (p : Plan) (a : Accepted p) (s : State) (i : Sound p s) (g : Good p a s
   -- ---- serve
 
   -- x, the first word of v's queue, is served; r are the other words
-  module _ (v : ℕ) (l : v < modulesOf p) (x : ℕ) (r : List ℕ) (o : First (inQueue p v) (s .words) x r) where
+  module _ (v : ℕ) (l : v < modulesOf p) (x : ℕ) (r : List ℕ) (o : FirstThat (inQueue p v) (s .words) x r) where
     abbrev u : ℕ
     u = from p (linkIn x)
 
@@ -113,8 +112,8 @@ module _ (p : Plan) (a : Accepted p) (s : State) (i : Sound p s) (g : Good p a s
     fits : linkIn x < 2 * linksOf p
     fits = word-link p x (All-here (first-out o) (i .fits .words))
 
-    ends : Ends (net p a) k u v
-    ends = subst (λ y. Ends (net p a) k u y) (queue-parts p v x (first-passes o) .1) (ends-of p a (linkIn x) fits)
+    ends : Edge (net p a) k u v
+    ends = subst (λ y. Edge (net p a) k u y) (queue-parts p v x (first-passes o) .1) (ends-of p a (linkIn x) fits)
 
     head : g.at.ch u k ≡ msgIn x ∷ chans p r u k
     head = ap (λ (t : Real). t.ch u k) (g.is) ∙ chans-head p a v x (s .words) r o fits
@@ -126,9 +125,9 @@ module _ (p : Plan) (a : Accepted p) (s : State) (i : Sound p s) (g : Good p a s
     same = rule-is p a s g v (λ y m. respond y (limitOf p) (msgIn x) k (nodeAt s v) m)
 
     -- the bridge's steps, told of the field
-    told : (c : ℕ) (t : List Msg) → R.After (net p a) (toPop u k t (real g.at)) v c (s .sent) (response (net p a) (g.at) (nodeAt s v) v k (msgIn x))
-        → R.After (net p a) (toPop u k t (view p s)) v c (s .sent) w
-    told c t f = subst (λ y. R.After (net p a) (toPop u k t y) v c (s .sent) w) (g.is) (subst (R.After (net p a) (toPop u k t (real g.at)) v c (s .sent)) same f)
+    told : (c : ℕ) (t : List Msg) → AfterResponse (net p a) (toPop u k t (real g.at)) v c (s .sent) (response (net p a) (g.at) (nodeAt s v) v k (msgIn x))
+        → AfterResponse (net p a) (toPop u k t (view p s)) v c (s .sent) w
+    told c t f = subst (λ y. AfterResponse (net p a) (toPop u k t y) v c (s .sent) w) (g.is) (subst (AfterResponse (net p a) (toPop u k t (real g.at)) v c (s .sent)) same f)
 
     back-none : w .answer ≢ BACK → backOf w x ≡ []
     unfolding backOf
@@ -138,23 +137,23 @@ module _ (p : Plan) (a : Accepted p) (s : State) (i : Sound p s) (g : Good p a s
     unfolding backOf
     back-one e = rw (eq-eqb (w .answer) BACK e) refl
 
-    consumed : R.After (net p a) (toPop u k (chans p r u k) (view p s)) v 0 (s .sent) w → Fine p a (carryOut p v w s r (backOf w x))
+    consumed : AfterResponse (net p a) (toPop u k (chans p r u k) (view p s)) v 0 (s .sent) w → Fine p a (carryOut p v w s r (backOf w x))
     consumed f =
         subst (λ b. Fine p a (carryOut p v w s r b)) (sym (back-none (λ e. omega (arith, f.answer))))
         (carried-out v w r [] (λ e. omega (arith, f.answer)) (after-fits f)
-        (good-after p a s g f (placed p v w s r []) refl (view-taken p a v w ok (bare p a s g f) l s (i .sized) x r o fits)))
+        (good-after p a s g f (placed p v w s r []) refl (view-taken p a v w ok (no-mark p a s g f) l s (i .sized) x r o fits)))
 
-    put-back : R.After (net p a) (toPop u k (ahead p v x r (w .sends) ++ (msgIn x ∷ behind p v x r (w .sends))) (view p s)) v 1 (s .sent) w
+    put-back : AfterResponse (net p a) (toPop u k (handedPart p v x r (w .sends) ++ (msgIn x ∷ unhandedPart p v x r (w .sends))) (view p s)) v 1 (s .sent) w
         → Fine p a (carryOut p v w s r (backOf w x))
     put-back f =
         subst (λ b. Fine p a (carryOut p v w s r b)) (sym (back-one (f.answer)))
         (carried-out v w r (x ∷ []) (λ e. omega (arith, f.answer)) (after-fits f)
-        (good-after p a s g f (placed p v w s r (x ∷ [])) refl (view-back p a v w ok (bare p a s g f) l s (i .sized) x r o fits)))
+        (good-after p a s g f (placed p v w s r (x ∷ [])) refl (view-back p a v w ok (no-mark p a s g f) l s (i .sized) x r o fits)))
 
     served : Fine p a (carryOut p v w s r (backOf w x))
     served = ⊎-elim
         (λ f. consumed (told 0 (chans p r u k) f))
-        (λ t. put-back (told 1 _ (t .1 (ahead p v x r (w .sends)) (behind p v x r (w .sends)) (rest-cut p a v w ok x (s .words) r o fits))))
+        (λ t. put-back (told 1 _ (t .1 (handedPart p v x r (w .sends)) (unhandedPart p v x r (w .sends)) (rest-cut p a v w ok x (s .words) r o fits))))
         (respond-after (g.reach) (g.idle) (node-shown p a s g v l) ends head)
 
   serve-fine : (v : ℕ) → Fine p a (serve p v s)

@@ -6,7 +6,7 @@ use mathlib.Core.Bool.{true, false, cond, true≢false}
 use mathlib.Core.List.{List, [], _∷_, _++_, append-assoc, append-nil}
 use Rattle.base.specs.Cond.{bool-cases, upd2, upd2-elim}
 use Rattle.base.specs.Pool.{All, nil, con}
-use Rattle.base.specs.Keep.{First, first-passes}
+use Rattle.base.specs.Keep.{FirstThat, first-passes}
 use Rattle.format_message.specs.Msg.{Msg}
 use Rattle.format_word.specs.Word.{linkIn, shaped, handOver}
 use Rattle.plan.specs.Accepted.{Accepted}
@@ -75,7 +75,7 @@ module _ (p : Plan) where
         (λ b. chans-not (words ++ posted p v l) u k b ∙ sym (post-none (chans p words) o u k b ∙ chans-not words u k b))))
 
 -- LAW 2: a hand-over leaves the channels
-pub chans-hand : (p : Plan) (d x : ℕ) (s r : List ℕ) → First (inAir d) s x r → shaped x ≡ true → chans p (r ++ (handOver x ∷ [])) ≡ chans p s
+pub chans-hand : (p : Plan) (d x : ℕ) (s r : List ℕ) → FirstThat (inAir d) s x r → shaped x ≡ true → chans p (r ++ (handOver x ∷ [])) ≡ chans p s
 chans-hand p d x s r o h = chans-same p (r ++ (handOver x ∷ [])) s (hand-chan d x s r o h)
 
 -- ---- a service
@@ -87,13 +87,13 @@ overwrite f u k a b = fun-ext (λ w. fun-ext (λ j. upd2-elim (λ x. x ≡ upd2 
     (λ m. sym (upd2-elim (λ x. x ≡ f w j) f u k b w j (λ e q. ⊎-elim (λ m. absurd (m e)) (λ m. absurd (m q)) n) (λ m. refl))))))
 
 -- of the channel of word x, where r wait and v sends: the messages handed over, and those not
-abbrev pub ahead : Plan → ℕ → ℕ → List ℕ → List Send → List Msg
-ahead p v x r sends = ups (linkIn x) (r ++ posted p v sends)
+abbrev pub handedPart : Plan → ℕ → ℕ → List ℕ → List Send → List Msg
+handedPart p v x r sends = ups (linkIn x) (r ++ posted p v sends)
 
-abbrev pub behind : Plan → ℕ → ℕ → List ℕ → List Send → List Msg
-behind p v x r sends = downs (linkIn x) (r ++ posted p v sends)
+abbrev pub unhandedPart : Plan → ℕ → ℕ → List ℕ → List Send → List Msg
+unhandedPart p v x r sends = downs (linkIn x) (r ++ posted p v sends)
 
-module _ (p : Plan) (a : Accepted p) (v x : ℕ) (s r : List ℕ) (o : First (inQueue p v) s x r) (l : linkIn x < 2 * linksOf p) where
+module _ (p : Plan) (a : Accepted p) (v x : ℕ) (s r : List ℕ) (o : FirstThat (inQueue p v) s x r) (l : linkIn x < 2 * linksOf p) where
   abbrev d : ℕ
   d = linkIn x
 
@@ -133,13 +133,13 @@ module _ (p : Plan) (a : Accepted p) (v x : ℕ) (s r : List ℕ) (o : First (in
     abbrev t : List ℕ
     t = r ++ posted p v sends
 
-    pub split : chans p r u k ≡ ahead p v x r sends ++ behind p v x r sends
+    pub chans-split : chans p r u k ≡ handedPart p v x r sends ++ unhandedPart p v x r sends
     unfolding chan
-    split = at-d r ∙ sym (post-away p v d r h q sender)
+    chans-split = at-d r ∙ sym (post-away p v d r h q sender)
 
-    pub chans-back : chans p (t ++ (x ∷ [])) ≡ post (upd2 (chans p s) u k (ahead p v x r sends ++ (msgIn x ∷ behind p v x r sends))) v sends
+    pub chans-back : chans p (t ++ (x ∷ [])) ≡ post (upd2 (chans p s) u k (handedPart p v x r sends ++ (msgIn x ∷ unhandedPart p v x r sends))) v sends
     chans-back =
-        let c = ahead p v x r sends ++ (msgIn x ∷ behind p v x r sends) in
+        let c = handedPart p v x r sends ++ (msgIn x ∷ unhandedPart p v x r sends) in
         changed t (t ++ (x ∷ [])) c (back-own p v x s r o t) (λ e n. back-other p v x s r o e t n)
         ∙ ap (λ f. upd2 f u k c) (chans-post p v r h q)
         ∙ post-pop (chans p r) u v k c sends sender

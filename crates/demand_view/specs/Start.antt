@@ -7,7 +7,7 @@ use mathlib.Core.List.{List, []}
 use lib.ListN.{length, replicate, getD-replicate}
 use Rattle.base.specs.Cond.{ltb-cases, bool-cases}
 use Rattle.plan.specs.Accepted.{Accepted}
-use Rattle.node.specs.Work as node
+use Rattle.node.specs.Work.{setup}
 use Rattle.field.specs.Edges.{isOwn, endOf, marksIn}
 use Rattle.field.specs.State.{nodeIn}
 use Rattle.field.specs.Held.{stateOf, freshCells, fresh}
@@ -19,15 +19,15 @@ use Rattle.field_laws.specs.Chan.{chan}
 use Rattle.field_laws.specs.Places.{over-below}
 use Rattle.field_laws.specs.Laid.{waiting-zeros}
 use Rattle.field_laws.specs.After.{fresh-node}
-use Rattle.protocol.specs.State.{setup}
+use Rattle.protocol.specs.State.{setupState}
 use Rattle.protocol_bridge.specs.Real.{real}
 use Rattle.demand_view.specs.View.{nodes, chans, tables, view}
 use Rattle.demand_view.specs.Chans.{chans-own, chans-not}
 
 module _ (p : Plan) (a : Accepted p) where
-  nodes-fresh : nodes p (freshCells 192) ≡ (λ v. node.setup)
+  nodes-fresh : nodes p (freshCells 192) ≡ (λ v. setup)
   unfolding nodes
-  nodes-fresh = fun-ext (λ v. ltb-cases v (modulesOf p) (λ b. cond b (nodeIn (freshCells 192) v) node.setup ≡ node.setup)
+  nodes-fresh = fun-ext (λ v. ltb-cases v (modulesOf p) (λ b. cond b (nodeIn (freshCells 192) v) setup ≡ setup)
       (λ l. fresh-node v (omega (arith, a .modulesOk))) (λ l. refl))
 
   marks-fresh : marksIn p (replicate 1200 0) ≡ (λ v k. 0)
@@ -41,7 +41,7 @@ module _ (p : Plan) (a : Accepted p) where
   unfolding chan keep
   chans-none v k = bool-cases (isOwn p v k) (λ o. chans-own p [] v k o) (λ o. chans-not p [] v k o)
 
-  pub view-start : (lent : List ℕ) → view p (stateOf (record { field = fresh p; words = replicate (length lent) 0 })) ≡ real setup
+  pub view-start : (lent : List ℕ) → view p (stateOf (record { field = fresh p; words = replicate (length lent) 0 })) ≡ real setupState
   view-start lent =
       ap₂ (λ f m. tables f m (chans p (waitingIn (replicate (length lent) 0)))) nodes-fresh marks-fresh
-      ∙ ap (tables (λ v. node.setup) (λ v k. 0)) (ap (chans p) (waiting-zeros (length lent)) ∙ fun-ext (λ v. fun-ext (λ k. chans-none v k)))
+      ∙ ap (tables (λ v. setup) (λ v k. 0)) (ap (chans p) (waiting-zeros (length lent)) ∙ fun-ext (λ v. fun-ext (λ k. chans-none v k)))

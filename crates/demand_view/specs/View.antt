@@ -17,7 +17,7 @@ use Rattle.field.specs.Edges.{isOwn, endOf, marksIn}
 use Rattle.field.specs.State.{State, WIDTH, nodeIn, putNode, putMarks}
 use Rattle.field_laws.specs.Chan.{chan}
 use Rattle.field_laws.specs.Places.{node-same, node-other, mark-same, mark-other}
-use Rattle.protocol_bridge.specs.Real.{Real, post, place}
+use Rattle.protocol_bridge.specs.Real.{Real, post, placeIn}
 use Rattle.protocol_bridge.specs.Place.{upd-own, post-nil}
 use Rattle.protocol_bridge.specs.Fin.{Shows}
 
@@ -59,7 +59,7 @@ upd-map g f v a = fun-ext (λ u. upd-elim (λ x. g x ≡ upd (λ w. g (f w)) v (
 
 -- a response is placed in each of the three
 pub place-tables : (f : ℕ → Node) (m : ℕ → ℕ → ℕ) (c : ℕ → ℕ → List Msg) (v : ℕ) (w : Work)
-    → place (tables f m c) v w ≡ tables (upd f v (w .node)) (upd m v (w .mark)) (post c v (w .sends))
+    → placeIn (tables f m c) v w ≡ tables (upd f v (w .node)) (upd m v (w .mark)) (post c v (w .sends))
 place-tables f m c v w = rw (
   upd-map (λ (n : Node). n .status) f v (w .node),
   upd-map (λ (n : Node). n .level) f v (w .node),

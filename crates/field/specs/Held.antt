@@ -7,7 +7,7 @@ use mathlib.Core.List.{List, [], _++_}
 use lib.ListN.{length, replicate}
 use lib.Dec.{eqb, ltb}
 use Rattle.base.specs.Limits.{maxModules, maxEnds}
-use Rattle.base.specs.Loop.{After, taken, refused}
+use Rattle.base.specs.Loop.{After, takenTo, refusedBy}
 use Rattle.plan.specs.Refusal.{planRefusal}
 use Rattle.plan.specs.Links.{Plan, blank}
 use Rattle.node.specs.Work.{setup}
@@ -64,17 +64,17 @@ abbrev pub blankField : Field
 blankField = unmarked blank (replicate CELLS 0)
 
 abbrev pub notSetUp : ℕ → List ℕ → After Held
-notSetUp number lent = refused number (record { field = blankField; words = lent })
+notSetUp number lent = refusedBy number (record { field = blankField; words = lent })
 
 -- "Setup needs M words or more and zeroes all of them". "21 fewer words than M .. (.. after the plan's checks)"
 unfoldable pub setUp : Plan → List ℕ → After Held
 setUp p lent =
     cond (not (eqb (planRefusal p) 0)) (notSetUp (planRefusal p) lent)
     (cond (ltb (length lent) (ceilingOf p)) (notSetUp 21 lent)
-    (taken (record { field = fresh p; words = replicate (length lent) 0 })))
+    (takenTo (record { field = fresh p; words = replicate (length lent) 0 })))
 
 -- A step given alone: 31 "before all else", then 54, 41 to 45, 32, 33.
 unfoldable pub stepAlone : ℕ → ℕ → Held → After Held
 stepAlone kind number h =
-    cond (not (valid h)) (refused 31 h)
+    cond (not (valid h)) (refusedBy 31 h)
     (let a = step (h .field .plan) kind number (stateOf h) in record { answer = a .answer; state = heldOf h (a .state) })

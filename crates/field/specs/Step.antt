@@ -4,7 +4,7 @@ use mathlib.Core.Bool.{Bool, cond, not, _&&_}
 use mathlib.Core.List.{List, [], _∷_, _++_}
 use lib.ListN.{length, getD, take, drop}
 use lib.Dec.{eqb, ltb, leb}
-use Rattle.base.specs.Loop.{After, taken, refused}
+use Rattle.base.specs.Loop.{After, takenTo, refusedBy}
 pub use Rattle.base.specs.Keep.{place}
 use Rattle.format_word.specs.Word.{linkIn, handedIn, handOver}
 use Rattle.plan.specs.Links.{Plan, modulesOf, linksOf}
@@ -33,9 +33,9 @@ without i l = take i l ++ drop (suc i) l
 -- "32 ..; 33 sent would pass M": all sends of the response are counted
 unfoldable pub carryOut : Plan → ℕ → Work → State → List ℕ → List ℕ → After State
 carryOut p v w s words back =
-    cond (eqb (w .answer) REFUSED) (refused 32 s)
-    (cond (ltb (ceilingOf p) (s .sent + length (w .sends))) (refused 33 s)
-    (taken (placed p v w s words back)))
+    cond (eqb (w .answer) REFUSED) (refusedBy 32 s)
+    (cond (ltb (ceilingOf p) (s .sent + length (w .sends))) (refusedBy 33 s)
+    (takenTo (placed p v w s words back)))
 
 -- "41 module not below N; .. 43 waking an awake module"
 abbrev pub wakeWork : Plan → ℕ → State → Work
@@ -43,8 +43,8 @@ wakeWork p v s = wakes (ownOf p v) (nodeAt s v) (markAt p s v)
 
 unfoldable pub wake : Plan → ℕ → State → After State
 wake p v s =
-    cond (leb (modulesOf p) v) (refused 41 s)
-    (cond (not (eqb (nodeAt s v .status) ASLEEP)) (refused 43 s)
+    cond (leb (modulesOf p) v) (refusedBy 41 s)
+    (cond (not (eqb (nodeAt s v .status) ASLEEP)) (refusedBy 43 s)
     (carryOut p v (wakeWork p v s) s (s .words) []))
 
 -- "A hand-over takes the first word of its directed link with bit 40 clear, sets it and moves it to the end."
@@ -55,9 +55,9 @@ moved i s =
 -- "42 directed link not below 2 × L; .. 44 nothing to hand over"
 unfoldable pub hand : Plan → ℕ → State → After State
 hand p d s =
-    cond (leb (2 * linksOf p) d) (refused 42 s)
-    (cond (absent (inAir d) (s .words)) (refused 44 s)
-    (taken (moved (place (inAir d) (s .words)) s)))
+    cond (leb (2 * linksOf p) d) (refusedBy 42 s)
+    (cond (absent (inAir d) (s .words)) (refusedBy 44 s)
+    (takenTo (moved (place (inAir d) (s .words)) s)))
 
 -- "A service takes the first word with bit 40 set that leads to its module": word x at module v
 abbrev pub serveWork : Plan → ℕ → ℕ → State → Work
@@ -76,8 +76,8 @@ serveAt p v i s =
 -- "41 module not below N; .. 45 empty queue"
 unfoldable pub serve : Plan → ℕ → State → After State
 serve p v s =
-    cond (leb (modulesOf p) v) (refused 41 s)
-    (cond (absent (inQueue p v) (s .words)) (refused 45 s)
+    cond (leb (modulesOf p) v) (refusedBy 41 s)
+    (cond (absent (inQueue p v) (s .words)) (refusedBy 45 s)
     (serveAt p v (place (inQueue p v) (s .words)) s))
 
 -- "kind (1 wake, 2 hand over, 3 serve) and a number"; "54 a kind not 1 to 3"
@@ -85,4 +85,4 @@ unfoldable pub step : Plan → ℕ → ℕ → State → After State
 step p kind number s =
     cond (eqb kind 1) (wake p number s)
     (cond (eqb kind 2) (hand p number s)
-    (cond (eqb kind 3) (serve p number s) (refused 54 s)))
+    (cond (eqb kind 3) (serve p number s) (refusedBy 54 s)))

@@ -3,7 +3,7 @@ use Prim.Native.Nat.{ℕ}
 use mathlib.Core.Bool.{cond, not}
 use mathlib.Core.List.{List, [], _∷_}
 use lib.Dec.{eqb}
-use Rattle.base.specs.Loop.{Ran, counted}
+use Rattle.base.specs.Loop.{Ran, countedTurn}
 use Rattle.field.specs.State.{State}
 use Rattle.field.specs.Held.{Held, stateOf, heldOf, valid, stepAlone}
 use Rattle.field_calls.specs.Schedule.{scheduleRefusal, scheduleRun}
@@ -40,7 +40,7 @@ runRounds limit h =
 
 -- what a call does (of a step alone the refusal is all that is answered)
 unfoldable pub does : Call → Held → Ran Held
-does (one kind number) h = counted 0 (stepAlone kind number h)
+does (one kind number) h = countedTurn 0 (stepAlone kind number h)
 does (run bytes) h = runBytes bytes h
 does (rounds limit) h = runRounds limit h
 

@@ -48,7 +48,7 @@ pub record Agreed (p : Plan) (s : State) : Type 0 where
   pub core : 2 ≤ modulesOf p → Core p s
 
 -- "comes to rest unrefused within N more rounds than the ceiling"
-pub record Settles (p : Plan) (r : Ran Held) : Type 0 where
+pub record ComesToRest (p : Plan) (r : Ran Held) : Type 0 where
   pub rest : stateOf (r .state) .words ≡ []
   pub unrefused : r .answer ≡ 0
   pub within : r .done ≤ ceilingOf p + modulesOf p
@@ -71,7 +71,7 @@ pub record Claim (p : Plan) (start : Held) (calls : List Call) : Type 0 where
   -- "If a module was woken and the field is at rest, .."
   pub agreed : wokenIn p (trail calls start) ≢ [] → stateOf (after calls start) .words ≡ [] → Agreed p (stateOf (after calls start))
   -- "Whatever such a list leaves, a run of rounds from there, its limit the ceiling plus N or more, comes to rest .."
-  pub settles : (limit : ℕ) → ceilingOf p + modulesOf p ≤ limit → Settles p (runRounds limit (after calls start))
+  pub rests : (limit : ℕ) → ceilingOf p + modulesOf p ≤ limit → ComesToRest p (runRounds limit (after calls start))
 
 -- "For every accepted plan of N modules and L links, and every list of wakeups, hand-overs and services from its setup on, given singly or in
 -- runs, refused ones included": accepted, and lent M words or more, is a setup that is not refused.

@@ -9,7 +9,7 @@ use lib.Dec.{eqb, ltb, leb}
 use Rattle.format_int16.specs.Int16.{at16}
 use Rattle.base.specs.Cond.{eqb-cases, eqb-diff}
 use Rattle.base.specs.Test.{every}
-use Rattle.base.specs.Loop.{After, Ran, counted, runs}
+use Rattle.base.specs.Loop.{After, Ran, countedTurn, runs}
 use Rattle.base.specs.Refuse.{orElse}
 use Rattle.base.specs.LoopLaws.{by-test}
 use Rattle.plan.specs.Links.{Plan}
@@ -85,7 +85,7 @@ steps-end bytes i (suc n) = ap (λ l. stepOf bytes i ∷ l) (steps-end bytes (su
 module _ (p : Plan) where
   -- a step, unless the run has ended
   abbrev goesOn : Step → Ran State → Ran State
-  goesOn x r = cond (eqb (r .answer) 0) (counted (r .done) (step p (x .kind) (x .number) (r .state))) r
+  goesOn x r = cond (eqb (r .answer) 0) (countedTurn (r .done) (step p (x .kind) (x .number) (r .state))) r
 
   list-end : (l : List Step) (x : Step) (d : ℕ) (s : State) → listRun p d (l ++ (x ∷ [])) s ≡ goesOn x (listRun p d l s)
   unfolding listRun
@@ -109,7 +109,7 @@ module _ (p : Plan) where
     where
       more : runs never (suc n) (stepAt p bytes) s ≡ goesOn (stepOf bytes n) (runs never n (stepAt p bytes) s)
       more = let r = runs never n (stepAt p bytes) s in
-          by-test (eqb (r .answer) 0) (λ b. cond (b && true) (counted (r .done) (stepAt p bytes n (r .state))) r ≡ cond b (counted (r .done) (stepAt p bytes n (r .state))) r) refl refl
+          by-test (eqb (r .answer) 0) (λ b. cond (b && true) (countedTurn (r .done) (stepAt p bytes n (r .state))) r ≡ cond b (countedTurn (r .done) (stepAt p bytes n (r .state))) r) refl refl
 
       end : stepsFrom bytes 0 (suc n) ≡ stepsFrom bytes 0 n ++ (stepOf bytes n ∷ [])
       end = steps-end bytes 0 n ∙ (let e : 0 + n ≡ n = omega arith in ap (λ k. stepsFrom bytes 0 n ++ (stepOf bytes k ∷ [])) e)

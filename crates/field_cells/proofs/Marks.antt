@@ -18,7 +18,7 @@ use Rattle.field.specs.State.{newMark, putMarks}
 use Rattle.plan.specs.Accepted.{Accepted}
 use Rattle.plan.specs.Links.{Plan, linksOf}
 use Rattle.field.specs.laws.Edges.{mark-own}
-use Rattle.field_laws.specs.Places.{mark-at, length-new, over-from, from-own, link-over, over-below, from-over, own-below}
+use Rattle.field_laws.specs.Places.{putMarks-at, length-new, over-from, from-own, link-over, over-below, from-over, own-link-below}
 use Rattle.field_cells.specs.Marks.{markPut}
 
 -- the mark of directed end d, in both cases
@@ -44,7 +44,7 @@ module _ (p : Plan) (marks : List ℕ) (v k c : ℕ) where
 module _ (p : Plan) (a : Accepted p) (marks : List ℕ) (v : ℕ) where
   -- by ends
   agree : (m : ℕ → ℕ) (l : List ℕ) → length l ≡ length marks → ((d : ℕ) → d < length marks → getD l d 0 ≡ newMark p v m d (getD marks d 0)) → l ≡ putMarks p marks v m
-  agree m l e h = ext-getD 0 l (putMarks p marks v m) (e ∙ sym (length-new p v m 0 marks)) (λ d b. h d (omega arith) ∙ sym (mark-at p v m marks d (omega arith)))
+  agree m l e h = ext-getD 0 l (putMarks p marks v m) (e ∙ sym (length-new p v m 0 marks)) (λ d b. h d (omega arith) ∙ sym (putMarks-at p v m marks d (omega arith)))
 
   own-is : (d : ℕ) → d < 2 * linksOf p → from p d ≡ v → getD marks d 0 ≡ marksIn p marks v (linkOf d)
   own-is d l e =
@@ -72,7 +72,7 @@ module _ (p : Plan) (a : Accepted p) (marks : List ℕ) (v : ℕ) where
   -- what the code writes
   pub mark-put : 2 * linksOf p ≤ length marks → (k c : ℕ) → markPut p marks v k c ≡ putMarks p marks v (marked (marksIn p marks v) k c)
   mark-put sized k c = bool-cases (isOwn p v k)
-      (λ o. put-own p marks v k c o ∙ one-mark sized k o c ∙ ap (putMarks p marks v) (sym (marked-at (marksIn p marks v) k c (λ e. omega (arith, own-below p v k o, a .linksOk)))))
+      (λ o. put-own p marks v k c o ∙ one-mark sized k o c ∙ ap (putMarks p marks v) (sym (marked-at (marksIn p marks v) k c (λ e. omega (arith, own-link-below p v k o, a .linksOk)))))
       (λ o. put-other p marks v k c o ∙ agree (marked (marksIn p marks v) k c) marks refl (λ d b. new-cases p v (marked (marksIn p marks v) k c) d (getD marks d 0) (getD marks d 0)
       (λ l f. own-is d l f ∙ sym (marked-other (marksIn p marks v) k c (linkOf d)
       (λ q. true≢false (sym (subst (λ u. isOwn p u (linkOf d) ≡ true) f (from-own p a d l)) ∙ ap (isOwn p v) (sym q) ∙ o))))

@@ -10,7 +10,7 @@ use lib.Seq.{getD-append-add}
 use lib.Dec.{ltb}
 use borrow.Author.Tests.{le-leb, eq-eqb}
 use Rattle.base.specs.Cond.{eqb-cases, ltb-cases}
-use Rattle.base.specs.Loop.{After, taken}
+use Rattle.base.specs.Loop.{After, takenTo}
 use Rattle.base.specs.Pool.{nil}
 use Rattle.plan.specs.Refusal.{planRefusal}
 use Rattle.plan.specs.Accepted.{Accepted, accepted}
@@ -25,10 +25,10 @@ use Rattle.field.specs.Held.{Held, stateOf, valid, freshCells, fresh-length, fr
 use Rattle.field_calls.specs.Call.{Call, does, after}
 use Rattle.field_calls.specs.Trail.{Taken, stepsOf, trail, ifTaken}
 use Rattle.field_laws.specs.Lists.{NodeOk, ok-fresh}
-use Rattle.field_laws.specs.Fits.{Fits, facts-fits}
+use Rattle.field_laws.specs.Fits.{FieldFits, facts-fits}
 use Rattle.field_laws.specs.Keeps.{Sound, step-keeps}
 use Rattle.field_laws.specs.Trace.{onState, call-tells}
-use Rattle.field_laws.specs.Counts.{Counted, counted-none, counted-more, step-counts}
+use Rattle.field_laws.specs.Counts.{CountedSteps, counted-none, counted-more, step-counts}
 use Rattle.field_laws.specs.Laid.{waiting-zeros, zeros-all, Live, live-plan, live-sound, does-live, state-of-does, plan-of-does}
 
 -- ---- setup
@@ -61,7 +61,7 @@ started p lent = eqb-cases (planRefusal p) 0
     (λ n z. absurd (n z))
   where
     enoughOr : Bool → After Held
-    enoughOr b = cond b (notSetUp 21 lent) (taken (record { field = fresh p; words = replicate (length lent) 0 }))
+    enoughOr b = cond b (notSetUp 21 lent) (takenTo (record { field = fresh p; words = replicate (length lent) 0 }))
 
     rest : After Held
     rest = enoughOr (ltb (length lent) (ceilingOf p))
@@ -70,7 +70,7 @@ module _ (p : Plan) (lent : List ℕ) (a : planRefusal p ≡ 0) (room : ceilingO
   abbrev begun : Held
   begun = record { field = fresh p; words = replicate (length lent) 0 }
 
-  fresh-fits : Fits p (stateOf begun)
+  fresh-fits : FieldFits p (stateOf begun)
   fresh-fits = record {
     words = rw (waiting-zeros (length lent)) nil;
     nodes = λ v l. subst (NodeOk (ownOf p v) (limitOf p)) (sym (fresh-node v (omega (arith, accepted p a .modulesOk)))) (ok-fresh (ownOf p v) (limitOf p) ASLEEP 0 (omega arith) (omega arith));
@@ -122,8 +122,8 @@ module _ (p : Plan) (R : State → List Taken → State → Type 0) (none : (x :
       (list-tells cs h′ (does-live h i c) (plan-of-does h i c ∙ e))
 
 -- THE LAW of the counts, for every list of calls
-pub list-counts : (p : Plan) (cs : List Call) (h : Held) → Live h → h .field .plan ≡ p → Counted p (stateOf h) (trail cs h) (stateOf (after cs h))
-list-counts p cs h i e = list-tells p (Counted p) (counted-none p) (counted-more p) (step-counts p) cs h i e
+pub list-counts : (p : Plan) (cs : List Call) (h : Held) → Live h → h .field .plan ≡ p → CountedSteps p (stateOf h) (trail cs h) (stateOf (after cs h))
+list-counts p cs h i e = list-tells p (CountedSteps p) (counted-none p) (counted-more p) (step-counts p) cs h i e
 
 -- an invariant of the steps from sound states
 module _ (p : Plan) (P : State → Type 0) (keeps : (kind number : ℕ) (s : State) → Sound p s → P s → P (step p kind number s .state)) where

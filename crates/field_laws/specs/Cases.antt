@@ -9,8 +9,8 @@ use lib.ListN.{length, getD}
 use lib.Dec.{eqb, ltb, leb}
 use borrow.Author.Tests.{leb-false, lt-leb}
 use Rattle.base.specs.Cond.{bool-cases, eqb-cases, ltb-cases, eqb-diff, by-eq}
-use Rattle.base.specs.Loop.{After, taken, refused}
-use Rattle.base.specs.Keep.{keep, First, place, place-first, place-some}
+use Rattle.base.specs.Loop.{After, takenTo, refusedBy}
+use Rattle.base.specs.Keep.{keep, FirstThat, place, place-first, place-some}
 use Rattle.format_word.specs.Word.{handOver}
 use Rattle.plan.specs.Links.{Plan, modulesOf, linksOf}
 use Rattle.node.specs.Work.{Work, ASLEEP, REFUSED}
@@ -29,18 +29,18 @@ pub record Woke (p : Plan) (v : ℕ) (s s′ : State) : Type 0 where
   pub asleep : nodeAt s v .status ≡ ASLEEP
   pub responds : Placed p v (wakeWork p v s) s (s .words) [] s′
 
-pub record Handed (p : Plan) (d : ℕ) (s s′ : State) : Type 0 where
+pub record HandedOver (p : Plan) (d : ℕ) (s s′ : State) : Type 0 where
   pub within : d < 2 * linksOf p
   pub word : ℕ
   pub rest : List ℕ
-  pub first : First (inAir d) (s .words) word rest
+  pub first : FirstThat (inAir d) (s .words) word rest
   pub is : s′ ≡ record { cells = s .cells; marks = s .marks; words = rest ++ (handOver word ∷ []); sent = s .sent }
 
 pub record Served (p : Plan) (v : ℕ) (s s′ : State) : Type 0 where
   pub within : v < modulesOf p
   pub word : ℕ
   pub rest : List ℕ
-  pub first : First (inQueue p v) (s .words) word rest
+  pub first : FirstThat (inQueue p v) (s .words) word rest
   pub at : word ≡ getD (s .words) (place (inQueue p v) (s .words)) 0
   pub responds : Placed p v (serveWork p v word s) s rest (backOf (serveWork p v word s) word) s′
 
@@ -48,25 +48,25 @@ pub record Served (p : Plan) (v : ℕ) (s s′ : State) : Type 0 where
 abbrev pub Refusal : ℕ → Type 0
 Refusal r = (r ≡ 32) ⊎ (r ≡ 33) ⊎ ((41 ≤ r) × (r ≤ 45)) ⊎ (r ≡ 54)
 
-pub refusal-some : (r : ℕ) → Refusal r → r ≢ 0
-refusal-some r (inl h) = λ e. omega arith
-refusal-some r (inr (inl h)) = λ e. omega arith
-refusal-some r (inr (inr (inl h))) = λ e. omega (arith, h .0)
-refusal-some r (inr (inr (inr h))) = λ e. omega arith
+pub refusal-not-0 : (r : ℕ) → Refusal r → r ≢ 0
+refusal-not-0 r (inl h) = λ e. omega arith
+refusal-not-0 r (inr (inl h)) = λ e. omega arith
+refusal-not-0 r (inr (inr (inl h))) = λ e. omega (arith, h .0)
+refusal-not-0 r (inr (inr (inr h))) = λ e. omega arith
 
 usual : (r : ℕ) → 41 ≤ r → r ≤ 45 → Refusal r
 usual r l h = inr (inr (inl (l, h)))
 
-pub data Outcome (s : State) (Took : State → Type 0) : After State → Type 0 where
-  took : {s′ : State} → Took s′ → Outcome s Took (taken s′)
-  kept : (r : ℕ) → Refusal r → Outcome s Took (refused r s)
+pub data StepOutcome (s : State) (Took : State → Type 0) : After State → Type 0 where
+  took : {s′ : State} → Took s′ → StepOutcome s Took (takenTo s′)
+  kept : (r : ℕ) → Refusal r → StepOutcome s Took (refusedBy r s)
 
 module _ (p : Plan) (v : ℕ) (w : Work) (s : State) (words back : List ℕ) where
-  pub carried-out : Outcome s (Placed p v w s words back) (carryOut p v w s words back)
+  pub carried-out : StepOutcome s (Placed p v w s words back) (carryOut p v w s words back)
   unfolding carryOut
-  carried-out = eqb-cases (w .answer) REFUSED (λ b. Outcome s (Placed p v w s words back) (cond b (refused 32 s) (cond (ltb (ceilingOf p) (s .sent + length (w .sends))) (refused 33 s) (taken (placed p v w s words back)))))
+  carried-out = eqb-cases (w .answer) REFUSED (λ b. StepOutcome s (Placed p v w s words back) (cond b (refusedBy 32 s) (cond (ltb (ceilingOf p) (s .sent + length (w .sends))) (refusedBy 33 s) (takenTo (placed p v w s words back)))))
       (λ e. kept 32 (inl refl))
-      (λ n. ltb-cases (ceilingOf p) (s .sent + length (w .sends)) (λ b. Outcome s (Placed p v w s words back) (cond b (refused 33 s) (taken (placed p v w s words back))))
+      (λ n. ltb-cases (ceilingOf p) (s .sent + length (w .sends)) (λ b. StepOutcome s (Placed p v w s words back) (cond b (refusedBy 33 s) (takenTo (placed p v w s words back))))
       (λ l. kept 33 (inr (inl refl)))
       (λ l. took (record { fine = n; room = l; is = refl })))
 
@@ -76,30 +76,30 @@ module _ (p : Plan) (v : ℕ) (w : Work) (s : State) (words back : List ℕ) whe
       (λ e. rw e (bool-cases (ltb (ceilingOf p) (s .sent + length (w .sends))) (λ b. rw b (inr (inr refl))) (λ b. rw b (inl refl))))
 
 -- the same outcome, told with more facts
-pub outcome-map : {s : State} {P Q : State → Type 0} {a : After State} → ((s′ : State) → P s′ → Q s′) → Outcome s P a → Outcome s Q a
+pub outcome-map : {s : State} {P Q : State → Type 0} {a : After State} → ((s′ : State) → P s′ → Q s′) → StepOutcome s P a → StepOutcome s Q a
 outcome-map f (took {s′} h) = took (f s′ h)
 outcome-map f (kept r h) = kept r h
 
 module _ (p : Plan) (s : State) where
-  pub wakes : (v : ℕ) → Outcome s (Woke p v s) (wake p v s)
+  pub wake-outcome : (v : ℕ) → StepOutcome s (Woke p v s) (wake p v s)
   unfolding wake
-  wakes v = bool-cases (leb (modulesOf p) v)
+  wake-outcome v = bool-cases (leb (modulesOf p) v)
       (λ b. rw b (kept 41 (usual 41 (omega arith) (omega arith))))
-      (λ b. rw b (eqb-cases (nodeAt s v .status) ASLEEP (λ t. Outcome s (Woke p v s) (cond (not t) (refused 43 s) (carryOut p v (wakeWork p v s) s (s .words) [])))
+      (λ b. rw b (eqb-cases (nodeAt s v .status) ASLEEP (λ t. StepOutcome s (Woke p v s) (cond (not t) (refusedBy 43 s) (carryOut p v (wakeWork p v s) s (s .words) [])))
       (λ e. outcome-map (λ s′ h. record { within = leb-false _ _ b; asleep = e; responds = h }) (carried-out p v (wakeWork p v s) s (s .words) []))
       (λ n. kept 43 (usual 43 (omega arith) (omega arith)))))
 
-  pub hands : (d : ℕ) → Outcome s (Handed p d s) (hand p d s)
+  pub hand-outcome : (d : ℕ) → StepOutcome s (HandedOver p d s) (hand p d s)
   unfolding hand
-  hands d = bool-cases (leb (2 * linksOf p) d)
+  hand-outcome d = bool-cases (leb (2 * linksOf p) d)
       (λ b. rw b (kept 42 (usual 42 (omega arith) (omega arith))))
       (λ b. rw b (bool-cases (leb (length (s .words)) (place (inAir d) (s .words)))
       (λ c. rw c (kept 44 (usual 44 (omega arith) (omega arith))))
       (λ c. rw c (took (record { within = leb-false _ _ b; word = _; rest = _; first = place-first (inAir d) (s .words) 0 (leb-false _ _ c); is = refl })))))
 
-  pub serves : (v : ℕ) → Outcome s (Served p v s) (serve p v s)
+  pub serve-outcome : (v : ℕ) → StepOutcome s (Served p v s) (serve p v s)
   unfolding serve
-  serves v = bool-cases (leb (modulesOf p) v)
+  serve-outcome v = bool-cases (leb (modulesOf p) v)
       (λ b. rw b (kept 41 (usual 41 (omega arith) (omega arith))))
       (λ b. rw b (bool-cases (leb (length (s .words)) (place (inQueue p v) (s .words)))
       (λ c. rw c (kept 45 (usual 45 (omega arith) (omega arith))))
@@ -118,25 +118,25 @@ module _ (p : Plan) (s : State) where
       (carried-out p v w s (without i (s .words)) (backOf w x))))))
 
   -- a step of any kind
-  pub data Step : ℕ → ℕ → State → Type 0 where
-    wake-step : {v : ℕ} {s′ : State} → Woke p v s s′ → Step 1 v s′
-    hand-step : {d : ℕ} {s′ : State} → Handed p d s s′ → Step 2 d s′
-    serve-step : {v : ℕ} {s′ : State} → Served p v s s′ → Step 3 v s′
+  pub data FieldStep : ℕ → ℕ → State → Type 0 where
+    wake-step : {v : ℕ} {s′ : State} → Woke p v s s′ → FieldStep 1 v s′
+    hand-step : {d : ℕ} {s′ : State} → HandedOver p d s s′ → FieldStep 2 d s′
+    serve-step : {v : ℕ} {s′ : State} → Served p v s s′ → FieldStep 3 v s′
 
-  pub steps : (kind number : ℕ) → Outcome s (Step kind number) (step p kind number s)
+  pub step-outcome : (kind number : ℕ) → StepOutcome s (FieldStep kind number) (step p kind number s)
   unfolding step
-  steps kind number = by-eq kind 1
-      (λ e. rw e (outcome-map (λ s′ h. wake-step h) (wakes number)))
+  step-outcome kind number = by-eq kind 1
+      (λ e. rw e (outcome-map (λ s′ h. wake-step h) (wake-outcome number)))
       (λ n₁. rw (eqb-diff kind 1 n₁) (by-eq kind 2
-      (λ e. rw e (outcome-map (λ s′ h. hand-step h) (hands number)))
+      (λ e. rw e (outcome-map (λ s′ h. hand-step h) (hand-outcome number)))
       (λ n₂. rw (eqb-diff kind 2 n₂) (by-eq kind 3
-      (λ e. rw e (outcome-map (λ s′ h. serve-step h) (serves number)))
+      (λ e. rw e (outcome-map (λ s′ h. serve-step h) (serve-outcome number)))
       (λ n₃. rw (eqb-diff kind 3 n₃) (kept 54 (inr (inr (inr refl)))))))))
 
 -- an outcome whose answer is 0 was taken
-pub took-it : {s : State} {Took : State → Type 0} {a : After State} → Outcome s Took a → a .answer ≡ 0 → Took (a .state)
+pub took-it : {s : State} {Took : State → Type 0} {a : After State} → StepOutcome s Took a → a .answer ≡ 0 → Took (a .state)
 took-it (took h) e = h
-took-it (kept r h) e = absurd (refusal-some r h e)
+took-it (kept r h) e = absurd (refusal-not-0 r h e)
 
 -- ---- a step that is not refused
 

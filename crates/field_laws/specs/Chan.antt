@@ -1,5 +1,5 @@
 -- The channel of a directed link: its handed-over words in store order, then its others. Four laws connect it with the store.
-use Prim.Native.Nat.{ℕ, _+_, _/_, _^_}
+use Prim.Native.Nat.{ℕ, _/_, _^_}
 use mathlib.Core.Path.{_≡_, refl, sym, ap, ap₂, subst, _∙_}
 use mathlib.Core.Logic.{_≢_}
 use mathlib.Core.Bool.{Bool, true, false, not, _&&_, and-eq-true-iff, true≢false}
@@ -7,7 +7,7 @@ use mathlib.Core.List.{List, [], _∷_, _++_, map, append-assoc, append-nil}
 use lib.Dec.{eqb}
 use borrow.Author.Tests.{eqb-true, eq-eqb}
 use Rattle.base.specs.Cond.{bool-cases, eqb-diff, by-eq}
-use Rattle.base.specs.Keep.{keep, keep-app, keep-one, keep-none, First, first-passes, head-of, others}
+use Rattle.base.specs.Keep.{keep, keep-app, keep-one, keep-none, FirstThat, first-passes, head-of, others}
 use Rattle.format_message.specs.Msg.{Msg}
 use Rattle.format_message.specs.Header.{kindAt, levelAt, findAt, msgOf}
 use Rattle.format_word.specs.Word.{headerIn, carriedIn, linkIn, handedIn, shaped, handOver}
@@ -105,7 +105,7 @@ module _ (d x : ℕ) (e : linkIn x ≡ d) where
       ∙ sym (append-assoc (ups d s) (downs d s) (msgIn x ∷ []))
 
 -- LAW 2: a hand-over leaves every channel as it is. x is the first word in the air of e, r the words without it.
-module _ (e x : ℕ) (s r : List ℕ) (o : First (inAir e) s x r) (shape : shaped x ≡ true) where
+module _ (e x : ℕ) (s r : List ℕ) (o : FirstThat (inAir e) s x r) (shape : shaped x ≡ true) where
   -- handed over it is the same message of the same directed link
   raised : Unpacked (headerIn x) (carriedIn x) (linkIn x) 1 (handOver x)
   raised = over x (eqb-true (x / 2 ^ 41) 1 shape)
@@ -137,7 +137,7 @@ module _ (e x : ℕ) (s r : List ℕ) (o : First (inAir e) s x r) (shape : shape
   hand-chan d = by-eq e d (λ q. subst (λ i. chan i (r ++ (handOver x ∷ [])) ≡ chan i s) q own) (λ n. other d (λ q. n (sym link-is ∙ q)))
 
 -- A service of v takes x, the first word of v's queue; r are the words without it.
-module _ (p : Plan) (v x : ℕ) (s r : List ℕ) (o : First (inQueue p v) s x r) where
+module _ (p : Plan) (v x : ℕ) (s r : List ℕ) (o : FirstThat (inQueue p v) s x r) where
   high : handedIn x ≡ true
   high = queue-parts p v x (first-passes o) .0
 

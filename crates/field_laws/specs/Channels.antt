@@ -21,7 +21,7 @@ use Rattle.field_calls.specs.Trail.{servedWord}
 use Rattle.field_laws.specs.Chan.{chan, ups, downs, hand-chan, queue-parts, take-own, take-other, back-own, back-other}
 use Rattle.field_laws.specs.Places.{ends-apart}
 use Rattle.field_laws.specs.Sends.{Packs, onto, post-chan, post-away}
-use Rattle.field_laws.specs.Cases.{Handed, Served, Outcome, took, kept, wakes, hands, serves, took-it}
+use Rattle.field_laws.specs.Cases.{HandedOver, Served, StepOutcome, took, kept, wake-outcome, hand-outcome, serve-outcome, took-it}
 use Rattle.field_laws.specs.Lists.{WorkOk}
 use Rattle.field_laws.specs.Fits.{word-link, word-shaped, sends-pack}
 use Rattle.field_laws.specs.Keeps.{Sound, wake-ok, serve-ok}
@@ -36,16 +36,16 @@ pub record Later (m : Msg) (before after : List Msg) : Type 0 where
 module _ (p : Plan) (a : Accepted p) (s : State) (i : Sound p s) where
   -- A hand-over, taken or refused, leaves every channel as it is.
   pub hand-leaves : (d e : ℕ) → chan e (hand p d s .state .words) ≡ chan e (s .words)
-  hand-leaves d e = go (hands p s d)
+  hand-leaves d e = go (hand-outcome p s d)
     where
-      go : {r : After State} → Outcome s (Handed p d s) r → chan e (r .state .words) ≡ chan e (s .words)
+      go : {r : After State} → StepOutcome s (HandedOver p d s) r → chan e (r .state .words) ≡ chan e (s .words)
       go (took h) = ap (λ (t : State). chan e (t .words)) (h .is) ∙ hand-chan d (h .word) (s .words) (h .rest) (h .first) (word-shaped p (h .word) (All-here (first-out (h .first)) (i .fits .words))) e
       go (kept r h) = refl
 
   -- A wake appends each of its messages to its channel, in their order; so other channels stay.
   pub wake-appends : (v : ℕ) → wake p v s .answer ≡ 0 → (e : ℕ) → chan e (wake p v s .state .words) ≡ chan e (s .words) ++ onto p v e (wakeWork p v s .sends)
   wake-appends v t e =
-      let h = took-it (wakes p s v) t in
+      let h = took-it (wake-outcome p s v) t in
       let w = wakeWork p v s in
       ap (λ (r : State). chan e (r .words)) (h .responds .is) ∙ ap (chan e) (append-nil (s .words ++ posted p v (w .sends)))
       ∙ post-chan p v e (s .words) (sends-pack p a v (wake-ok p a s i v (h .within) .sends))
@@ -113,19 +113,19 @@ module _ (p : Plan) (a : Accepted p) (s : State) (i : Sound p s) where
   pub serve-takes : (v : ℕ) → serve p v s .answer ≡ 0 → serveWork p v (servedWord p v s) s .answer ≢ BACK
       → chan (linkIn (servedWord p v s)) (s .words) ≡ msgIn (servedWord p v s) ∷ chan (linkIn (servedWord p v s)) (serve p v s .state .words)
   serve-takes v t =
-      let h = took-it (serves p s v) t in
+      let h = took-it (serve-outcome p s v) t in
       subst (λ x. serveWork p v x s .answer ≢ BACK → chan (linkIn x) (s .words) ≡ msgIn x ∷ chan (linkIn x) (serve p v s .state .words)) (h .at) (takes v (serve p v s .state) h)
 
   -- One that puts back moves that head to a later place in it.
   pub serve-puts-back : (v : ℕ) → serve p v s .answer ≡ 0 → serveWork p v (servedWord p v s) s .answer ≡ BACK
       → Later (msgIn (servedWord p v s)) (chan (linkIn (servedWord p v s)) (s .words)) (chan (linkIn (servedWord p v s)) (serve p v s .state .words))
   serve-puts-back v t =
-      let h = took-it (serves p s v) t in
+      let h = took-it (serve-outcome p s v) t in
       subst (λ x. serveWork p v x s .answer ≡ BACK → Later (msgIn x) (chan (linkIn x) (s .words)) (chan (linkIn x) (serve p v s .state .words))) (h .at) (moves v (serve p v s .state) h)
 
   -- Either appends what it sends to the other channels, and these stay otherwise.
   pub serve-appends : (v : ℕ) → serve p v s .answer ≡ 0 → (e : ℕ) → linkIn (servedWord p v s) ≢ e
       → chan e (serve p v s .state .words) ≡ chan e (s .words) ++ onto p v e (serveWork p v (servedWord p v s) s .sends)
   serve-appends v t =
-      let h = took-it (serves p s v) t in
+      let h = took-it (serve-outcome p s v) t in
       subst (λ x. (e : ℕ) → linkIn x ≢ e → chan e (serve p v s .state .words) ≡ chan e (s .words) ++ onto p v e (serveWork p v x s .sends)) (h .at) (others v (serve p v s .state) h)

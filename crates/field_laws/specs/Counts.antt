@@ -19,7 +19,7 @@ use Rattle.field.specs.State.{State, posted}
 use Rattle.field.specs.Step.{wakeWork, serveWork, backOf, step}
 use Rattle.field_calls.specs.Call.{Call}
 use Rattle.field_calls.specs.Trail.{Taken, ifTaken, stepsOf, sentBy, sendsAt, sentIn, messagesSent, consumedAt}
-use Rattle.field_laws.specs.Cases.{refusal-some, Outcome, took, kept, Step, wake-step, hand-step, serve-step, steps}
+use Rattle.field_laws.specs.Cases.{refusal-not-0, StepOutcome, took, kept, FieldStep, wake-step, hand-step, serve-step, step-outcome}
 use Rattle.field_laws.specs.Trace.{onState, call-tells}
 
 pub flat-app : {A B : Type 0} (f : A → List B) (l m : List A) → flatMap f (l ++ m) ≡ flatMap f l ++ flatMap f m
@@ -41,17 +41,17 @@ abbrev pub consumedWords : Plan → List Taken → List ℕ
 consumedWords p l = flatMap (consumedAt p) l
 
 -- from x the steps l were taken and left y
-pub record Counted (p : Plan) (x : State) (l : List Taken) (y : State) : Type 0 where
+pub record CountedSteps (p : Plan) (x : State) (l : List Taken) (y : State) : Type 0 where
   pub sent : y .sent ≡ x .sent + messagesSent p l
   -- by any weight of words that a hand-over keeps: 1 gives their number, a test how many pass it
   pub words : (f : ℕ → ℕ) → ((w : ℕ) → f (handOver w) ≡ f w) → sumL f (y .words) + sumL f (consumedWords p l) ≡ sumL f (x .words) + sumL f (sentWords p l)
 
 module _ (p : Plan) where
-  pub counted-none : (x : State) → Counted p x [] x
+  pub counted-none : (x : State) → CountedSteps p x [] x
   unfolding flatMap
   counted-none x = record { sent = omega arith; words = λ f k. omega arith }
 
-  pub counted-more : (x y z : State) (l m : List Taken) → Counted p x l y → Counted p y m z → Counted p x (l ++ m) z
+  pub counted-more : (x y z : State) (l m : List Taken) → CountedSteps p x l y → CountedSteps p y m z → CountedSteps p x (l ++ m) z
   counted-more x y z l m a b = record {
     sent =
         omega (
@@ -73,7 +73,7 @@ module _ (p : Plan) where
   -- one step: it adds the words of its sends, and takes the word that it consumes
   counted-one : (x y : State) (t : Taken) → y .sent ≡ x .sent + length (sendsAt p t)
       → ((f : ℕ → ℕ) → ((w : ℕ) → f (handOver w) ≡ f w) → sumL f (y .words) + sumL f (consumedAt p t) ≡ sumL f (x .words) + sumL f (postedAt p t))
-      → Counted p x (t ∷ []) y
+      → CountedSteps p x (t ∷ []) y
   unfolding flatMap
   counted-one x y t n h = record {
     sent = omega (arith, n, length-append (map (sentBy p (t .number)) (sendsAt p t)) [], length-map (sendsAt p t) (sentBy p (t .number)));
@@ -86,7 +86,7 @@ module _ (p : Plan) where
   back-or-gone f w x = by-test (eqb (w .answer) BACK) (λ b. sumL f (cond b (x ∷ []) []) + sumL f (cond (not b) (x ∷ []) []) ≡ f x) (omega arith) (omega arith)
 
   -- THE LAW for one step
-  took-counts : (s : State) (kind number : ℕ) (s′ : State) → Step p s kind number s′ → Counted p s (stepTaken kind number s ∷ []) s′
+  took-counts : (s : State) (kind number : ℕ) (s′ : State) → FieldStep p s kind number s′ → CountedSteps p s (stepTaken kind number s ∷ []) s′
   unfolding sendsAt consumedAt
   took-counts s _ _ s′ (wake-step {v} h) =
       let new = posted p v (wakeWork p v s .sends) in
@@ -101,7 +101,7 @@ module _ (p : Plan) where
       let q : sendsAt p t ≡ w .sends = ap (λ x. serveWork p v x s .sends) (sym (h .at)) in
       let c : consumedAt p t ≡ cond (not (eqb (w .answer) BACK)) (h .word ∷ []) [] =
       ap (λ x. cond (not (eqb (serveWork p v x s .answer) BACK)) (x ∷ []) []) (sym (h .at)) in
-      subst (Counted p s (t ∷ [])) (sym (h .responds .is))
+      subst (CountedSteps p s (t ∷ [])) (sym (h .responds .is))
       (counted-one s _ t (ap (λ l. s .sent + length l) (sym q))
       (λ f k.
       omega (
@@ -114,14 +114,14 @@ module _ (p : Plan) where
         back-or-gone f w (h .word),
       )))
 
-  pub step-counts : (kind number : ℕ) (s : State) → Counted p s (ifTaken p kind number s) (step p kind number s .state)
+  pub step-counts : (kind number : ℕ) (s : State) → CountedSteps p s (ifTaken p kind number s) (step p kind number s .state)
   unfolding ifTaken
-  step-counts kind number s = go (steps p s kind number)
+  step-counts kind number s = go (step-outcome p s kind number)
     where
-      go : {a : After State} → Outcome s (Step p s kind number) a → Counted p s (cond (eqb (a .answer) 0) (stepTaken kind number s ∷ []) []) (a .state)
+      go : {a : After State} → StepOutcome s (FieldStep p s kind number) a → CountedSteps p s (cond (eqb (a .answer) 0) (stepTaken kind number s ∷ []) []) (a .state)
       go (took {s′} h) = took-counts s kind number s′ h
-      go (kept r h) = rw (eqb-diff r 0 (refusal-some r h)) (counted-none s)
+      go (kept r h) = rw (eqb-diff r 0 (refusal-not-0 r h)) (counted-none s)
 
   -- THE LAW for every call
-  pub call-counts : (c : Call) (s : State) → Counted p s (stepsOf p c s) (onState p c s .state)
-  call-counts c s = call-tells p (Counted p) counted-none counted-more step-counts c s
+  pub call-counts : (c : Call) (s : State) → CountedSteps p s (stepsOf p c s) (onState p c s .state)
+  call-counts c s = call-tells p (CountedSteps p) counted-none counted-more step-counts c s

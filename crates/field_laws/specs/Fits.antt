@@ -21,18 +21,17 @@ use Rattle.format_word.specs.Word.{headerIn, carriedIn, linkIn, laidOut, shaped
 use Rattle.format_word.specs.Laws.{over, over-laid-out, packs-laid-out}
 use Rattle.node.specs.declared.Node.{Node}
 use Rattle.node.specs.Work.{Own, Send, FOUND, REJECTED}
-use Rattle.field.specs.Edges as O
 use Rattle.field.specs.Edges.{isOwn, ownOf, limitOf, ceilingOf, endOf}
 use Rattle.field.specs.State.{State, nodeAt, msgIn, wordOf, posted}
 use Rattle.field.specs.Valid.{allOf, linkOrNone, ownOrNone, carriedFits, linkFits, levelFits, wordFits, valuesListed, levelWithin, countWithin, identityFits, nodeFits, markFits, fits}
 use Rattle.plan.specs.Accepted.{Accepted}
 use Rattle.plan.specs.Ceiling.{level-small}
 use Rattle.plan.specs.Links.{Plan, modulesOf, linksOf}
-use Rattle.field_laws.specs.Places.{own-below, over-below}
+use Rattle.field_laws.specs.Places.{own-link-below, over-below}
 use Rattle.field_laws.specs.Sends.{Packs, over-16, word-parts}
 use Rattle.field_laws.specs.Lists.{LinkOrNone, OwnOrNone, NodeOk, MsgOk, SendOk}
 
-pub record Fits (p : Plan) (s : State) : Type 0 where
+pub record FieldFits (p : Plan) (s : State) : Type 0 where
   pub words : All (λ w. wordFits p w ≡ true) (s .words)
   pub nodes : (v : ℕ) → v < modulesOf p → NodeOk (ownOf p v) (limitOf p) (nodeAt s v)
   pub marks : (d : ℕ) → d < 2 * linksOf p → getD (s .marks) d 0 ≤ REJECTED
@@ -222,14 +221,14 @@ module _ (p : Plan) (a : Accepted p) (v : ℕ) (x : Send) (h : SendOk (ownOf p v
   pub send-packs : Packs x
   send-packs = record {
     listed = msg-listed (ownOf p v) (limitOf p) (level-small p a) (a .linksOk) (x .msg) (h .msg);
-    small = omega (arith, own-below p v (x .edge) (h .own), a .linksOk);
+    small = omega (arith, own-link-below p v (x .edge) (h .own), a .linksOk);
   }
 
   pub send-fits : wordFits p (wordOf p v x) ≡ true
   unfolding wordFits
   send-fits =
       let m = x .msg in
-      let d = O.endOf p v (x .edge) in
+      let d = endOf p v (x .edge) in
       let b = in-bits m (send-packs .listed) in
       let u = word-parts p v x send-packs in
       let q = parts-of-byte (partsOf m .kind) (partsOf m .level) (partsOf m .find) (b .kind) (b .level) (b .find) .1 in
@@ -248,7 +247,7 @@ sends-pack p a v h = All-map (λ x i. send-packs p a v x i) h
 -- ---- the state
 
 module _ (p : Plan) (s : State) where
-  pub fits-facts : fits p s ≡ true → Fits p s
+  pub fits-facts : fits p s ≡ true → FieldFits p s
   unfolding fits
   fits-facts e =
       let a = two (allOf (wordFits p) (s .words) && every (modulesOf p) (λ v. nodeFits p v (nodeAt s v)) && every (2 * linksOf p) (markFits s) && leb (length (s .words)) (s .sent)) (leb (s .sent) (ceilingOf p)) e in
@@ -261,7 +260,7 @@ module _ (p : Plan) (s : State) where
         ceiling = leb-true _ _ (a .1);
       }
 
-  pub facts-fits : Fits p s → fits p s ≡ true
+  pub facts-fits : FieldFits p s → fits p s ≡ true
   unfolding fits
   facts-fits h =
       pair _ _

@@ -22,10 +22,10 @@ use Rattle.plan.specs.Links.{Plan, modulesOf, linksOf}
 use Rattle.field.specs.laws.Edges.{mark-own, mark-not}
 use Rattle.field_laws.specs.Chan.{queue-parts}
 use Rattle.field_laws.specs.Sends.{length-posted}
-use Rattle.field_laws.specs.Cases.{Outcome, took, kept, Step, wake-step, hand-step, serve-step, steps}
-use Rattle.field_laws.specs.Places.{length-put, node-same, node-other, mark-at, length-new, over-below, dest-own, own-below}
+use Rattle.field_laws.specs.Cases.{StepOutcome, took, kept, FieldStep, wake-step, hand-step, serve-step, step-outcome}
+use Rattle.field_laws.specs.Places.{length-put, node-same, node-other, putMarks-at, length-new, over-below, dest-own, own-link-below}
 use Rattle.field_laws.specs.Lists.{NodeOk, WorkOk, ok-wakeup, ok-respond}
-use Rattle.field_laws.specs.Fits.{Fits, word-link, word-msg, hand-fits, sends-fit}
+use Rattle.field_laws.specs.Fits.{FieldFits, word-link, word-msg, hand-fits, sends-fit}
 
 -- room for N modules and the marks of L links: so in a field, whose arrays hold 192 and 600
 pub record Sized (p : Plan) (s : State) : Type 0 where
@@ -34,7 +34,7 @@ pub record Sized (p : Plan) (s : State) : Type 0 where
 
 pub record Sound (p : Plan) (s : State) : Type 0 where
   pub sized : Sized p s
-  pub fits : Fits p s
+  pub fits : FieldFits p s
 
 pub out-length : {A : Type 0} {l r : List A} {x : A} → Out l x r → length l ≡ suc (length r)
 out-length here = refl
@@ -57,7 +57,7 @@ module _ (p : Plan) (a : Accepted p) (s : State) (i : Sound p s) where
   pub serve-ok : (v x : ℕ) → v < modulesOf p → wordFits p x ≡ true → inQueue p v x ≡ true → WorkOk (ownOf p v) (limitOf p) (serveWork p v x s)
   serve-ok v x l f q =
       let o = served-own v x f q in
-      ok-respond (ownOf p v) (limitOf p) (linkOf (linkIn x)) o (own-below p v (linkOf (linkIn x)) o) (omega (arith, a .linksOk)) _ _ (word-msg p v x f)
+      ok-respond (ownOf p v) (limitOf p) (linkOf (linkIn x)) o (own-link-below p v (linkOf (linkIn x)) o) (omega (arith, a .linksOk)) _ _ (word-msg p v x f)
       (record { node = i .fits .nodes v l; marks = start-ok v l; sends = nil })
 
   -- a response is placed
@@ -65,7 +65,7 @@ module _ (p : Plan) (a : Accepted p) (s : State) (i : Sound p s) where
       (fw : All (λ x. wordFits p x ≡ true) words) (fb : All (λ x. wordFits p x ≡ true) back) (few : length words + length back ≤ s .sent)
       (room : s .sent + length (w .sends) ≤ ceilingOf p) where
     mark-fits : (d : ℕ) → d < 2 * linksOf p → getD (placed p v w s words back .marks) d 0 ≤ REJECTED
-    mark-fits d h = rw (mark-at p v (w .mark) (s .marks) d (omega (arith, i .sized .marks)))
+    mark-fits d h = rw (putMarks-at p v (w .mark) (s .marks) d (omega (arith, i .sized .marks)))
         (by-test (ltb d (2 * linksOf p) && eqb (from p d) v) (λ b. cond b (w .mark (linkOf d)) (getD (s .marks) d 0) ≤ REJECTED) (ok .marks (linkOf d)) (i .fits .marks d h))
 
     node-fits : (u : ℕ) → u < modulesOf p → NodeOk (ownOf p u) (limitOf p) (nodeAt (placed p v w s words back) u)
@@ -98,7 +98,7 @@ module _ (p : Plan) (a : Accepted p) (s : State) (i : Sound p s) where
   back-short w x = by-test (eqb (w .answer) BACK) (λ b. length (cond b (x ∷ []) []) ≤ 1) (omega arith) (omega arith)
 
   -- each kind of step
-  pub step-sound : (kind number : ℕ) (s′ : State) → Step p s kind number s′ → Sound p s′
+  pub step-sound : (kind number : ℕ) (s′ : State) → FieldStep p s kind number s′ → Sound p s′
   step-sound _ _ s′ (wake-step {v} h) = subst (Sound p) (sym (h .responds .is))
       (placed-sound v (h .within) (wakeWork p v s) (wake-ok v (h .within)) (s .words) [] (i .fits .words) nil (omega (arith, i .fits .waiting)) (h .responds .room))
   step-sound _ _ s′ (hand-step h) =
@@ -123,31 +123,31 @@ module _ (p : Plan) (a : Accepted p) (s : State) (i : Sound p s) where
       (placed-sound v (h .within) w (serve-ok v x (h .within) f (first-passes (h .first))) (h .rest) (backOf w x) (All-rest o (i .fits .words)) (back-fits w x f)
       (omega (arith, out-length o, back-short w x, i .fits .waiting)) (h .responds .room))
 
-  kept-sound : {Took : State → Type 0} {r : After State} → ((s′ : State) → Took s′ → Sound p s′) → Outcome s Took r → Sound p (r .state)
+  kept-sound : {Took : State → Type 0} {r : After State} → ((s′ : State) → Took s′ → Sound p s′) → StepOutcome s Took r → Sound p (r .state)
   kept-sound f (took {s′} t) = f s′ t
   kept-sound f (kept r h) = i
 
   -- THE LAW: taken or refused, a step leaves a valid field valid
   pub step-keeps : (kind number : ℕ) → Sound p (step p kind number s .state)
-  step-keeps kind number = kept-sound (step-sound kind number) (steps p s kind number)
+  step-keeps kind number = kept-sound (step-sound kind number) (step-outcome p s kind number)
 
 -- the arrays keep their lengths
-pub record Alike (x y : State) : Type 0 where
+pub record SameLengths (x y : State) : Type 0 where
   pub cells : length (y .cells) ≡ length (x .cells)
   pub marks : length (y .marks) ≡ length (x .marks)
 
 module _ (p : Plan) (s : State) where
-  placed-alike : (v : ℕ) (w : Work) (words back : List ℕ) → Alike s (placed p v w s words back)
+  placed-alike : (v : ℕ) (w : Work) (words back : List ℕ) → SameLengths s (placed p v w s words back)
   placed-alike v w words back = record { cells = length-put (s .cells) v (w .node); marks = length-new p v (w .mark) 0 (s .marks) }
 
-  step-alike : (kind number : ℕ) (s′ : State) → Step p s kind number s′ → Alike s s′
-  step-alike _ _ s′ (wake-step {v} h) = subst (Alike s) (sym (h .responds .is)) (placed-alike v (wakeWork p v s) (s .words) [])
-  step-alike _ _ s′ (hand-step h) = subst (Alike s) (sym (h .is)) (record { cells = refl; marks = refl })
-  step-alike _ _ s′ (serve-step {v} h) = subst (Alike s) (sym (h .responds .is)) (placed-alike v (serveWork p v (h .word) s) (h .rest) (backOf (serveWork p v (h .word) s) (h .word)))
+  step-alike : (kind number : ℕ) (s′ : State) → FieldStep p s kind number s′ → SameLengths s s′
+  step-alike _ _ s′ (wake-step {v} h) = subst (SameLengths s) (sym (h .responds .is)) (placed-alike v (wakeWork p v s) (s .words) [])
+  step-alike _ _ s′ (hand-step h) = subst (SameLengths s) (sym (h .is)) (record { cells = refl; marks = refl })
+  step-alike _ _ s′ (serve-step {v} h) = subst (SameLengths s) (sym (h .responds .is)) (placed-alike v (serveWork p v (h .word) s) (h .rest) (backOf (serveWork p v (h .word) s) (h .word)))
 
-  kept-alike : {Took : State → Type 0} {r : After State} → ((s′ : State) → Took s′ → Alike s s′) → Outcome s Took r → Alike s (r .state)
+  kept-alike : {Took : State → Type 0} {r : After State} → ((s′ : State) → Took s′ → SameLengths s s′) → StepOutcome s Took r → SameLengths s (r .state)
   kept-alike f (took {s′} t) = f s′ t
   kept-alike f (kept r h) = record { cells = refl; marks = refl }
 
-  pub step-lengths : (kind number : ℕ) → Alike s (step p kind number s .state)
-  step-lengths kind number = kept-alike (step-alike kind number) (steps p s kind number)
+  pub step-lengths : (kind number : ℕ) → SameLengths s (step p kind number s .state)
+  step-lengths kind number = kept-alike (step-alike kind number) (step-outcome p s kind number)

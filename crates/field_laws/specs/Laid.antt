@@ -1,6 +1,6 @@
 -- The lent words and the field: waiting words are laid out and read back, a call on what the host holds is the call on its state, and a field
 -- that passes 31 passes it ever after.
-use Prim.Native.Nat.{ℕ, zero, suc, _+_, _-_, _≤_}
+use Prim.Native.Nat.{ℕ, zero, suc, _-_, _≤_}
 use native.Mathlib.Omega.{arith}
 use mathlib.Core.Path.{_≡_, refl, sym, ap, ap₂, _∙_}
 use mathlib.Core.Logic.{_≢_}
@@ -22,9 +22,9 @@ use Rattle.field.specs.Valid.{allOf, waitingIn, zeroAfter, enough, fits}
 use Rattle.field.specs.Held.{Held, layout, stateOf, heldOf, valid, stepAlone}
 use Rattle.field_calls.specs.Schedule.{scheduleRefusal, scheduleRun}
 use Rattle.field_calls.specs.Call.{Call, one, run, rounds, refusedRun, laidBack, runBytes, runRounds, does}
-use Rattle.field_laws.specs.Cases.{Outcome, took, kept, Step, steps}
+use Rattle.field_laws.specs.Cases.{StepOutcome, took, kept, FieldStep, step-outcome}
 use Rattle.field_laws.specs.Fits.{word-nonzero, fits-facts, facts-fits}
-use Rattle.field_laws.specs.Keeps.{Sound, Alike, step-keeps, step-lengths}
+use Rattle.field_laws.specs.Keeps.{Sound, SameLengths, step-keeps, step-lengths}
 use Rattle.field_laws.specs.Trace.{onState, call-keeps}
 
 -- ---- words laid out
@@ -35,7 +35,7 @@ waiting-zeros zero = refl
 waiting-zeros (suc k) = refl
 
 -- words that are not 0 are read back ..
-pub waiting-back : (n : ℕ) {l : List ℕ} → All (λ x. x ≢ 0) l → waitingIn (l ++ replicate n 0) ≡ l
+waiting-back : (n : ℕ) {l : List ℕ} → All (λ x. x ≢ 0) l → waitingIn (l ++ replicate n 0) ≡ l
 unfolding waitingIn
 waiting-back n nil = waiting-zeros n
 waiting-back n (con {x} {xs} h t) = rw (eqb-diff x 0 h) (ap (λ r. x ∷ r) (waiting-back n t))
@@ -64,7 +64,7 @@ layout-back lent e =
     ap (λ x. waitingIn lent ++ x) (ap (λ k. replicate k 0) n ∙ sym (all-zeros r e)) ∙ waiting-front lent
 
 module _ (n : ℕ) (words : List ℕ) (l : length words ≤ n) where
-  pub layout-length : length (layout n words) ≡ n
+  layout-length : length (layout n words) ≡ n
   layout-length = omega (arith, length-append words (replicate (n - length words) 0), length-replicate {A = ℕ} (n - length words) 0)
 
   pub layout-zeros : All (λ x. x ≢ 0) words → zeroAfter (layout n words) ≡ true
@@ -107,7 +107,7 @@ module _ (h : Held) (i : Live h) where
   held-same = ap (λ w. record { field = h .field; words = w }) (layout-back (h .words) (checks .2))
 
   -- a sound state put back is read again, and is valid
-  module _ (s : State) (sound : Sound plan s) (alike : Alike (stateOf h) s) where
+  module _ (s : State) (sound : Sound plan s) (alike : SameLengths (stateOf h) s) where
     nonzero : All (λ x. x ≢ 0) (s .words)
     nonzero = All-map (λ x e. word-nonzero plan x e) (sound .fits .words)
 
@@ -140,8 +140,8 @@ module _ (h : Held) (i : Live h) where
       (λ n. ap (refusedRun (scheduleRefusal bytes)) (sym held-same)))
   does-state (rounds limit) = rw (i .valid) refl
 
-  left : (c : Call) → Sound plan (onState plan c (stateOf h) .state) × Alike (stateOf h) (onState plan c (stateOf h) .state)
-  left c = call-keeps plan (λ x. Sound plan x × Alike (stateOf h) x)
+  left : (c : Call) → Sound plan (onState plan c (stateOf h) .state) × SameLengths (stateOf h) (onState plan c (stateOf h) .state)
+  left c = call-keeps plan (λ x. Sound plan x × SameLengths (stateOf h) x)
       (λ kind number x k. (
         step-keeps plan live-plan x (k .0) kind number,
         let a = step-lengths plan x kind number in record { cells = a .cells ∙ k .1 .cells; marks = a .marks ∙ k .1 .marks },
@@ -164,9 +164,9 @@ module _ (h : Held) (i : Live h) where
   -- demand 1: a step that is refused alters neither field nor words
   pub refused-alters-nothing : (kind number : ℕ) → stepAlone kind number h .answer ≢ 0 → stepAlone kind number h .state ≡ h
   unfolding stepAlone
-  refused-alters-nothing kind number = rw (i .valid) (go (steps plan (stateOf h) kind number))
+  refused-alters-nothing kind number = rw (i .valid) (go (step-outcome plan (stateOf h) kind number))
     where
-      go : {a : After State} → Outcome (stateOf h) (Step plan (stateOf h) kind number) a → a .answer ≢ 0 → heldOf h (a .state) ≡ h
+      go : {a : After State} → StepOutcome (stateOf h) (FieldStep plan (stateOf h) kind number) a → a .answer ≢ 0 → heldOf h (a .state) ≡ h
       go (took t) n = absurd (n refl)
       go (kept r t) n = held-same
 

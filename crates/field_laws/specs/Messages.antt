@@ -18,7 +18,7 @@ use Rattle.field.specs.Step.{serveWork, step}
 use Rattle.field.specs.Held.{Held, stateOf}
 use Rattle.field_calls.specs.Call.{Call, after}
 use Rattle.field_calls.specs.Trail.{Taken, ifTaken, trail, Message, sentBy, carriedBy, sameMessage, timesIn, sendsAt, sentIn, messagesSent, consumedIn}
-use Rattle.field_laws.specs.Cases.{refusal-some, Outcome, took, kept, Step, wake-step, hand-step, serve-step, steps}
+use Rattle.field_laws.specs.Cases.{refusal-not-0, StepOutcome, took, kept, FieldStep, wake-step, hand-step, serve-step, step-outcome}
 use Rattle.field_laws.specs.Sends.{same-message, posted-carry}
 use Rattle.field_laws.specs.Fits.{sends-pack}
 use Rattle.field_laws.specs.Keeps.{Sound, wake-ok, serve-ok, step-keeps}
@@ -55,7 +55,7 @@ module _ (p : Plan) (a : Accepted p) where
       }
 
   -- one step, taken
-  took-words : (s : State) (kind number : ℕ) (s′ : State) → Sound p s → Step p s kind number s′
+  took-words : (s : State) (kind number : ℕ) (s′ : State) → Sound p s → FieldStep p s kind number s′
       → map carriedBy (postedAt p (stepTaken kind number s)) ≡ map (sentBy p number) (sendsAt p (stepTaken kind number s))
   unfolding sendsAt
   took-words s _ _ s′ i (wake-step {v} h) = posted-carry p v (sends-pack p a v (wake-ok p a s i v (h .within) .sends))
@@ -71,11 +71,11 @@ module _ (p : Plan) (a : Accepted p) where
 
   step-words : (kind number : ℕ) (s : State) → Wording s (ifTaken p kind number s) (step p kind number s .state)
   unfolding ifTaken
-  step-words kind number s i = go (steps p s kind number) (step-keeps p a s i kind number)
+  step-words kind number s i = go (step-outcome p s kind number) (step-keeps p a s i kind number)
     where
-      go : {r : After State} → Outcome s (Step p s kind number) r → Sound p (r .state) → Worded p (cond (eqb (r .answer) 0) (stepTaken kind number s ∷ []) []) (r .state)
+      go : {r : After State} → StepOutcome s (FieldStep p s kind number) r → Sound p (r .state) → Worded p (cond (eqb (r .answer) 0) (stepTaken kind number s ∷ []) []) (r .state)
       go (took {s′} h) j = record { sound = j; says = worded-one (stepTaken kind number s) (took-words s kind number s′ i h) }
-      go (kept r h) j = rw (eqb-diff r 0 (refusal-some r h)) (worded-none s i)
+      go (kept r h) j = rw (eqb-diff r 0 (refusal-not-0 r h)) (worded-none s i)
 
   -- the same for every list of calls
   list-words : (cs : List Call) (h : Held) → Live h → h .field .plan ≡ p → Worded p (trail cs h) (stateOf (after cs h))

@@ -68,18 +68,18 @@ module _ (p : Plan) (v k : ℕ) where
       (λ n. rw (end-higher p v k n) (omega arith))
 
   module _ (o : isOwn p v k ≡ true) where
-    pub own-below : k < linksOf p
+    pub own-link-below : k < linksOf p
     unfolding isOwn
-    own-below = ltb-true k (linksOf p) (and-eq-true-iff (ltb k (linksOf p)) _ .0 o .0)
+    own-link-below = ltb-true k (linksOf p) (and-eq-true-iff (ltb k (linksOf p)) _ .0 o .0)
 
     -- v is its lower or its higher end
     pub own-end : (lowerOf p k ≡ v) ⊎ ((lowerOf p k ≢ v) × (higherOf p k ≡ v))
-    own-end = by-eq (lowerOf p k) v (λ e. inl e) (λ n. inr (n, eqb-true (higherOf p k) v (sym (own-higher p v k own-below n) ∙ o)))
+    own-end = by-eq (lowerOf p k) v (λ e. inl e) (λ n. inr (n, eqb-true (higherOf p k) v (sym (own-higher p v k own-link-below n) ∙ o)))
 
     pub over-below : endOf p v k < 2 * linksOf p
     over-below = by-eq (lowerOf p k) v
-        (λ e. rw (end-lower p v k e) (omega (arith, own-below)))
-        (λ n. rw (end-higher p v k n) (omega (arith, own-below)))
+        (λ e. rw (end-lower p v k e) (omega (arith, own-link-below)))
+        (λ n. rw (end-higher p v k n) (omega (arith, own-link-below)))
 
     -- it runs from v
     pub from-over : from p (endOf p v k) ≡ v
@@ -120,11 +120,6 @@ module _ (p : Plan) (a : Accepted p) (d : ℕ) (l : d < 2 * linksOf p) where
       (λ e. a .each (linkOf d) link-below .inside)
       (λ n. omega (arith, a .each (linkOf d) link-below .ordered, a .each (linkOf d) link-below .inside))
 
-  pub from-below : from p d < modulesOf p
-  from-below = eqb-cases (d % 2) 0 (λ b. cond b (lowerOf p (linkOf d)) (higherOf p (linkOf d)) < modulesOf p)
-      (λ e. omega (arith, a .each (linkOf d) link-below .ordered, a .each (linkOf d) link-below .inside))
-      (λ n. a .each (linkOf d) link-below .inside)
-
   -- its two ends differ, so nothing that a module sends comes back to it
   pub ends-apart : from p d ≢ dest p d
   ends-apart = eqb-cases (d % 2) 0 (λ b. cond b (lowerOf p (linkOf d)) (higherOf p (linkOf d)) ≢ cond b (higherOf p (linkOf d)) (lowerOf p (linkOf d)))
@@ -145,12 +140,12 @@ module _ (p : Plan) (v : ℕ) (m : ℕ → ℕ) where
   new-at (x ∷ l) d zero h = ap (λ i. newMark p v m i x) (sym (add-zero d))
   new-at (x ∷ l) d (suc j) h = new-at l (suc d) j (omega arith) ∙ ap (λ i. newMark p v m i (getD l j 0)) (omega arith)
 
-  pub mark-at : (marks : List ℕ) (d : ℕ) → d < length marks → getD (putMarks p marks v m) d 0 ≡ newMark p v m d (getD marks d 0)
-  mark-at marks d h = new-at marks 0 d h ∙ ap (λ i. newMark p v m i (getD marks d 0)) (omega arith)
+  pub putMarks-at : (marks : List ℕ) (d : ℕ) → d < length marks → getD (putMarks p marks v m) d 0 ≡ newMark p v m d (getD marks d 0)
+  putMarks-at marks d h = new-at marks 0 d h ∙ ap (λ i. newMark p v m i (getD marks d 0)) (omega arith)
 
   module _ (marks : List ℕ) (sized : 2 * linksOf p ≤ length marks) where
     own-read : (u k : ℕ) → isOwn p u k ≡ true → marksIn p (putMarks p marks v m) u k ≡ newMark p v m (endOf p u k) (getD marks (endOf p u k) 0)
-    own-read u k o = mark-own p u k (putMarks p marks v m) o ∙ mark-at marks (endOf p u k) (omega (arith, over-below p u k o))
+    own-read u k o = mark-own p u k (putMarks p marks v m) o ∙ putMarks-at marks (endOf p u k) (omega (arith, over-below p u k o))
 
     -- v's marks are m's ..
     pub mark-same : (k : ℕ) → isOwn p v k ≡ true → marksIn p (putMarks p marks v m) v k ≡ m k
@@ -189,7 +184,7 @@ module _ (p : Plan) (a : Accepted p) (v : ℕ) (marks : List ℕ) (sized : 2 * l
 
   pub marks-back : putMarks p marks v read ≡ marks
   marks-back = ext-getD 0 (putMarks p marks v read) marks (length-new p v read 0 marks)
-      (λ d l. mark-at p v read marks d (omega (arith, length-new p v read 0 marks)) ∙ at d)
+      (λ d l. putMarks-at p v read marks d (omega (arith, length-new p v read 0 marks)) ∙ at d)
     where
       at : (d : ℕ) → newMark p v read d (getD marks d 0) ≡ getD marks d 0
       at d = bool-cases (ltb d (2 * linksOf p) && eqb (from p d) v)

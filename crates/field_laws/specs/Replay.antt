@@ -9,7 +9,7 @@ use lib.ListN.{length, length-append}
 use lib.Dec.{eqb}
 use borrow.Author.Tests.{eq-eqb, ne-eqb}
 use Rattle.base.specs.Cond.{bool-cases, eqb-diff}
-use Rattle.base.specs.Loop.{After, Ran, taken, refused, loop, counted, runs, runsTrace}
+use Rattle.base.specs.Loop.{After, Ran, takenTo, refusedBy, loop, countedTurn, runs, runsTrace}
 use Rattle.base.specs.LoopLaws.{by-test, then-elim}
 use Rattle.plan.specs.Links.{Plan, modulesOf, linksOf}
 use Rattle.field.specs.State.{State}
@@ -20,7 +20,7 @@ use Rattle.base.specs.Keep.{many}
 use Rattle.field_calls.specs.Rounds.{handTurn, handPhase, serveTurn, servePhase, round, atRest, roundsRun}
 use Rattle.field_calls.specs.Call.{Call, after}
 use Rattle.field_calls.specs.Trail.{Taken, ifTaken, stepsOf, trail}
-use Rattle.field_laws.specs.Cases.{refusal-some, Outcome, took, kept, steps}
+use Rattle.field_laws.specs.Cases.{refusal-not-0, StepOutcome, took, kept, step-outcome}
 use Rattle.field_laws.specs.Trace.{onState, call-tells}
 use Rattle.field_laws.specs.Laid.{Live}
 use Rattle.field_laws.specs.After.{list-tells}
@@ -28,7 +28,7 @@ use Rattle.field_laws.specs.After.{list-tells}
 -- from the first state the steps, each taken where it says, lead to the second
 pub data Replay (p : Plan) : State → List Taken → State → Type 0 where
   done : {x : State} → Replay p x [] x
-  next : {x y z : State} {kind number : ℕ} {l : List Taken} → step p kind number x ≡ taken y → Replay p y l z
+  next : {x y z : State} {kind number : ℕ} {l : List Taken} → step p kind number x ≡ takenTo y → Replay p y l z
       → Replay p x (record { kind = kind; number = number; at = x } ∷ l) z
 
 module _ (p : Plan) where
@@ -38,12 +38,12 @@ module _ (p : Plan) where
 
   replay-step : (kind number : ℕ) (s : State) → Replay p s (ifTaken p kind number s) (step p kind number s .state)
   unfolding ifTaken
-  replay-step kind number s = go (step p kind number s) refl (steps p s kind number)
+  replay-step kind number s = go (step p kind number s) refl (step-outcome p s kind number)
     where
-      go : {Took : State → Type 0} (a : After State) → step p kind number s ≡ a → Outcome s Took a
+      go : {Took : State → Type 0} (a : After State) → step p kind number s ≡ a → StepOutcome s Took a
           → Replay p s (cond (eqb (a .answer) 0) (record { kind = kind; number = number; at = s } ∷ []) []) (a .state)
       go _ e (took h) = next e done
-      go _ e (kept r h) = rw (eqb-diff r 0 (refusal-some r h)) done
+      go _ e (kept r h) = rw (eqb-diff r 0 (refusal-not-0 r h)) done
 
   -- THE LAW, for every call ..
   pub call-replay : (c : Call) (s : State) → Replay p s (stepsOf p c s) (onState p c s .state)
@@ -59,16 +59,16 @@ module _ (p : Plan) where
 pub record Stopped (p : Plan) (bytes : List ℕ) (n : ℕ) (r : Ran State) : Type 0 where
   pub some : r .answer ≢ 0
   pub below : r .done < n
-  pub at : stepAt p bytes (r .done) (r .state) ≡ refused (r .answer) (r .state)
+  pub at : stepAt p bytes (r .done) (r .state) ≡ refusedBy (r .answer) (r .state)
 
 abbrev pub Ended : Plan → List ℕ → ℕ → Ran State → Type 0
 Ended p bytes n r = ((r .answer ≡ 0) × (r .done ≡ n)) ⊎ Stopped p bytes n r
 
 module _ (p : Plan) (bytes : List ℕ) where
-  one-more : (n d : ℕ) (y : State) → d ≡ n → {a : After State} {Took : State → Type 0} → stepAt p bytes n y ≡ a → Outcome y Took a → Ended p bytes (suc n) (counted d a)
+  one-more : (n d : ℕ) (y : State) → d ≡ n → {a : After State} {Took : State → Type 0} → stepAt p bytes n y ≡ a → StepOutcome y Took a → Ended p bytes (suc n) (countedTurn d a)
   one-more n d y e q (took h) = inl (refl, ap suc e)
   one-more n d y e q (kept r h) =
-      let z = refusal-some r h in
+      let z = refusal-not-0 r h in
       inr (rw (eqb-diff r 0 z) (record { some = z; below = omega arith; at = ap (λ k. stepAt p bytes k y) e ∙ q }))
 
   -- THE LAW
@@ -77,12 +77,12 @@ module _ (p : Plan) (bytes : List ℕ) where
   run-ends zero s = inl (refl, refl)
   run-ends (suc n) s = go (runs never n (stepAt p bytes) s) (run-ends n s)
     where
-      go : (r : Ran State) → Ended p bytes n r → Ended p bytes (suc n) (cond (eqb (r .answer) 0 && not (never (r .state))) (counted (r .done) (stepAt p bytes n (r .state))) r)
-      go r (inl h) = rw (eq-eqb (r .answer) 0 (h .0)) (one-more n (r .done) (r .state) (h .1) refl (steps p (r .state) (kindOf bytes n) (numberOf bytes n)))
+      go : (r : Ran State) → Ended p bytes n r → Ended p bytes (suc n) (cond (eqb (r .answer) 0 && not (never (r .state))) (countedTurn (r .done) (stepAt p bytes n (r .state))) r)
+      go r (inl h) = rw (eq-eqb (r .answer) 0 (h .0)) (one-more n (r .done) (r .state) (h .1) refl (step-outcome p (r .state) (kindOf bytes n) (numberOf bytes n)))
       go r (inr h) = rw (ne-eqb (r .answer) 0 (h .some)) (inr (record { some = h .some; below = omega (arith, h .below); at = h .at }))
 
   -- the steps done are the steps taken
-  pub run-done : (n : ℕ) (s : State) → length (runsTrace never n (stepAt p bytes) (λ i. ifTaken p (kindOf bytes i) (numberOf bytes i)) s) ≡ runs never n (stepAt p bytes) s .done
+  run-done : (n : ℕ) (s : State) → length (runsTrace never n (stepAt p bytes) (λ i. ifTaken p (kindOf bytes i) (numberOf bytes i)) s) ≡ runs never n (stepAt p bytes) s .done
   unfolding runs runsTrace ifTaken
   run-done zero s = refl
   run-done (suc n) s =
@@ -90,7 +90,7 @@ module _ (p : Plan) (bytes : List ℕ) where
       let t = runsTrace never n (stepAt p bytes) (λ i. ifTaken p (kindOf bytes i) (numberOf bytes i)) s in
       let i = run-done n s in
       by-test (eqb (r .answer) 0 && true)
-      (λ b. length (t ++ cond b (ifTaken p (kindOf bytes n) (numberOf bytes n) (r .state)) []) ≡ cond b (counted (r .done) (stepAt p bytes n (r .state))) r .done)
+      (λ b. length (t ++ cond b (ifTaken p (kindOf bytes n) (numberOf bytes n) (r .state)) []) ≡ cond b (countedTurn (r .done) (stepAt p bytes n (r .state))) r .done)
       (length-append t (ifTaken p (kindOf bytes n) (numberOf bytes n) (r .state)) ∙ by-test (eqb (stepAt p bytes n (r .state) .answer) 0)
       (λ b. length t + length {A = Taken} (cond b (record { kind = kindOf bytes n; number = numberOf bytes n; at = r .state } ∷ []) []) ≡ cond b (suc (r .done)) (r .done))
       (omega (arith, i)) (omega (arith, i)))
@@ -103,7 +103,7 @@ pub record RefusedStep (p : Plan) (a : After State) : Type 0 where
   pub some : a .answer ≢ 0
   pub kind : ℕ
   pub number : ℕ
-  pub at : step p kind number (a .state) ≡ refused (a .answer) (a .state)
+  pub at : step p kind number (a .state) ≡ refusedBy (a .answer) (a .state)
 
 abbrev Goes : Plan → After State → Type 0
 Goes p a = (a .answer ≡ 0) ⊎ RefusedStep p a
@@ -115,11 +115,11 @@ RoundsEnded p limit r =
 
 module _ (p : Plan) where
   step-goes : (kind number : ℕ) (s : State) → Goes p (step p kind number s)
-  step-goes kind number s = go (steps p s kind number) refl
+  step-goes kind number s = go (step-outcome p s kind number) refl
     where
-      go : {a : After State} {Took : State → Type 0} → Outcome s Took a → step p kind number s ≡ a → Goes p a
+      go : {a : After State} {Took : State → Type 0} → StepOutcome s Took a → step p kind number s ≡ a → Goes p a
       go (took h) e = inl refl
-      go (kept r h) e = inr (record { some = refusal-some r h; kind = kind; number = number; at = e })
+      go (kept r h) e = inr (record { some = refusal-not-0 r h; kind = kind; number = number; at = e })
 
   -- turns that go, one after the other
   loop-goes : (n : ℕ) (g : ℕ → State → After State) → ((k : ℕ) (y : State) → Goes p (g k y)) → (x : State) → Goes p (loop n g x)
@@ -139,11 +139,11 @@ module _ (p : Plan) where
   rounds-end zero s = inl (refl, inl refl)
   rounds-end (suc n) s = go (runs atRest n (λ i. round p) s) (rounds-end n s)
     where
-      turned : (r : Ran State) → r .done ≡ n → (a : After State) → Goes p a → RoundsEnded p (suc n) (counted (r .done) a)
+      turned : (r : Ran State) → r .done ≡ n → (a : After State) → Goes p a → RoundsEnded p (suc n) (countedTurn (r .done) a)
       turned r d a (inl z) = rw (eq-eqb (a .answer) 0 z) (inl (z, inl (ap suc d)))
       turned r d a (inr f) = rw (ne-eqb (a .answer) 0 (f .some)) (inr (omega (arith, d), f))
 
-      go : (r : Ran State) → RoundsEnded p n r → RoundsEnded p (suc n) (cond (eqb (r .answer) 0 && not (atRest (r .state))) (counted (r .done) (round p (r .state))) r)
+      go : (r : Ran State) → RoundsEnded p n r → RoundsEnded p (suc n) (cond (eqb (r .answer) 0 && not (atRest (r .state))) (countedTurn (r .done) (round p (r .state))) r)
       go r (inr h) = rw (ne-eqb (r .answer) 0 (h .1 .some)) (inr (omega (arith, h .0), h .1))
       go r (inl (e, inr q)) = rw (eq-eqb (r .answer) 0 e, q) (inl (e, inr q))
       go r (inl (e, inl d)) = bool-cases (atRest (r .state))

@@ -42,8 +42,8 @@ module _ (p : Plan) (v : ℕ) where
   pub over-16 : (x : Send) → Packs x → endOf p v (x .edge) < 65536
   over-16 x h = omega (arith, end-small p v (x .edge) (h .small))
 
-  pub reads : (x : Send) → Packs x → Reads x
-  reads x h =
+  pub send-reads : (x : Send) → Packs x → Reads x
+  send-reads x h =
       let e = waiting-back (x .msg) (endOf p v (x .edge)) false (h .listed) (over-16 x h) in
       record { msg = ap (λ (w : Waiting). w .msg) e; link = ap (λ (w : Waiting). w .link) e; handed = ap (λ (w : Waiting). w .handed) e }
 
@@ -83,7 +83,7 @@ module _ (p : Plan) (v : ℕ) where
   unfolding onto
   post-chan d s nil = ap (chan d) (append-nil s) ∙ sym (append-nil (chan d s))
   post-chan d s (con {x} {xs} h t) =
-      let r = reads x h in
+      let r = send-reads x h in
       let w = wordOf p v x in
       ap (chan d) (sym (append-assoc s (w ∷ []) (posted p v xs))) ∙ post-chan d (s ++ (w ∷ [])) t
       ∙ eqb-cases (endOf p v (x .edge)) d (λ b. chan d (s ++ (w ∷ [])) ++ onto d xs ≡ chan d s ++ cond b (x .msg ∷ onto d xs) (onto d xs))

@@ -1,9 +1,9 @@
 -- From steps to calls: what holds of each step, taken or refused, holds of each turn, round, run and call.
-use Prim.Native.Nat.{ℕ, _+_, _*_}
+use Prim.Native.Nat.{ℕ, _*_}
 use mathlib.Core.Bool.{cond}
 use mathlib.Core.List.{List, [], _++_}
 use lib.Dec.{eqb}
-use Rattle.base.specs.Loop.{Ran, then, counted, loopTrace, runsTrace}
+use Rattle.base.specs.Loop.{Ran, then, countedTurn, loopTrace, runsTrace}
 use Rattle.base.specs.LoopLaws.{by-test, loop-tells, runs-tell}
 use Rattle.plan.specs.Links.{Plan, modulesOf, linksOf}
 use Rattle.field.specs.State.{State}
@@ -16,7 +16,7 @@ use Rattle.field_calls.specs.Trail.{Taken, ifTaken, handTurnSteps, serveTurnSte
 
 -- what a call does to a state that 31 does not refuse
 unfoldable pub onState : Plan → Call → State → Ran State
-onState p (one kind number) s = counted 0 (step p kind number s)
+onState p (one kind number) s = countedTurn 0 (step p kind number s)
 onState p (run bytes) s =
     cond (eqb (scheduleRefusal bytes) 0) (scheduleRun p bytes s) (record { done = 0; answer = scheduleRefusal bytes; state = s })
 onState p (rounds limit) s = roundsRun p limit s

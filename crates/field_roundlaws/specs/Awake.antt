@@ -23,7 +23,7 @@ use Rattle.field.specs.Step.{wakeWork, step}
 use Rattle.field.specs.Held.{Held, stateOf, setUp}
 use Rattle.field_calls.specs.Call.{Call, after}
 use Rattle.field_calls.specs.Trail.{Taken, ifTaken, trail, connectOrTest, wakesOne, wokenIn}
-use Rattle.field_laws.specs.Cases.{Woke, Served, refusal-some, Outcome, took, kept, Step, wake-step, hand-step, serve-step, steps}
+use Rattle.field_laws.specs.Cases.{Woke, Served, refusal-not-0, StepOutcome, took, kept, FieldStep, wake-step, hand-step, serve-step, step-outcome}
 use Rattle.field_laws.specs.Places.{node-same, node-other}
 use Rattle.field_laws.specs.Keeps.{Sound, step-keeps}
 use Rattle.field_laws.specs.Laid.{Live, live-sound}
@@ -109,7 +109,7 @@ module _ (p : Plan) (a : Accepted p) where
             (⊎-elim (λ q. ⊎-elim inl (λ r. inr (Memᴰ·append-left (wokenIn p m) r)) (b .only v q)) (λ r. inr (Memᴰ·append-right (wokenIn p l) r)) (c .only v k));
       }
 
-  took-wakes : (s : State) (kind number : ℕ) (s′ : State) → Sound p s → Sound p s′ → Step p s kind number s′ → Wakes p s (record { kind = kind; number = number; at = s } ∷ []) s′
+  took-wakes : (s : State) (kind number : ℕ) (s′ : State) → Sound p s → Sound p s′ → FieldStep p s kind number s′ → Wakes p s (record { kind = kind; number = number; at = s } ∷ []) s′
   unfolding wokenIn wakesOne
   took-wakes s _ _ s′ i j (wake-step {v} h) =
       let r = woke-responds p a s s′ i v h in
@@ -138,11 +138,11 @@ module _ (p : Plan) (a : Accepted p) where
 
   pub step-wakes : (kind number : ℕ) (s : State) → Sound p s → Wakes p s (ifTaken p kind number s) (step p kind number s .state)
   unfolding ifTaken
-  step-wakes kind number s i = go (steps p s kind number) (step-keeps p a s i kind number)
+  step-wakes kind number s i = go (step-outcome p s kind number) (step-keeps p a s i kind number)
     where
-      go : {r : After State} → Outcome s (Step p s kind number) r → Sound p (r .state) → Wakes p s (cond (eqb (r .answer) 0) (record { kind = kind; number = number; at = s } ∷ []) []) (r .state)
+      go : {r : After State} → StepOutcome s (FieldStep p s kind number) r → Sound p (r .state) → Wakes p s (cond (eqb (r .answer) 0) (record { kind = kind; number = number; at = s } ∷ []) []) (r .state)
       go (took {s′} h) j = took-wakes s kind number s′ i j h
-      go (kept r h) j = rw (eqb-diff r 0 (refusal-some r h)) (wakes-none s i)
+      go (kept r h) j = rw (eqb-diff r 0 (refusal-not-0 r h)) (wakes-none s i)
 
   -- the same for every list of calls
   pub list-wakes : (cs : List Call) (h : Held) → Live h → h .field .plan ≡ p → Wakes p (stateOf h) (trail cs h) (stateOf (after cs h))

@@ -19,13 +19,13 @@ use Rattle.field.specs.State.{State, nodeAt}
 use Rattle.field.specs.Step.{serveWork, serve, step}
 use Rattle.base.specs.Keep.{many}
 use Rattle.field_laws.specs.Keeps.{Sound}
-use Rattle.field_roundlaws.specs.Progress.{progress, up, Blocked, Still}
+use Rattle.field_roundlaws.specs.Progress.{progress, up, BlockedWord, Still}
 
 -- THE PREMISES: an invariant of the steps, under which no service is refused by 32 or 33, and nothing waits where every waiting message is blocked
 pub record Calm (p : Plan) (Good : State → Type 0) : Type 0 where
   pub keeps : (kind number : ℕ) (s : State) → Sound p s → Good s → Good (step p kind number s .state)
   pub unrefused : (v : ℕ) (s : State) → Sound p s → Good s → (serve p v s .answer ≢ 32) × (serve p v s .answer ≢ 33)
-  pub stuck : (s : State) → Sound p s → Good s → All (Blocked p s) (s .words) → s .words ≡ []
+  pub stuck : (s : State) → Sound p s → Good s → All (BlockedWord p s) (s .words) → s .words ≡ []
 
 pub many-keep : (q : ℕ → Bool) (l : List ℕ) → many q l ≡ length (keep q l)
 unfolding many keep
@@ -46,7 +46,7 @@ still-progress p x y h e =
     ap₂ (λ a b. a - b + sum (modulesOf p) (up y)) (h .sent) e
     ∙ ap (λ c. x .sent - length (x .words) + sum (modulesOf p) (up (record { cells = c; marks = x .marks; words = x .words; sent = x .sent }))) (h .cells)
 
-pub still-blocked : (p : Plan) (x y : State) → Still x y → (w : ℕ) → Blocked p y w → Blocked p x w
+pub still-blocked : (p : Plan) (x y : State) → Still x y → (w : ℕ) → BlockedWord p y w → BlockedWord p x w
 still-blocked p x y h w b = record {
   back = subst (λ m. serveWork p v w (record { cells = x .cells; marks = m; words = x .words; sent = x .sent }) .answer ≡ BACK) (h .marks)
       (subst (λ c. serveWork p v w (record { cells = c; marks = y .marks; words = x .words; sent = x .sent }) .answer ≡ BACK) (h .cells) (b .back));

@@ -22,7 +22,7 @@ use Rattle.field.specs.State.{State}
 use Rattle.field.specs.Step.{inAir, hand, step}
 use Rattle.field.specs.Valid.{wordFits}
 use Rattle.field_calls.specs.Rounds.{handTurn, handPhase}
-use Rattle.field_laws.specs.Cases.{hands, took-it, hand-fine}
+use Rattle.field_laws.specs.Cases.{hand-outcome, took-it, hand-fine}
 use Rattle.field_laws.specs.Chan.{air-parts, made, not-right}
 use Rattle.field_laws.specs.Fits.{word-shaped, word-link}
 use Rattle.field_laws.specs.Keeps.{Sound, step-keeps, out-length}
@@ -78,7 +78,7 @@ module _ (p : Plan) (a : Accepted p) (Good : State → Type 0) (calm : Calm p Go
     turn-on : (j : ℕ) → j < length (keep (inAir d) (y .words)) → Turn d y j z → Ok (Turn d y (suc j)) (hand p d z)
     turn-on j less t =
         let fine = hand-fine p z d l (omega (arith, t .own)) in
-        let h = took-it (hands p z d) fine in
+        let h = took-it (hand-outcome p z d) fine in
         let x = h .word in
         let r = h .rest in
         let s = t .sound in

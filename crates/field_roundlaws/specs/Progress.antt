@@ -24,7 +24,7 @@ use Rattle.field_laws.specs.Sends.{length-posted}
 use Rattle.field_laws.specs.Cases.{Served}
 use Rattle.field_laws.specs.Places.{node-same, node-other, node-back, marks-back}
 use Rattle.field_laws.specs.Keeps.{Sound, out-length}
-use Rattle.field_roundlaws.specs.Steady.{Steady, Ends, Waits, ends-awake, ends-asleep, stays-up}
+use Rattle.field_roundlaws.specs.Steady.{Steady, SteadyOr, PutsBack, ends-awake, ends-asleep, stays-up}
 
 -- 1 for a node that is awake
 abbrev pub up : State → ℕ → ℕ
@@ -47,7 +47,7 @@ unfolding progress
 progress-le p s i = omega (arith, i .fits .ceiling, awake-le p s)
 
 -- the word would be put back by its node, which is awake
-pub record Blocked (p : Plan) (s : State) (x : ℕ) : Type 0 where
+pub record BlockedWord (p : Plan) (s : State) (x : ℕ) : Type 0 where
   pub back : serveWork p (dest p (linkIn x)) x s .answer ≡ BACK
   pub awake : nodeAt s (dest p (linkIn x)) .status ≢ ASLEEP
 
@@ -80,7 +80,7 @@ module _ (p : Plan) (a : Accepted p) (s s′ : State) (v : ℕ) (i : Sound p s) 
   begins : nodeAt s v .status ≢ ASLEEP → Steady fresh
   begins n = record { answer = λ e. omega arith; awake = n }
 
-  ends : nodeAt s v .status ≢ ASLEEP → Ends fresh (Waits (linkOf (linkIn x)) fresh (msgIn x)) w
+  ends : nodeAt s v .status ≢ ASLEEP → SteadyOr fresh (PutsBack (linkOf (linkIn x)) fresh (msgIn x)) w
   ends n = ends-awake (ownOf p v) (limitOf p) (linkOf (linkIn x)) (msgIn x) fresh (begins n)
 
   -- v is awake afterwards
@@ -111,10 +111,10 @@ module _ (p : Plan) (a : Accepted p) (s s′ : State) (v : ℕ) (i : Sound p s) 
   one-less = out-length (first-out (h .first))
 
   -- a message was consumed, or a sleeper woke, or a blocked message went to the end
-  pub record Turned : Type 0 where
+  pub record Moved : Type 0 where
     pub still : Still s s′
     pub words : s′ .words ≡ h .rest ++ (h .word ∷ [])
-    pub blocked : Blocked p s (h .word)
+    pub blocked : BlockedWord p s (h .word)
 
   back-none : w .answer ≢ BACK → backOf w x ≡ []
   unfolding backOf
@@ -137,7 +137,7 @@ module _ (p : Plan) (a : Accepted p) (s s′ : State) (v : ℕ) (i : Sound p s) 
   is-put-back : w .answer ≡ BACK → nodeAt s v .status ≢ ASLEEP → w ≡ putBack fresh
   is-put-back b n = ⊎-elim (λ k. absurd (k .answer b)) (λ t. t .1) (ends n)
 
-  stays : w .answer ≡ BACK → nodeAt s v .status ≢ ASLEEP → Turned
+  stays : w .answer ≡ BACK → nodeAt s v .status ≢ ASLEEP → Moved
   stays b n =
       let e = is-put-back b n in
       let is = h .responds .is ∙ ap₂ (λ r l. placed p v r s (h .rest) l) e (back-one b) in
@@ -156,5 +156,5 @@ module _ (p : Plan) (a : Accepted p) (s s′ : State) (v : ℕ) (i : Sound p s) 
       }
 
   -- THE LAW
-  pub serve-moves : (progress p s < progress p s′) ⊎ Turned
+  pub serve-moves : (progress p s < progress p s′) ⊎ Moved
   serve-moves = by-eq (w .answer) BACK (λ b. by-eq (nodeAt s v .status) ASLEEP (λ e. inl (woke b e)) (λ n. inr (stays b n))) (λ n. inl (consumed n))

@@ -22,14 +22,14 @@ use Rattle.field.specs.Held.{Held, stateOf, fresh}
 use Rattle.field_calls.specs.Schedule.{scheduleRefusal, scheduleRun, lengthFits, kindListed, stepsIn, kindOf, numberOf, stepAt, never}
 use Rattle.field_calls.specs.Rounds.{roundsRun}
 use Rattle.field_calls.specs.Call.{Call, one, run, rounds, does, runRounds, after, answers}
-use Rattle.field_calls.specs.Demand.{TreeLink, Allowed, Agreed, Settles, Claim, Demand3}
-use Rattle.field_laws.specs.Cases.{Outcome, took, kept, steps}
+use Rattle.field_calls.specs.Demand.{TreeLink, Allowed, Agreed, ComesToRest, Claim, Demand3}
+use Rattle.field_laws.specs.Cases.{StepOutcome, took, kept, step-outcome}
 use Rattle.field_laws.specs.Keeps.{Sound, step-keeps}
 use Rattle.field_laws.specs.Trace.{onState, call-keeps}
 use Rattle.field_laws.specs.Laid.{waiting-zeros, Live, live-sound, does-live, does-state, state-of-does, plan-of-does, answer-of-does}
 use Rattle.field_laws.specs.After.{started, begun-live, after-live, after-plan, list-counts, list-keeps}
 use Rattle.field_laws.specs.Messages.{times-conserved, number-conserved}
-use Rattle.field_roundlaws.specs.Progress.{Blocked}
+use Rattle.field_roundlaws.specs.Progress.{BlockedWord}
 use Rattle.field_roundlaws.specs.Calm.{Calm}
 use Rattle.field_roundlaws.specs.Rest.{rested}
 use Rattle.field_roundlaws.specs.Awake.{Awake, list-wakes}
@@ -43,7 +43,7 @@ pub record Protocol (p : Plan) (Good : State → Type 0) : Type 0 where
   -- no step is refused by 32 or 33
   pub unrefused : (kind number : ℕ) (s : State) → Sound p s → Good s → (step p kind number s .answer ≢ 32) × (step p kind number s .answer ≢ 33)
   -- nothing waits where every waiting message is blocked
-  pub stuck : (s : State) → Sound p s → Good s → All (Blocked p s) (s .words) → s .words ≡ []
+  pub stuck : (s : State) → Sound p s → Good s → All (BlockedWord p s) (s .words) → s .words ≡ []
   -- branches are tree links
   pub branches : (s : State) → Sound p s → Good s → (v k : ℕ) → markAt p s v k ≡ BRANCH → TreeLink p k
   -- at rest, with module v awake, all agree
@@ -75,7 +75,7 @@ usual-schedule : (r : ℕ) → OfSchedule r → Usual r
 usual-schedule r (inl e) = inl e
 usual-schedule r (inr h) = inr (inr h)
 
-usual-step : {s : State} {Took : State → Type 0} {a : After State} → Outcome s Took a → a .answer ≢ 32 → a .answer ≢ 33 → Usual (a .answer)
+usual-step : {s : State} {Took : State → Type 0} {a : After State} → StepOutcome s Took a → a .answer ≢ 32 → a .answer ≢ 33 → Usual (a .answer)
 usual-step (took h) x y = inl refl
 usual-step (kept r (inl e)) x y = absurd (x e)
 usual-step (kept r (inr (inl e))) x y = absurd (y e)
@@ -93,7 +93,7 @@ module _ (p : Plan) (a : Accepted p) (Good : State → Type 0) (proto : Protocol
   calm = record { keeps = proto .keeps; unrefused = λ v s i g. proto .unrefused 3 v s i g; stuck = proto .stuck }
 
   step-usual : (kind number : ℕ) (s : State) → Sound p s → Good s → Usual (step p kind number s .answer)
-  step-usual kind number s i g = let u = proto .unrefused kind number s i g in usual-step (steps p s kind number) (u .0) (u .1)
+  step-usual kind number s i g = let u = proto .unrefused kind number s i g in usual-step (step-outcome p s kind number) (u .0) (u .1)
 
   -- a call on a good state answers what it may
   call-allowed : (c : Call) (s : State) → Sound p s → Good s → Allowed c (onState p c s .answer)
@@ -128,7 +128,7 @@ module _ (p : Plan) (a : Accepted p) (Good : State → Type 0) (proto : Protocol
       (allowed cs (does c h .state) (does-live h i c) (plan-of-does h i c ∙ e) next)
 
   -- what a run of rounds leaves
-  settling : (h : Held) → Live h → h .field .plan ≡ p → Good (stateOf h) → (limit : ℕ) → ceilingOf p + modulesOf p ≤ limit → Settles p (runRounds limit h)
+  settling : (h : Held) → Live h → h .field .plan ≡ p → Good (stateOf h) → (limit : ℕ) → ceilingOf p + modulesOf p ≤ limit → ComesToRest p (runRounds limit h)
   unfolding does onState
   settling h i e g limit l =
       let r = rested p a Good calm (stateOf h) (sound-held h i e) g limit in
@@ -157,7 +157,7 @@ module _ (p : Plan) (a : Accepted p) (Good : State → Type 0) (proto : Protocol
         ceiling = s′ .fits .ceiling;
         refusals = allowed cs h i e g;
         agreed = λ n r. let k = one-of n (w .woken) in proto .agreed (stateOf h′) s′ g′ (k .0) (k .1) r;
-        settles = settling h′ i′ e′ g′;
+        rests = settling h′ i′ e′ g′;
       }
 
 -- THE REDUCTION

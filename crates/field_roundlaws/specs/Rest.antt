@@ -9,7 +9,7 @@ use lib.ListN.{length}
 use lib.Dec.{eqb}
 use borrow.Author.Tests.{eqb-true, eq-eqb}
 use Rattle.base.specs.Cond.{bool-cases, eqb-cases}
-use Rattle.base.specs.Loop.{Ran, runs, counted}
+use Rattle.base.specs.Loop.{Ran, runs, countedTurn}
 use Rattle.base.specs.LoopLaws.{Ok, then-on}
 use Rattle.base.specs.Pool.{All, nil, con, All-map}
 use Rattle.base.specs.Keep.{keep, keep-yes, keep-no}
@@ -29,10 +29,10 @@ use Rattle.field_laws.specs.Chan.{made}
 use Rattle.field_laws.specs.Places.{dest-below}
 use Rattle.field_laws.specs.Fits.{word-link}
 use Rattle.field_laws.specs.Keeps.{Sound}
-use Rattle.field_roundlaws.specs.Progress.{progress, awake-le, progress-le, Blocked}
+use Rattle.field_roundlaws.specs.Progress.{progress, awake-le, progress-le, BlockedWord}
 use Rattle.field_roundlaws.specs.Calm.{Calm, still-progress, still-blocked}
 use Rattle.field_roundlaws.specs.Handing.{Handing, handing, all-handed}
-use Rattle.field_roundlaws.specs.Serving.{Calmly, serving}
+use Rattle.field_roundlaws.specs.Serving.{Calmly, served-phase}
 
 -- what holds in each queue holds of all words, once every word was handed over
 module _ (p : Plan) (a : Accepted p) {B : ℕ → Type 0} where
@@ -52,7 +52,7 @@ module _ (p : Plan) (a : Accepted p) {B : ℕ → Type 0} where
       (λ e. subst (All B) (keep-no (inQueue p v) x l e) (q v less))))
 
 -- a word that is blocked once handed over is blocked
-blocked-low : (p : Plan) (s : State) (x : ℕ) → shaped x ≡ true → Blocked p s (handOver x) → Blocked p s x
+blocked-low : (p : Plan) (s : State) (x : ℕ) → shaped x ≡ true → BlockedWord p s (handOver x) → BlockedWord p s x
 blocked-low p s x shape b = record {
   back = subst (λ d. respond (ownOf p (dest p d)) (limitOf p) (msgIn x) (linkOf d) (nodeAt s (dest p d)) (markAt p s (dest p d)) .answer ≡ BACK) (u .link)
       (subst (λ m. respond (ownOf p (dest p d′)) (limitOf p) m (linkOf d′) (nodeAt s (dest p d′)) (markAt p s (dest p d′)) .answer ≡ BACK) says (b .back));
@@ -79,10 +79,10 @@ module _ (p : Plan) (a : Accepted p) (Good : State → Type 0) (calm : Calm p Go
   pub rounded : (f : State) → Sound p f → Good f → Ok (Rounded f) (round p f)
   unfolding round
   rounded f i g =
-      let h = handing p a Good calm (Blocked p f) (blocked-low p f) f i g in
+      let h = handing p a Good calm (BlockedWord p f) (blocked-low p f) f i g in
       let m = handPhase p f .state in
       let k = h .holds in
-      let s = serving p a Good calm m (k .sound) (k .good) in
+      let s = served-phase p a Good calm m (k .sound) (k .good) in
       let y = servePhase p m .state in
       rw (then-on (handPhase p f) (servePhase p) (h .fine))
       (record {
@@ -90,7 +90,7 @@ module _ (p : Plan) (a : Accepted p) (Good : State → Type 0) (calm : Calm p Go
         holds = record { sound = s .holds .sound; good = s .holds .good; moves = go m y k (s .holds .quiet) };
       })
     where
-      go : (m y : State) → Handing p a Good calm (Blocked p f) (blocked-low p f) f (2 * linksOf p) m → (progress p m < progress p y) ⊎ Calmly p a Good calm m (modulesOf p) y
+      go : (m y : State) → Handing p a Good calm (BlockedWord p f) (blocked-low p f) f (2 * linksOf p) m → (progress p m < progress p y) ⊎ Calmly p a Good calm m (modulesOf p) y
           → (progress p f < progress p y) ⊎ (f .words ≡ [])
       go m y k (inl less) = inl (omega (arith, still-progress p f m (k .still) (k .long)))
       go m y k (inr c) = inr (calm .stuck f i g (k .back (All-map (λ x b. still-blocked p f m (k .still) x b)
@@ -110,9 +110,9 @@ module _ (p : Plan) (a : Accepted p) (Good : State → Type 0) (calm : Calm p Go
   no-words (x ∷ l) e = absurd (omega arith)
 
   going-on : (f : State) (n : ℕ) (r : Ran State) → Going f n r
-      → Going f (suc n) (cond (eqb (r .answer) 0 && not (atRest (r .state))) (counted (r .done) (round p (r .state))) r)
+      → Going f (suc n) (cond (eqb (r .answer) 0 && not (atRest (r .state))) (countedTurn (r .done) (round p (r .state))) r)
   going-on f n r k = rw (eq-eqb (r .answer) 0 (k .answer)) (eqb-cases (length (r .state .words)) 0
-      (λ b. Going f (suc n) (cond (not b) (counted (r .done) (round p (r .state))) r))
+      (λ b. Going f (suc n) (cond (not b) (countedTurn (r .done) (round p (r .state))) r))
       (λ e. record { answer = k .answer; sound = k .sound; good = k .good; risen = k .risen; ended = inr (no-words _ e) })
       (λ z. let o = rounded (r .state) (k .sound) (k .good) in
       rw (o .fine)

@@ -19,21 +19,20 @@ use Rattle.node.specs.Work.{Work, Send}
 use Rattle.field.specs.Edges.{dest}
 use Rattle.field.specs.State.{State, wordOf, posted}
 use Rattle.field.specs.Step.{inQueue, serveWork, backOf, serve, step}
-use Rattle.base.specs.Keep.{many}
 use Rattle.field_calls.specs.Rounds.{serveTurn, servePhase}
-use Rattle.field_laws.specs.Cases.{Served, serves, took-it, serve-fine}
+use Rattle.field_laws.specs.Cases.{Served, serve-outcome, took-it, serve-fine}
 use Rattle.field_laws.specs.Chan.{queue-parts, not-left, not-right}
-use Rattle.field_laws.specs.Sends.{Packs, reads}
+use Rattle.field_laws.specs.Sends.{Packs, send-reads}
 use Rattle.field_laws.specs.Fits.{sends-pack}
 use Rattle.field_laws.specs.Keeps.{Sound, step-keeps, serve-ok, out-length}
-use Rattle.field_roundlaws.specs.Progress.{progress, Blocked, Still, Turned, serve-moves}
+use Rattle.field_roundlaws.specs.Progress.{progress, BlockedWord, Still, Moved, serve-moves}
 use Rattle.field_roundlaws.specs.Calm.{Calm, many-keep, still-same, still-on, still-progress, still-blocked}
 
 -- what is sent is in no queue
 posted-none : (p : Plan) (u v : ℕ) {l : List Send} → All Packs l → keep (inQueue p u) (posted p v l) ≡ []
 posted-none p u v nil = keep-nil (inQueue p u)
 posted-none p u v (con {x} {xs} h t) =
-    keep-no (inQueue p u) (wordOf p v x) (posted p v xs) (not-left (handedIn (wordOf p v x)) (dest p (linkIn (wordOf p v x))) u (reads p v x h .handed)) ∙ posted-none p u v t
+    keep-no (inQueue p u) (wordOf p v x) (posted p v xs) (not-left (handedIn (wordOf p v x)) (dest p (linkIn (wordOf p v x))) u (send-reads p v x h .handed)) ∙ posted-none p u v t
 
 cons-inj : {x y : ℕ} {l m : List ℕ} → x ∷ l ≡ y ∷ m → (x ≡ y) × (l ≡ m)
 cons-inj e = (cc, cc)
@@ -43,7 +42,7 @@ module _ (p : Plan) (a : Accepted p) (Good : State → Type 0) (calm : Calm p Go
   record Quiet (v : ℕ) (y : State) (done : List ℕ) (z : State) : Type 0 where
     still : Still y z
     same : progress p z ≡ progress p y
-    blocked : All (Blocked p y) done
+    blocked : All (BlockedWord p y) done
     other : (u : ℕ) → v ≢ u → keep (inQueue p u) (z .words) ≡ keep (inQueue p u) (y .words)
 
   -- after j services of v's turn, which began at y: `done` are served, `left` wait still, `again` came since
@@ -95,7 +94,7 @@ module _ (p : Plan) (a : Accepted p) (Good : State → Type 0) (calm : Calm p Go
       elsewhere u n = not-right (handedIn (h .word)) (dest p (linkIn (h .word))) u (λ q. n (sym (queue-parts p v (h .word) (first-passes (h .first)) .1) ∙ q))
 
       -- what a blocked word leaves alone
-      module _ (t : Turned p a z z′ v i h) where
+      module _ (t : Moved p a z z′ v i h) where
         moved-same : progress p z′ ≡ progress p z
         moved-same = still-progress p z z′ (t .still) (ap length (t .words) ∙ omega (arith, length-append (h .rest) (h .word ∷ []), out-length (first-out (h .first))))
 
@@ -105,7 +104,7 @@ module _ (p : Plan) (a : Accepted p) (Good : State → Type 0) (calm : Calm p Go
             ∙ ap (λ m. keep (inQueue p u) (h .rest) ++ m) (keep-none (inQueue p u) (h .word) (elsewhere u n)) ∙ append-nil (keep (inQueue p u) (h .rest))
             ∙ sym (others (inQueue p u) (elsewhere u n) (h .first))
 
-      quiet-on : (c : ℕ) (done : List ℕ) → h .word ≡ c → (progress p y < progress p z) ⊎ Quiet v y done z → (progress p z < progress p z′) ⊎ Turned p a z z′ v i h
+      quiet-on : (c : ℕ) (done : List ℕ) → h .word ≡ c → (progress p y < progress p z) ⊎ Quiet v y done z → (progress p z < progress p z′) ⊎ Moved p a z z′ v i h
           → (progress p y < progress p z′) ⊎ Quiet v y (done ++ (c ∷ [])) z′
       quiet-on c done e (inl q) (inl m) = inl (omega arith)
       quiet-on c done e (inl q) (inr t) = inl (omega (arith, moved-same t))
@@ -114,7 +113,7 @@ module _ (p : Plan) (a : Accepted p) (Good : State → Type 0) (calm : Calm p Go
           (record {
             still = still-on (q .still) (t .still);
             same = moved-same t ∙ q .same;
-            blocked = All-app (q .blocked) (All-one (subst (Blocked p y) e (still-blocked p y z (q .still) (h .word) (t .blocked))));
+            blocked = All-app (q .blocked) (All-one (subst (BlockedWord p y) e (still-blocked p y z (q .still) (h .word) (t .blocked))));
             other = λ u n. moved-other t u n ∙ q .other u n;
           })
 
@@ -145,7 +144,7 @@ module _ (p : Plan) (a : Accepted p) (Good : State → Type 0) (calm : Calm p Go
         let fine = serve-fine p z v l some (ok .0) (ok .1) in
         record {
           fine = fine;
-          holds = serving-on (t .sound) (took-it (serves p z v) fine) j (t .done) (t .left) (t .again) less (t .split) (t .many) (t .queue) (t .quiet) (sound-on (t .sound)) (good-on (t .sound) (t .good));
+          holds = serving-on (t .sound) (took-it (serve-outcome p z v) fine) j (t .done) (t .left) (t .again) less (t .split) (t .many) (t .queue) (t .quiet) (sound-on (t .sound)) (good-on (t .sound) (t .good));
         }
 
   -- the whole turn of v
@@ -180,7 +179,7 @@ module _ (p : Plan) (a : Accepted p) (Good : State → Type 0) (calm : Calm p Go
   pub record Calmly (m : State) (k : ℕ) (z : State) : Type 0 where
     pub still : Still m z
     pub same : progress p z ≡ progress p m
-    pub blocked : (u : ℕ) → u < k → All (Blocked p m) (keep (inQueue p u) (m .words))
+    pub blocked : (u : ℕ) → u < k → All (BlockedWord p m) (keep (inQueue p u) (m .words))
     pub later : (u : ℕ) → k ≤ u → keep (inQueue p u) (z .words) ≡ keep (inQueue p u) (m .words)
 
   pub record Phase (m : State) (k : ℕ) (z : State) : Type 0 where
@@ -198,15 +197,15 @@ module _ (p : Plan) (a : Accepted p) (Good : State → Type 0) (calm : Calm p Go
         still = still-on (c .still) (q .still);
         same = q .same ∙ c .same;
         blocked = λ u l. lt-suc-cases u k l
-            (λ e. subst (λ i. All (Blocked p m) (keep (inQueue p i) (m .words))) (sym e)
-            (subst (All (Blocked p m)) (sym (served-all k y z t) ∙ c .later k (omega arith)) (All-map (λ x b. still-blocked p m y (c .still) x b) (q .blocked))))
+            (λ e. subst (λ i. All (BlockedWord p m) (keep (inQueue p i) (m .words))) (sym e)
+            (subst (All (BlockedWord p m)) (sym (served-all k y z t) ∙ c .later k (omega arith)) (All-map (λ x b. still-blocked p m y (c .still) x b) (q .blocked))))
             (λ lt. c .blocked u lt);
         later = λ u l. q .other u (λ e. omega arith) ∙ c .later u (omega arith);
       })
 
   -- THE LAW of the second half
-  pub serving : (m : State) → Sound p m → Good m → Ok (Phase m (modulesOf p)) (servePhase p m)
-  serving m i g = loop-ok (Phase m) (modulesOf p) (serveTurn p) m
+  pub served-phase : (m : State) → Sound p m → Good m → Ok (Phase m (modulesOf p)) (servePhase p m)
+  served-phase m i g = loop-ok (Phase m) (modulesOf p) (serveTurn p) m
       (record { sound = i; good = g; quiet = inr (record { still = still-same m; same = refl; blocked = λ u l. absurd (not-suc-le-zero l); later = λ u l. refl }) })
       (λ k y l t. let r = turn-all k y l (t .sound) (t .good) in
       record { fine = r .fine; holds = record { sound = r .holds .sound; good = r .holds .good; quiet = phase-quiet m k y (serveTurn p k y .state) (r .holds) (t .quiet) (r .holds .quiet) } })

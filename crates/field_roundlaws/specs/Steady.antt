@@ -11,7 +11,7 @@ use Rattle.format_message.specs.Msg.{Msg, none, connect, initiate, test, accept
 use Rattle.format_message.specs.Header.{msgOf}
 use Rattle.node.specs.declared.Node.{Node}
 use Rattle.node.specs.Work.{Own, Work, ASLEEP, FIND, FOUND, BASIC, BRANCH, BACK, REFUSED, before, putBack, refused, send, withNode, setTest, setCount, number, earliest, anyEdge, branches, degree}
-use Rattle.node.specs.Rules.{wakeOn, wakeup, awake, doReport, testOn, doTest, changeRoot, countUp, absorb, coreEnd, onConnect, told, seek, onInitiate, strike, onTest, childReport, coreReport, onReport, unlessAsleep, respondTo}
+use Rattle.node.specs.Rules.{wakeOn, wakeup, doReport, testOn, doTest, changeRoot, countUp, absorb, coreEnd, onConnect, told, seek, onInitiate, strike, onTest, childReport, coreReport, onReport, unlessAsleep, respondTo}
 use Rattle.node.specs.Laws.{awake-wakes, awake-is, asleep-refused, asleep-not}
 
 -- not put back, and awake
@@ -52,28 +52,28 @@ unfolding wakeOn
 steady-wake o w h = either (eqb (earliest o anyEdge (o.edges)) none) _ _ (record { answer = h; awake = λ e. omega arith }) (record { answer = h; awake = λ e. omega arith })
 
 -- an awake node that is as in w puts m back if it comes over j
-abbrev pub Waits : ℕ → Work → Msg → Type 0
-Waits j w (connect l) = (w .node .level ≤ l) × (w .mark j ≡ BASIC)
-Waits j w (initiate l f find) = ⊥
-Waits j w (test l f) = w .node .level < l
-Waits j w accept = ⊥
-Waits j w reject = ⊥
-Waits j w (report x) = (w .node .branch ≡ j) × (w .node .status ≡ FIND)
-Waits j w change = ⊥
+abbrev pub PutsBack : ℕ → Work → Msg → Type 0
+PutsBack j w (connect l) = (w .node .level ≤ l) × (w .mark j ≡ BASIC)
+PutsBack j w (initiate l f find) = ⊥
+PutsBack j w (test l f) = w .node .level < l
+PutsBack j w accept = ⊥
+PutsBack j w reject = ⊥
+PutsBack j w (report x) = (w .node .branch ≡ j) × (w .node .status ≡ FIND)
+PutsBack j w change = ⊥
 
 -- what a response to an awake node is: steady, or put back, for reason g, and nothing else
-abbrev pub Ends : Work → Type 0 → Work → Type 0
-Ends w g r = Steady r ⊎ (g × (r ≡ putBack w))
+abbrev pub SteadyOr : Work → Type 0 → Work → Type 0
+SteadyOr w g r = Steady r ⊎ (g × (r ≡ putBack w))
 
 module _ (o : Own) (limit j : ℕ) (w : Work) (h : Steady w) where
-  ends-connect : (l : ℕ) → Ends w (Waits j w (connect l)) (onConnect o limit l j w)
+  ends-connect : (l : ℕ) → SteadyOr w (PutsBack j w (connect l)) (onConnect o limit l j w)
   unfolding onConnect absorb countUp coreEnd
   ends-connect l = ltb-cases l (w .node .level)
-      (λ b. Ends w (Waits j w (connect l)) (cond b (absorb o j w) (cond (eqb (w .mark j) BASIC) (putBack w) (coreEnd limit j w))))
+      (λ b. SteadyOr w (PutsBack j w (connect l)) (cond b (absorb o j w) (cond (eqb (w .mark j) BASIC) (putBack w) (coreEnd limit j w))))
       (λ a. inl (either (eqb (w .node .status) FIND) _ _
       (either (ltb (degree o) (w .node .count + 1)) _ _ (record { answer = λ e. omega arith; awake = h .awake }) (record { answer = h .answer; awake = h .awake }))
       (record { answer = h .answer; awake = h .awake })))
-      (λ a. eqb-cases (w .mark j) BASIC (λ b. Ends w (Waits j w (connect l)) (cond b (putBack w) (coreEnd limit j w))) (λ q. inr ((a, q), refl))
+      (λ a. eqb-cases (w .mark j) BASIC (λ b. SteadyOr w (PutsBack j w (connect l)) (cond b (putBack w) (coreEnd limit j w))) (λ q. inr ((a, q), refl))
       (λ q. inl (either (leb limit (w .node .level)) _ _ (stopped w h) (record { answer = h .answer; awake = h .awake }))))
 
   steady-initiate : (l f find : ℕ) → Steady (onInitiate o l f find j w)
@@ -88,25 +88,25 @@ module _ (o : Own) (limit j : ℕ) (w : Work) (h : Steady w) where
   abbrev replies : ℕ → Work
   replies f = cond (eqb f (w .node .identity)) (cond (eqb (w .node .test) j) (doTest o (strike j w)) (send j reject (strike j w))) (send j accept w)
 
-  ends-test : (l f : ℕ) → Ends w (Waits j w (test l f)) (onTest o l f j w)
+  ends-test : (l f : ℕ) → SteadyOr w (PutsBack j w (test l f)) (onTest o l f j w)
   unfolding onTest
-  ends-test l f = ltb-cases (w .node .level) l (λ b. Ends w (Waits j w (test l f)) (cond b (putBack w) (replies f)))
+  ends-test l f = ltb-cases (w .node .level) l (λ b. SteadyOr w (PutsBack j w (test l f)) (cond b (putBack w) (replies f)))
       (λ a. inr (a, refl))
       (λ a. inl (either (eqb f (w .node .identity)) _ _
       (either (eqb (w .node .test) j) _ _ (steady-test _ _ (record { answer = h .answer; awake = h .awake })) (record { answer = h .answer; awake = h .awake }))
       (record { answer = h .answer; awake = h .awake })))
 
-  ends-report : (x : ℕ) → Ends w (Waits j w (report x)) (onReport o x j w)
+  ends-report : (x : ℕ) → SteadyOr w (PutsBack j w (report x)) (onReport o x j w)
   unfolding onReport childReport coreReport
   ends-report x = eqb-cases j (w .node .branch)
-      (λ b. Ends w (Waits j w (report x)) (cond b (cond (eqb (w .node .status) FIND) (putBack w) (coreReport o x w)) (childReport o x j w)))
-      (λ a. eqb-cases (w .node .status) FIND (λ b. Ends w (Waits j w (report x)) (cond b (putBack w) (coreReport o x w))) (λ q. inr ((sym a, q), refl))
+      (λ b. SteadyOr w (PutsBack j w (report x)) (cond b (cond (eqb (w .node .status) FIND) (putBack w) (coreReport o x w)) (childReport o x j w)))
+      (λ a. eqb-cases (w .node .status) FIND (λ b. SteadyOr w (PutsBack j w (report x)) (cond b (putBack w) (coreReport o x w))) (λ q. inr ((sym a, q), refl))
       (λ q. inl (either (before o (w .node .weight) x) _ _ (steady-root w h)
       (either (eqb x none && eqb (w .node .weight) none) _ w (record { answer = h .answer; awake = h .awake }) h))))
       (λ a. inl (either (eqb (w .node .count) 0) _ _ (stopped w h) (steady-report _ (record { answer = h .answer; awake = h .awake }))))
 
 -- THE LAW for a node that is awake ..
-pub ends-awake : (o : Own) (limit j : ℕ) (m : Msg) (w : Work) → Steady w → Ends w (Waits j w m) (respondTo o limit m j w)
+pub ends-awake : (o : Own) (limit j : ℕ) (m : Msg) (w : Work) → Steady w → SteadyOr w (PutsBack j w m) (respondTo o limit m j w)
 unfolding respondTo
 ends-awake o limit j (connect l) w h = rw (awake-is o w (h .awake)) (ends-connect o limit j w h l)
 ends-awake o limit j (initiate l f find) w h = inl (rw (asleep-not w _ (h .awake)) (steady-initiate o limit j w h l f find))
@@ -117,7 +117,7 @@ ends-awake o limit j (report x) w h = rw (asleep-not w _ (h .awake)) (ends-repor
 ends-awake o limit j change w h = inl (rw (asleep-not w _ (h .awake)) (steady-root w h))
 
 -- .. and for one that is asleep: it is refused, or awake afterwards
-pub stays-up : {g : Type 0} (w r : Work) → Steady w → Ends w g r → r .node .status ≢ ASLEEP
+pub stays-up : {g : Type 0} (w r : Work) → Steady w → SteadyOr w g r → r .node .status ≢ ASLEEP
 stays-up w r h (inl s) = s .awake
 stays-up w r h (inr t) = subst (λ x. x .node .status ≢ ASLEEP) (sym (t .1)) (h .awake)
 

@@ -6,7 +6,7 @@ use mathlib.Core.Logic.{_≢_}
 use mathlib.Core.List.{List, _++_}
 use lib.ListN.{length, take}
 use borrow.Author.Tests.{eq-eqb, ne-eqb, lt-ltb, le-ltb}
-use Rattle.base.specs.Loop.{taken, refused}
+use Rattle.base.specs.Loop.{takenTo, refusedBy}
 use Rattle.plan.specs.Links.{Plan, linksOf}
 use Rattle.node.specs.Work.{Work, REFUSED}
 use Rattle.node_response.specs.declared.Response.{Response}
@@ -25,16 +25,16 @@ use Rattle.field_serve.proofs.Holds.{holds-on}
 
 -- by its three outcomes
 module _ (p : Plan) (v : ℕ) (w : Work) (s : State) (words back : List ℕ) where
-  carry-32 : w .answer ≡ REFUSED → carryOut p v w s words back ≡ refused 32 s
+  carry-32 : w .answer ≡ REFUSED → carryOut p v w s words back ≡ refusedBy 32 s
   unfolding carryOut
   carry-32 h = rw (eq-eqb (w .answer) REFUSED h)
 
   module _ (n : w .answer ≢ REFUSED) where
-    carry-33 : ceilingOf p < s .sent + length (w .sends) → carryOut p v w s words back ≡ refused 33 s
+    carry-33 : ceilingOf p < s .sent + length (w .sends) → carryOut p v w s words back ≡ refusedBy 33 s
     unfolding carryOut
     carry-33 h = rw (ne-eqb (w .answer) REFUSED n, lt-ltb (ceilingOf p) (s .sent + length (w .sends)) h)
 
-    carry-placed : s .sent + length (w .sends) ≤ ceilingOf p → carryOut p v w s words back ≡ taken (placed p v w s words back)
+    carry-placed : s .sent + length (w .sends) ≤ ceilingOf p → carryOut p v w s words back ≡ takenTo (placed p v w s words back)
     unfolding carryOut
     carry-placed h = rw (ne-eqb (w .answer) REFUSED n, le-ltb (ceilingOf p) (s .sent + length (w .sends)) h)
 
@@ -67,7 +67,7 @@ module _ (p : Plan) (cells marks lent : List ℕ) (b : Done) (v i : ℕ) (a : Re
         → ((w : Work) → w .answer ≡ a .answer → Holds last k (length mid) (take l mid ++ backOf w x))
         → {d : Done} → d ≡ record { answer = 0; waiting = k; sent = b .sent + c } → CarriedOut p v i a cells marks lent b d cells′ marks′ last
     out-placed le e1 sized e2 h k q = rw q (record {
-      is = λ ok. rw (← ex) (ap taken (state-is e1 (e2 ∙ mark-put p ok marks v sized (a .edge) (a .mark)) (holds-on _ h (k work refl) .waits) (ap (λ (y : ℕ). b .sent + y) es))
+      is = λ ok. rw (← ex) (ap takenTo (state-is e1 (e2 ∙ mark-put p ok marks v sized (a .edge) (a .mark)) (holds-on _ h (k work refl) .waits) (ap (λ (y : ℕ). b .sent + y) es))
           ∙ sym (carry-placed p v work before _ _ r (omega arith)));
       laid = k work refl .laid;
     })

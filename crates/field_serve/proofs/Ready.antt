@@ -4,7 +4,7 @@ use native.Mathlib.Omega.{arith}
 use mathlib.Core.Path.{_≡_, refl, sym, ap, subst}
 use mathlib.Core.List.{List}
 use lib.ListN.{length}
-use Rattle.base.specs.Loop.{After, refused}
+use Rattle.base.specs.Loop.{After, refusedBy}
 use Rattle.plan.specs.Links.{Plan}
 use Rattle.field.specs.State.{State}
 use Rattle.field.specs.Step.{wake, hand, serve, step}
@@ -20,7 +20,7 @@ module _ (p : Plan) (cells marks lent : List ℕ) (b : Done) (r : Ready p cells 
   before = lentState cells marks lent (b .waiting) (b .sent)
 
   -- a refused step alters nothing
-  pub stays : (g : Plan → State → After State) (answer : ℕ) → g p before ≡ refused answer before
+  pub stays : (g : Plan → State → After State) (answer : ℕ) → g p before ≡ refusedBy answer before
       → {d : Done} → d ≡ record { answer = answer; waiting = b .waiting; sent = b .sent } → Advances g p cells marks lent b d cells marks lent
   stays g answer e q = rw q (record { is = sym e; ready = r })
 

@@ -10,8 +10,8 @@ use lib.Seq.{length-take-le, getD-take}
 use lib.Dec.{eqb, ltb}
 use borrow.Author.Tests.{le-leb, lt-leb, eq-eqb, ne-eqb}
 use Rattle.base.specs.Cond.{bool-cases}
-use Rattle.base.specs.Loop.{After, refused}
-use Rattle.base.specs.Keep.{First, first-passes, first-out, place, place-first}
+use Rattle.base.specs.Loop.{After, refusedBy}
+use Rattle.base.specs.Keep.{FirstThat, first-passes, first-out, place, place-first}
 use Rattle.base.specs.Pool.{All-here}
 use Rattle.base.specs.None.{none}
 use Rattle.format_message.specs.Header.{kindAt, levelAt, findAt}
@@ -44,16 +44,16 @@ use Rattle.field_serve.proofs.Packets.{first-ok, second-ok}
 -- ---- the definitions, by their outcomes
 
 module _ (p : Plan) (v : ℕ) (s : State) where
-  wake-41 : modulesOf p ≤ v → wake p v s ≡ refused 41 s
+  wake-41 : modulesOf p ≤ v → wake p v s ≡ refusedBy 41 s
   unfolding wake
   wake-41 h = rw (le-leb _ _ h)
 
-  serve-41 : modulesOf p ≤ v → serve p v s ≡ refused 41 s
+  serve-41 : modulesOf p ≤ v → serve p v s ≡ refusedBy 41 s
   unfolding serve
   serve-41 h = rw (le-leb _ _ h)
 
   module _ (l : v < modulesOf p) where
-    wake-43 : nodeAt s v .status ≢ ASLEEP → wake p v s ≡ refused 43 s
+    wake-43 : nodeAt s v .status ≢ ASLEEP → wake p v s ≡ refusedBy 43 s
     unfolding wake
     wake-43 h = rw (lt-leb _ _ l, ne-eqb (nodeAt s v .status) ASLEEP h)
 
@@ -61,7 +61,7 @@ module _ (p : Plan) (v : ℕ) (s : State) where
     unfolding wake
     wake-on h = rw (lt-leb _ _ l, eq-eqb (nodeAt s v .status) ASLEEP h)
 
-    serve-45 : length (s .words) ≤ place (inQueue p v) (s .words) → serve p v s ≡ refused 45 s
+    serve-45 : length (s .words) ≤ place (inQueue p v) (s .words) → serve p v s ≡ refusedBy 45 s
     unfolding serve
     serve-45 h = rw (lt-leb _ _ l, le-leb _ _ h)
 
@@ -196,10 +196,10 @@ module _ (p : Plan) (cells marks lent : List ℕ) (b : Done) (v : ℕ) (r : Read
         read : getD (take n lent) (place (inQueue p v) (take n lent)) 0 ≡ served
         read = ap (λ (y : ℕ). getD (take n lent) y 0) (sym ei) ∙ getD-take n lent i 0 k
 
-        first : First (inQueue p v) (take n lent) served (without i (take n lent))
+        first : FirstThat (inQueue p v) (take n lent) served (without i (take n lent))
         first =
-            subst (λ (y : ℕ). First (inQueue p v) (take n lent) served (without y (take n lent))) (sym ei)
-            (subst (λ (y : ℕ). First (inQueue p v) (take n lent) y (without (place (inQueue p v) (take n lent)) (take n lent))) read
+            subst (λ (y : ℕ). FirstThat (inQueue p v) (take n lent) served (without y (take n lent))) (sym ei)
+            (subst (λ (y : ℕ). FirstThat (inQueue p v) (take n lent) y (without (place (inQueue p v) (take n lent)) (take n lent))) read
             (place-first (inQueue p v) (take n lent) 0 (omega (arith, many))))
 
         fits : wordFits p served ≡ true

@@ -5,7 +5,7 @@ use mathlib.Core.Path.{_≡_, refl, sym, ap, _∙_}
 use mathlib.Core.Logic.{_≢_}
 use mathlib.Core.List.{List}
 use lib.ListN.{length}
-use Rattle.base.specs.Loop.{After, taken, loop}
+use Rattle.base.specs.Loop.{After, takenTo, loop}
 use Rattle.base.specs.LoopLaws.{loop-zero, on, off}
 use Rattle.plan.specs.Links.{Plan}
 use Rattle.field.specs.State.{State}
@@ -33,7 +33,7 @@ module _ (g : Plan → ℕ → State → After State) (p : Plan) (cells₀ marks
   no-turn r e = (e, refl, record { is = ap (λ (a : ℕ). record { answer = a; state = start }) e ∙ sym (loop-zero (g p) start); ready = r })
 
   module _ (k : ℕ) {s : Done} {cells marks lent : List ℕ} (t : Turned g p cells₀ marks₀ lent₀ b k s cells marks lent) where
-    were : loop k (g p) start ≡ taken (lentState cells marks lent (s .waiting) (s .sent))
+    were : loop k (g p) start ≡ takenTo (lentState cells marks lent (s .waiting) (s .sent))
     were = sym (t .2 .is) ∙ ap (λ (a : ℕ). record { answer = a; state = lentState cells marks lent (s .waiting) (s .sent) }) (t .0)
 
     pub turns-over : (m : ℕ) → m ≤ k → k ≤ m → Advances (λ p. loop m (g p)) p cells₀ marks₀ lent₀ b s cells marks lent

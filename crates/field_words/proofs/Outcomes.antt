@@ -6,7 +6,7 @@ use mathlib.Core.List.{List, [], _∷_, _++_}
 use lib.ListN.{length, getD, take, length-append}
 use lib.Seq.{length-take-le, getD-take}
 use borrow.Author.Tests.{le-leb, lt-leb}
-use Rattle.base.specs.Loop.{taken, refused}
+use Rattle.base.specs.Loop.{takenTo, refusedBy}
 use Rattle.field.specs.State.{State}
 use Rattle.format_word.specs.Word.{handOver}
 use Rattle.plan.specs.Links.{Plan, linksOf}
@@ -17,16 +17,16 @@ use Rattle.field_words.specs.Hands.{lentState, Hands}
 use Rattle.field_words.proofs.Laid.{waits, laid, without-length}
 
 module _ (p : Plan) (d : ℕ) (s : State) where
-  pub hand-42 : 2 * linksOf p ≤ d → hand p d s ≡ refused 42 s
+  pub hand-42 : 2 * linksOf p ≤ d → hand p d s ≡ refusedBy 42 s
   unfolding hand
   hand-42 h = simp (le-leb _ _ h)
 
   module _ (l : d < 2 * linksOf p) where
-    pub hand-44 : length (s .words) ≤ place (inAir d) (s .words) → hand p d s ≡ refused 44 s
+    pub hand-44 : length (s .words) ≤ place (inAir d) (s .words) → hand p d s ≡ refusedBy 44 s
     unfolding hand
     hand-44 h = simp (lt-leb _ _ l, le-leb _ _ h)
 
-    pub hand-taken : place (inAir d) (s .words) < length (s .words) → hand p d s ≡ taken (moved (place (inAir d) (s .words)) s)
+    pub hand-taken : place (inAir d) (s .words) < length (s .words) → hand p d s ≡ takenTo (moved (place (inAir d) (s .words)) s)
     unfolding hand
     hand-taken h = simp (lt-leb _ _ l, lt-leb _ _ h)
 

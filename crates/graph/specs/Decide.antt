@@ -7,7 +7,7 @@ use mathlib.Core.Logic.{_⊎_, inl, inr}
 use mathlib.Core.Bool.{Bool, true, false, not, cond, true≢false}
 use lib.Dec.{eqb}
 use Rattle.base.specs.Cond.{eqb-cases, eqb-same, bool-cases}
-use Rattle.base.specs.Test.{every, every-all, all-every, decided, decided-yes, yes-decided, dec-test}
+use Rattle.base.specs.Test.{every, every-all, all-every, decides, decided-yes, yes-decided, dec-test}
 use Rattle.base.specs.Search.{lt-suc-cases}
 use Rattle.graph.specs.Graph.{Graph, up, Way}
 use Rattle.graph.specs.Order.{Earlier, InTree}
@@ -53,32 +53,32 @@ labels g s (suc k) l = next (s k) refl (labels g s k (omega arith))
 -- JOINED
 
 -- edges of s join u and v
-unfoldable pub joined : Graph → (ℕ → Bool) → ℕ → ℕ → Bool
+unfoldable pub joinedOver : Graph → (ℕ → Bool) → ℕ → ℕ → Bool
 unfolding label
-joined g s u v = eqb (label g s (g.L) u) (label g s (g.L) v)
+joinedOver g s u v = eqb (label g s (g.L) u) (label g s (g.L) v)
 
-pub joined-way : (g : Graph) (s : ℕ → Bool) (u v : ℕ) → joined g s u v ≡ true → Way g (Set s) u v
-unfolding joined
+pub joined-way : (g : Graph) (s : ℕ → Bool) (u v : ℕ) → joinedOver g s u v ≡ true → Way g (Set s) u v
+unfolding joinedOver
 joined-way g s u v = eqb-cases (label g s (g.L) u) (label g s (g.L) v) (λ b. b ≡ true → Way g (Set s) u v)
     (λ e y. wider (λ f l t. t .0) (labels g s (g.L) (omega arith) .sound u v tt tt e))
     (λ n y. absurd (true≢false (sym y)))
 
-pub way-joined : (g : Graph) (s : ℕ → Bool) (u v : ℕ) → Way g (Set s) u v → joined g s u v ≡ true
-unfolding joined
+pub way-joined : (g : Graph) (s : ℕ → Bool) (u v : ℕ) → Way g (Set s) u v → joinedOver g s u v ≡ true
+unfolding joinedOver
 way-joined g s u v w = let e = labels-way (labels g s (g.L) (omega arith)) (wider (λ f l t. (t, l)) w) in rw e (eqb-same (label g s (g.L) v))
 
 unfoldable pub way? : (g : Graph) (S : ℕ → Type 0) → ((e : ℕ) → Dec (S e)) → (u v : ℕ) → Dec (Way g S u v)
-unfolding joined decided dec-test
-way? g S dec u v = dec-test (joined g (λ e. decided (dec e)) u v)
-    (λ y. wider (λ e l s. decided-yes (dec e) s) (joined-way g (λ e. decided (dec e)) u v y))
-    (λ w. way-joined g (λ e. decided (dec e)) u v (wider (λ e l s. yes-decided (dec e) s) w))
+unfolding joinedOver decides dec-test
+way? g S dec u v = dec-test (joinedOver g (λ e. decides (dec e)) u v)
+    (λ y. wider (λ e l s. decided-yes (dec e) s) (joined-way g (λ e. decides (dec e)) u v y))
+    (λ w. way-joined g (λ e. decides (dec e)) u v (wider (λ e l s. yes-decided (dec e) s) w))
 
 -- THE TREE
 
 -- e is a tree edge, by the path rule
 unfoldable pub inTree : Graph → (ℕ → ℕ → Bool) → ℕ → Bool
-unfolding joined
-inTree g earlier e = not (joined g (λ f. earlier f e) (g.lo e) (g.hi e))
+unfolding joinedOver
+inTree g earlier e = not (joinedOver g (λ f. earlier f e) (g.lo e) (g.hi e))
 
 pub inTree-tree : (g : Graph) (earlier : ℕ → ℕ → Bool) (e : ℕ) → inTree g earlier e ≡ true → InTree g earlier e
 unfolding inTree
@@ -86,13 +86,13 @@ inTree-tree g earlier e h w = true≢false (sym h ∙ ap not (way-joined g (λ f
 
 pub tree-inTree : (g : Graph) (earlier : ℕ → ℕ → Bool) (e : ℕ) → InTree g earlier e → inTree g earlier e ≡ true
 unfolding inTree
-tree-inTree g earlier e t = bool-cases (joined g (λ f. earlier f e) (g.lo e) (g.hi e))
+tree-inTree g earlier e t = bool-cases (joinedOver g (λ f. earlier f e) (g.lo e) (g.hi e))
     (λ y. absurd (t (joined-way g (λ f. earlier f e) (g.lo e) (g.hi e) y)))
     (λ n. ap not n)
 
 -- an edge that is not in the tree has another way between its ends
 pub way-or-tree : (g : Graph) (earlier : ℕ → ℕ → Bool) (e : ℕ) → Way g (Earlier earlier e) (g.lo e) (g.hi e) ⊎ InTree g earlier e
-way-or-tree g earlier e = bool-cases (joined g (λ f. earlier f e) (g.lo e) (g.hi e))
+way-or-tree g earlier e = bool-cases (joinedOver g (λ f. earlier f e) (g.lo e) (g.hi e))
     (λ y. inl (joined-way g (λ f. earlier f e) (g.lo e) (g.hi e) y))
     (λ n. inr (λ w. true≢false (sym (way-joined g (λ f. earlier f e) (g.lo e) (g.hi e) w) ∙ n)))
 
@@ -107,19 +107,19 @@ abbrev pub Connected : Graph → ℕ → Type 0
 Connected g n = (u v : ℕ) → u < n → v < n → Way g Any u v
 
 unfoldable pub connected : Graph → ℕ → Bool
-unfolding every joined
-connected g n = every n (λ v. joined g (λ e. true) 0 v)
+unfolding every joinedOver
+connected g n = every n (λ v. joinedOver g (λ e. true) 0 v)
 
 pub connected-ways : (g : Graph) (n : ℕ) → connected g n ≡ true → Connected g n
 unfolding connected
 connected-ways g n h u v lu lv = join (back (from u lu)) (from v lv)
   where
     from : (w : ℕ) → w < n → Way g Any 0 w
-    from w l = wider (λ e le t. tt) (joined-way g (λ e. true) 0 w (every-all n (λ x. joined g (λ e. true) 0 x) h w l))
+    from w l = wider (λ e le t. tt) (joined-way g (λ e. true) 0 w (every-all n (λ x. joinedOver g (λ e. true) 0 x) h w l))
 
 pub ways-connected : (g : Graph) (n : ℕ) → Connected g n → connected g n ≡ true
 unfolding connected
-ways-connected g n h = all-every n (λ v. joined g (λ e. true) 0 v) (λ v l. way-joined g (λ e. true) 0 v (wider (λ e le t. refl) (h 0 v (omega arith) l)))
+ways-connected g n h = all-every n (λ v. joinedOver g (λ e. true) 0 v) (λ v l. way-joined g (λ e. true) 0 v (wider (λ e le t. refl) (h 0 v (omega arith) l)))
 
 unfoldable pub connected? : (g : Graph) (n : ℕ) → Dec (Connected g n)
 unfolding connected dec-test

@@ -12,13 +12,13 @@ use Rattle.base.specs.Search.{least, Least, lt-suc-cases}
 use Rattle.graph.specs.Graph.{Graph, Joins, up, Way}
 use Rattle.graph.specs.Order.{Order}
 use Rattle.graph.specs.Ways.{But, Uses, uses-wider, around, split, hop, wider, through, along, joins-lt}
-use Rattle.graph.specs.Rank.{rank, rank-inj, rank-bound, rank-earlier, tree-rank}
+use Rattle.graph.specs.Rank.{rankIn, rankIn-inj, rank-bound, rank-earlier, tree-rank}
 use Rattle.graph.specs.Decide.{Set, inTree, inTree-tree, tree-inTree}
 use Rattle.graph.specs.Span.{spans-edge}
 
 -- the total cost of a set of edges
-unfoldable pub total : Graph → (ℕ → ℕ) → (ℕ → Bool) → ℕ
-total g cost s = sum (g.L) (λ e. cond (s e) (cost e) 0)
+unfoldable pub totalCost : Graph → (ℕ → ℕ) → (ℕ → Bool) → ℕ
+totalCost g cost s = sum (g.L) (λ e. cond (s e) (cost e) 0)
 
 -- the set joins what the edges join
 abbrev pub Spanning : Graph → (ℕ → Bool) → Type 0
@@ -70,12 +70,12 @@ swap-keeps : (s : ℕ → Bool) (f m x : ℕ) → s x ≡ true → f ≢ x → s
 swap-keeps s f m x t d = upd-elim (λ b. b ≡ true) (upd s f false) m true x (λ e. refl) (λ n. upd-other s f false x d ∙ t)
 
 module _ (g : Graph) (cost : ℕ → ℕ) where
-  total-upd : (s : ℕ → Bool) (f : ℕ) (b : Bool) → f < g.L → total g cost (upd s f b) + cond (s f) (cost f) 0 ≡ total g cost s + cond b (cost f) 0
-  unfolding total
-  total-upd s f b l = subst (λ x. total g cost (upd s f b) + cond (s f) (cost f) 0 ≡ total g cost s + cond x (cost f) 0) (upd-same s f b)
+  total-upd : (s : ℕ → Bool) (f : ℕ) (b : Bool) → f < g.L → totalCost g cost (upd s f b) + cond (s f) (cost f) 0 ≡ totalCost g cost s + cond b (cost f) 0
+  unfolding totalCost
+  total-upd s f b l = subst (λ x. totalCost g cost (upd s f b) + cond (s f) (cost f) 0 ≡ totalCost g cost s + cond x (cost f) 0) (upd-same s f b)
       (sum-change (g.L) f (λ e. cond (upd s f b e) (cost e) 0) (λ e. cond (s e) (cost e) 0) l (λ k d. rw (upd-other s f b k d)))
 
-  swap-total : (s : ℕ → Bool) (f m : ℕ) → f < g.L → m < g.L → s f ≡ true → s m ≡ false → cost m ≤ cost f → total g cost (swap s f m) ≤ total g cost s
+  swap-total : (s : ℕ → Bool) (f m : ℕ) → f < g.L → m < g.L → s f ≡ true → s m ≡ false → cost m ≤ cost f → totalCost g cost (swap s f m) ≤ totalCost g cost s
   swap-total s f m lf lm sf sm c = omega (arith, rw sf at (total-upd s f false lf), rw gone at (total-upd (upd s f false) m true lm))
     where
       gone : upd s f false m ≡ false
@@ -93,21 +93,21 @@ swap-spans g s f m lm x sp e u v j = through edge (sp e u v j)
 module _ (g : Graph) (o : Order (g.L)) (cost : ℕ → ℕ) (mono : (a b : ℕ) → o.earlier a b ≡ true → cost a ≤ cost b) where
   -- s has the tree edges of rank below r
   abbrev Has : (ℕ → Bool) → ℕ → Type 0
-  Has s r = (e : ℕ) → e < g.L → inTree g (o.earlier) e ≡ true → rank o e < r → s e ≡ true
+  Has s r = (e : ℕ) → e < g.L → inTree g (o.earlier) e ≡ true → rankIn o e < r → s e ≡ true
 
   -- the tree edge of rank r is not in s
   abbrev Lacks : (ℕ → Bool) → ℕ → ℕ → Type 0
-  Lacks s r m = (rank o m ≡ r) × ((inTree g (o.earlier) m ≡ true) × (s m ≡ false))
+  Lacks s r m = (rankIn o m ≡ r) × ((inTree g (o.earlier) m ≡ true) × (s m ≡ false))
 
   -- s has the tree edge of rank r, or takes it in place of a later edge
   record Better (s : ℕ → Bool) (r : ℕ) : Type 0 where
     set : ℕ → Bool
     spanning : Spanning g set
     more : Has set (suc r)
-    cheaper : total g cost set ≤ total g cost s
+    cheaper : totalCost g cost set ≤ totalCost g cost s
 
   -- m goes in, and out goes an edge f that is later
-  exchange : (s : ℕ → Bool) (r m f : ℕ) → Spanning g s → Has s r → m < g.L → Lacks s r m → ¬ (rank o f < rank o m) → Uses g (Set s) f (g.lo m) (g.hi m) → Better s r
+  exchange : (s : ℕ → Bool) (r m f : ℕ) → Spanning g s → Has s r → m < g.L → Lacks s r m → ¬ (rankIn o f < rankIn o m) → Uses g (Set s) f (g.lo m) (g.hi m) → Better s r
   exchange s r m f sp h lm t n x = record {
     set = swap s f m;
     spanning = swap-spans g s f m lm x sp;
@@ -118,48 +118,48 @@ module _ (g : Graph) (o : Order (g.L)) (cost : ℕ → ℕ) (mono : (a b : ℕ) 
       lf : f < g.L
       lf = joins-lt (x.joins)
 
-      later : rank o m < rank o f
-      later = by-eq (rank o m) (rank o f) (λ q. absurd (true≢false (sym (x.used) ∙ sym (ap s (rank-inj o m f lm lf q)) ∙ t .1 .1))) (λ d. omega arith)
+      later : rankIn o m < rankIn o f
+      later = by-eq (rankIn o m) (rankIn o f) (λ q. absurd (true≢false (sym (x.used) ∙ sym (ap s (rankIn-inj o m f lm lf q)) ∙ t .1 .1))) (λ d. omega arith)
 
       more : Has (swap s f m) (suc r)
-      more e l i b = upd-elim (λ y. y ≡ true) (upd s f false) m true e (λ q. refl) (λ d. old (by-eq (rank o e) r (λ q. absurd (d (rank-inj o m e lm l (t .0 ∙ sym q)))) (λ z. omega arith)))
+      more e l i b = upd-elim (λ y. y ≡ true) (upd s f false) m true e (λ q. refl) (λ d. old (by-eq (rankIn o e) r (λ q. absurd (d (rankIn-inj o m e lm l (t .0 ∙ sym q)))) (λ z. omega arith)))
         where
-          old : rank o e < r → upd s f false e ≡ true
-          old b = upd-other s f false e (λ q. absurd (omega (arith, ap (rank o) q, t .0))) ∙ h e l i b
+          old : rankIn o e < r → upd s f false e ≡ true
+          old b = upd-other s f false e (λ q. absurd (omega (arith, ap (rankIn o) q, t .0))) ∙ h e l i b
 
   -- a way of s between the ends of m uses a later edge, as m is in the tree
   improve : (s : ℕ → Bool) (r m : ℕ) → Spanning g s → Has s r → m < g.L → Lacks s r m → Better s r
-  improve s r m sp h lm t = take (odd g (λ f. rank o f < rank o m) (λ f. decLt (rank o f) (rank o m)) (g.lo m) (g.hi m) (sp m (g.lo m) (g.hi m) (up lm refl refl)))
+  improve s r m sp h lm t = take (odd g (λ f. rankIn o f < rankIn o m) (λ f. decLt (rankIn o f) (rankIn o m)) (g.lo m) (g.hi m) (sp m (g.lo m) (g.hi m) (up lm refl refl)))
     where
-      take : Way g (λ f. rank o f < rank o m) (g.lo m) (g.hi m) ⊎ Odd g (λ f. rank o f < rank o m) (Set s) (g.lo m) (g.hi m) → Better s r
+      take : Way g (λ f. rankIn o f < rankIn o m) (g.lo m) (g.hi m) ⊎ Odd g (λ f. rankIn o f < rankIn o m) (Set s) (g.lo m) (g.hi m) → Better s r
       take (inl w) = absurd (tree-rank g o m lm (inTree-tree g (o.earlier) m (t .1 .0)) w)
       take (inr x) = exchange s r m (x.edge) sp h lm t (x.not-in) (x.once)
 
   better : (s : ℕ → Bool) (r : ℕ) → Spanning g s → Has s r → Better s r
-  better s r sp h = cases (least (Lacks s r) (λ m. Dec·and (ℕ-discrete (rank o m) r) (Dec·and (Bool-discrete (inTree g (o.earlier) m) true) (Bool-discrete (s m) false))) (g.L))
+  better s r sp h = cases (least (Lacks s r) (λ m. Dec·and (ℕ-discrete (rankIn o m) r) (Dec·and (Bool-discrete (inTree g (o.earlier) m) true) (Bool-discrete (s m) false))) (g.L))
     where
       cases : ((m : ℕ) → m < g.L → ¬ Lacks s r m) ⊎ Least (Lacks s r) (g.L) → Better s r
       cases (inl none) = record {
         set = s;
         spanning = sp;
-        more = λ e l i b. by-eq (rank o e) r (λ q. bool-cases (s e) (λ y. y) (λ n. absurd (none e l (q, (i, n))))) (λ d. h e l i (omega arith));
+        more = λ e l i b. by-eq (rankIn o e) r (λ q. bool-cases (s e) (λ y. y) (λ n. absurd (none e l (q, (i, n))))) (λ d. h e l i (omega arith));
         cheaper = omega arith;
       }
       cases (inr m) = improve s r (m.at) sp h (m.below) (m.holds)
 
-  least-from : (k r : ℕ) → k + r ≡ g.L → (s : ℕ → Bool) → Spanning g s → Has s r → total g cost (inTree g (o.earlier)) ≤ total g cost s
-  unfolding total
+  least-from : (k r : ℕ) → k + r ≡ g.L → (s : ℕ → Bool) → Spanning g s → Has s r → totalCost g cost (inTree g (o.earlier)) ≤ totalCost g cost s
+  unfolding totalCost
   least-from zero r q s sp h = sum-le (g.L) (λ e. cond (inTree g (o.earlier) e) (cost e) 0) (λ e. cond (s e) (cost e) 0)
       (λ e l. bool-cases (inTree g (o.earlier) e) (λ t. rw (t, h e l t (omega (arith, rank-bound o e l))) (omega arith)) (λ t. rw t zero-le))
   least-from (suc k) r q s sp h = let b = better s r sp h in omega (arith, b.cheaper, least-from k (suc r) (omega arith) (b.set) (b.spanning) (b.more))
 
   -- LEAST TOTAL COST
-  pub tree-least : (s : ℕ → Bool) → Spanning g s → total g cost (inTree g (o.earlier)) ≤ total g cost s
+  pub tree-least : (s : ℕ → Bool) → Spanning g s → totalCost g cost (inTree g (o.earlier)) ≤ totalCost g cost s
   tree-least s sp = least-from (g.L) 0 (omega arith) s sp (λ e l t z. absurd (not-suc-le-zero z))
 
   -- any set that joins all nodes, for edges between nodes below n
   pub tree-least-all : (n : ℕ) → ((e : ℕ) → e < g.L → (g.lo e < n) × (g.hi e < n))
-      → (s : ℕ → Bool) → ((u v : ℕ) → u < n → v < n → Way g (Set s) u v) → total g cost (inTree g (o.earlier)) ≤ total g cost s
+      → (s : ℕ → Bool) → ((u v : ℕ) → u < n → v < n → Way g (Set s) u v) → totalCost g cost (inTree g (o.earlier)) ≤ totalCost g cost s
   tree-least-all n ends s all = tree-least s (λ e u v j. along j (let p = ends e (joins-lt j) in all (g.lo e) (g.hi e) (p .0) (p .1)))
 
 -- the tree is such a set itself

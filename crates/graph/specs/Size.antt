@@ -12,8 +12,8 @@ use Rattle.base.specs.Log.{log2, level-le}
 use Rattle.graph.specs.Labels.{rename, rename-elim}
 
 -- the number of nodes below N with label a
-unfoldable pub size : ℕ → (ℕ → ℕ) → ℕ → ℕ
-size N fr a = sum N (λ w. bit (eqb (fr w) a))
+unfoldable pub partSize : ℕ → (ℕ → ℕ) → ℕ → ℕ
+partSize N fr a = sum N (λ w. bit (eqb (fr w) a))
 
 bit-two : (x a b : ℕ) → a ≢ b → bit (eqb x a) + bit (eqb x b) ≤ 1
 bit-two x a b n = eqb-cases x a (λ t. bit t + bit (eqb x b) ≤ 1)
@@ -25,8 +25,8 @@ bit-eq x a y b h = eqb-cases x a (λ t. bit t ≤ bit (eqb y b)) (λ p. rw (h p,
 
 module _ (N : ℕ) (fr : ℕ → ℕ) where
   -- two parts have no node in common
-  pub size-two : (a b : ℕ) → a ≢ b → size N fr a + size N fr b ≤ N
-  unfolding size
+  pub size-two : (a b : ℕ) → a ≢ b → partSize N fr a + partSize N fr b ≤ N
+  unfolding partSize
   size-two a b n = omega (
     arith,
     sum-add N (λ w. bit (eqb (fr w) a)) (λ w. bit (eqb (fr w) b)),
@@ -34,29 +34,29 @@ module _ (N : ℕ) (fr : ℕ → ℕ) where
     sum-const N 1,
   )
 
-  pub size-le : (a : ℕ) → size N fr a ≤ N
+  pub size-le : (a : ℕ) → partSize N fr a ≤ N
   size-le a = let d : a ≢ suc a = λ q. absurd (omega arith) in omega (arith, size-two a (suc a) d)
 
   -- LEVELS: a part of at least 2 ^ k nodes
-  pub level-one : (a k : ℕ) → 2 ^ k ≤ size N fr a → k ≤ log2 N
+  pub level-one : (a k : ℕ) → 2 ^ k ≤ partSize N fr a → k ≤ log2 N
   level-one a k h = level-le k N (omega (arith, size-le a))
 
   -- two parts: the lower level is below the logarithm
-  pub level-two : (a b j k : ℕ) → a ≢ b → 2 ^ j ≤ size N fr a → 2 ^ k ≤ size N fr b → j ≤ k → suc j ≤ log2 N
+  pub level-two : (a b j k : ℕ) → a ≢ b → 2 ^ j ≤ partSize N fr a → 2 ^ k ≤ partSize N fr b → j ≤ k → suc j ≤ log2 N
   level-two a b j k n ha hb l = level-le (suc j) N (omega (arith, size-two a b n, pow-mono l, pow-suc 2 j))
 
 -- LABELS THAT CHANGE, from fr to fs
 
 module _ (N : ℕ) (fr fs : ℕ → ℕ) where
   -- the nodes of part a are in part b afterwards
-  pub size-mono : (a b : ℕ) → ((w : ℕ) → w < N → fr w ≡ a → fs w ≡ b) → size N fr a ≤ size N fs b
-  unfolding size
+  pub size-mono : (a b : ℕ) → ((w : ℕ) → w < N → fr w ≡ a → fs w ≡ b) → partSize N fr a ≤ partSize N fs b
+  unfolding partSize
   size-mono a b h = sum-le N (λ w. bit (eqb (fr w) a)) (λ w. bit (eqb (fs w) b)) (λ w l. bit-eq (fr w) a (fs w) b (h w l))
 
   -- the nodes of two parts are in one part afterwards
   pub size-both : (a b c : ℕ) → a ≢ b → ((w : ℕ) → w < N → fr w ≡ a → fs w ≡ c) → ((w : ℕ) → w < N → fr w ≡ b → fs w ≡ c)
-      → size N fr a + size N fr b ≤ size N fs c
-  unfolding size
+      → partSize N fr a + partSize N fr b ≤ partSize N fs c
+  unfolding partSize
   size-both a b c n ha hb = omega (
     arith,
     sum-add N (λ w. bit (eqb (fr w) a)) (λ w. bit (eqb (fr w) b)),
@@ -70,7 +70,7 @@ module _ (N : ℕ) (fr fs : ℕ → ℕ) where
 
   -- two parts of level k make one of level k + 1
   pub level-merge : (a b c k : ℕ) → a ≢ b → ((w : ℕ) → w < N → fr w ≡ a → fs w ≡ c) → ((w : ℕ) → w < N → fr w ≡ b → fs w ≡ c)
-      → 2 ^ k ≤ size N fr a → 2 ^ k ≤ size N fr b → 2 ^ suc k ≤ size N fs c
+      → 2 ^ k ≤ partSize N fr a → 2 ^ k ≤ partSize N fr b → 2 ^ suc k ≤ partSize N fs c
   level-merge a b c k n ha hb la lb = omega (arith, size-both a b c n ha hb, pow-suc 2 k)
 
 -- a's part takes b's label
@@ -81,12 +81,12 @@ module _ (N : ℕ) (fr : ℕ → ℕ) (a b : ℕ) where
       (λ p. rw (eqb-diff x a p) (omega arith))
 
   -- the sizes add up
-  pub size-merge : a ≢ b → size N (λ w. rename a b (fr w)) b ≡ size N fr a + size N fr b
-  unfolding size
+  pub size-merge : a ≢ b → partSize N (λ w. rename a b (fr w)) b ≡ partSize N fr a + partSize N fr b
+  unfolding partSize
   size-merge n = sum-eq N (λ w. bit (eqb (rename a b (fr w)) b)) (λ w. bit (eqb (fr w) a) + bit (eqb (fr w) b)) (λ w l. bit-merge (fr w) n)
       ∙ sum-add N (λ w. bit (eqb (fr w) a)) (λ w. bit (eqb (fr w) b))
 
 -- at the start each node is a part
-pub size-start : (N w : ℕ) → w < N → size N (λ v. v) w ≡ 1
-unfolding size
+pub size-start : (N w : ℕ) → w < N → partSize N (λ v. v) w ≡ 1
+unfolding partSize
 size-start N w l = sum-single N w (λ v. bit (eqb v w)) l (λ k d. rw (eqb-diff k w (λ q. d (sym q)))) ∙ ap bit (eqb-same w)

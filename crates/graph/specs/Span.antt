@@ -8,24 +8,24 @@ use Rattle.base.specs.Search.{by-measure}
 use Rattle.graph.specs.Graph.{Graph, Joins, Way}
 use Rattle.graph.specs.Order.{Order, Earlier, InTree}
 use Rattle.graph.specs.Ways.{hop, wider, through, along, joins-lt}
-use Rattle.graph.specs.Rank.{rank, rank-lt}
+use Rattle.graph.specs.Rank.{rankIn, rankIn-lt}
 use Rattle.graph.specs.Decide.{way-or-tree}
 
 module _ (g : Graph) (o : Order (g.L)) where
   -- tree edges of rank at most r
   abbrev pub TreeTo : ℕ → ℕ → Type 0
-  TreeTo r f = InTree g (o.earlier) f × (rank o f ≤ r)
+  TreeTo r f = InTree g (o.earlier) f × (rankIn o f ≤ r)
 
-  pub spans-edge : (e u v : ℕ) → Joins g e u v → Way g (TreeTo (rank o e)) u v
-  spans-edge = by-measure (λ e. (u v : ℕ) → Joins g e u v → Way g (TreeTo (rank o e)) u v) (rank o) step
+  pub spans-edge : (e u v : ℕ) → Joins g e u v → Way g (TreeTo (rankIn o e)) u v
+  spans-edge = by-measure (λ e. (u v : ℕ) → Joins g e u v → Way g (TreeTo (rankIn o e)) u v) (rankIn o) step
     where
-      step : (e : ℕ) → ((f : ℕ) → rank o f < rank o e → (a b : ℕ) → Joins g f a b → Way g (TreeTo (rank o f)) a b) → (u v : ℕ) → Joins g e u v → Way g (TreeTo (rank o e)) u v
+      step : (e : ℕ) → ((f : ℕ) → rankIn o f < rankIn o e → (a b : ℕ) → Joins g f a b → Way g (TreeTo (rankIn o f)) a b) → (u v : ℕ) → Joins g e u v → Way g (TreeTo (rankIn o e)) u v
       step e before u v j = cases (way-or-tree g (o.earlier) e)
         where
-          lift : (f a b : ℕ) → Joins g f a b → o.earlier f e ≡ true → Way g (TreeTo (rank o e)) a b
-          lift f a b k h = let l = rank-lt o f e (joins-lt k) h in wider (λ x lx t. (t .0, omega (arith, t .1))) (before f l a b k)
+          lift : (f a b : ℕ) → Joins g f a b → o.earlier f e ≡ true → Way g (TreeTo (rankIn o e)) a b
+          lift f a b k h = let l = rankIn-lt o f e (joins-lt k) h in wider (λ x lx t. (t .0, omega (arith, t .1))) (before f l a b k)
 
-          cases : Way g (Earlier (o.earlier) e) (g.lo e) (g.hi e) ⊎ InTree g (o.earlier) e → Way g (TreeTo (rank o e)) u v
+          cases : Way g (Earlier (o.earlier) e) (g.lo e) (g.hi e) ⊎ InTree g (o.earlier) e → Way g (TreeTo (rankIn o e)) u v
           cases (inl w) = along j (through lift w)
           cases (inr t) = hop j (t, omega arith)
 

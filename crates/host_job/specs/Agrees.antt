@@ -21,7 +21,7 @@ use Rattle.field.specs.Step.{carryOut, wake, step}
 use Rattle.field.specs.Held.{Held, stateOf, setUp, stepAlone}
 use Rattle.field_calls.specs.Call.{Call, one, rounds, after, answers, does, runRounds}
 use Rattle.field_calls.specs.Trail.{trail, stepsOf, ifTaken, messagesSent, wokenIn, wakesOne}
-use Rattle.field_calls.specs.Demand.{BothSay, Agreed, Allowed, Settles, Claim}
+use Rattle.field_calls.specs.Demand.{BothSay, Agreed, Allowed, ComesToRest, Claim}
 use Rattle.field_laws.specs.After.{started, begun-live, fresh-node}
 use Rattle.field_laws.specs.Laid.{Live}
 use Rattle.demand.specs.Demand.{demand3}
@@ -102,7 +102,7 @@ module _ (p : Plan) (lent : List ℕ) (ok : setUp p lent .answer ≡ 0) where
   -- AT THE END: "comes to rest unrefused within N more rounds than the ceiling"; the sent count is exact and within the ceiling; all modules
   -- agree on the tree, and exactly the ends of one tree link have halted
   pub record Outcome : Type 0 where
-    pub settles : Settles p (settled p lent)
+    pub settles : ComesToRest p (settled p lent)
     pub exact : stateOf (settled p lent .state) .sent ≡ messagesSent p (trail calls start)
     pub ceiling : stateOf (settled p lent .state) .sent ≤ ceilingOf p
     pub agreed : Agreed p (stateOf (settled p lent .state))
@@ -110,10 +110,10 @@ module _ (p : Plan) (lent : List ℕ) (ok : setUp p lent .answer ≡ 0) where
   pub outcome : Outcome
   unfolding after does
   outcome = record {
-    settles = rw settled-is (first .settles 65535 room);
+    settles = rw settled-is (first .rests 65535 room);
     exact = rw settled-is (whole .exact);
     ceiling = rw settled-is (whole .ceiling);
-    agreed = rw settled-is (whole .agreed (woken p start live wakes _) (first .settles 65535 room .rest));
+    agreed = rw settled-is (whole .agreed (woken p start live wakes _) (first .rests 65535 room .rest));
   }
 
   -- THE TREE OF THE CENTRAL BUILDER: both ends of a link say branch where its byte is 1, rejected where it is 0

@@ -6,7 +6,7 @@ use mathlib.Core.Bool.{true, false, not}
 use mathlib.Core.List.{List}
 use lib.ListN.{length}
 use borrow.Author.Tests.{ne-eqb, eq-eqb}
-use Rattle.base.specs.Loop.{refused}
+use Rattle.base.specs.Loop.{refusedBy}
 use Rattle.field.specs.declared.Field.{Field}
 use Rattle.field.specs.Step.{step}
 use Rattle.field.specs.Held.{Held, valid, stepAlone}
@@ -21,7 +21,7 @@ use Rattle.field_check.proofs.Admitted.{invalid, passes}
 use Rattle.field_serve.proofs.Call.{put, step-stands, run-stands}
 
 module _ (h : Held) where
-  step-refused : (kind number : ℕ) → valid h ≡ false → refused 31 h ≡ stepAlone kind number h
+  step-refused : (kind number : ℕ) → valid h ≡ false → refusedBy 31 h ≡ stepAlone kind number h
   unfolding stepAlone
   step-refused kind number e = rw e refl
 
@@ -45,7 +45,7 @@ module _ (f : Field) (lent : List ℕ) (c : Checked) (e : c ≡ checkOf (record 
   abbrev h : Held
   h = record { field = f; words = lent }
 
-  pub step-31 : (kind number : ℕ) → not (c .ok) ≡ true → refused 31 h ≡ stepAlone kind number h
+  pub step-31 : (kind number : ℕ) → not (c .ok) ≡ true → refusedBy 31 h ≡ stepAlone kind number h
   step-31 kind number n = step-refused h kind number (invalid f lent c e n)
 
   pub run-31 : (bytes : List ℕ) → not (c .ok) ≡ true → refusedRun 31 h ≡ runBytes bytes h

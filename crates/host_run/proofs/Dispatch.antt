@@ -4,7 +4,7 @@ use mathlib.Core.Path.{_≡_, refl, ap, _∙_}
 use mathlib.Core.Logic.{_≢_}
 use mathlib.Core.List.{List}
 use borrow.Author.Tests.{ne-eqb}
-use Rattle.base.specs.Loop.{refused}
+use Rattle.base.specs.Loop.{refusedBy}
 use Rattle.plan.specs.Links.{Plan}
 use Rattle.field.specs.State.{State}
 use Rattle.field.specs.Step.{wake, hand, serve, step}
@@ -27,7 +27,7 @@ module _ (p : Plan) (kind number : ℕ) (s : State) where
   unfolding step
   is-serve e = rw e refl
 
-  pub is-none : kind ≢ 1 → kind ≢ 2 → kind ≢ 3 → step p kind number s ≡ refused 54 s
+  pub is-none : kind ≢ 1 → kind ≢ 2 → kind ≢ 3 → step p kind number s ≡ refusedBy 54 s
   unfolding step
   is-none a b c = simp (ne-eqb kind 1 a, ne-eqb kind 2 b, ne-eqb kind 3 c)
 

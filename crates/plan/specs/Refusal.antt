@@ -2,7 +2,7 @@
 use Prim.Native.Nat.{ℕ, zero, suc}
 use mathlib.Core.Bool.{Bool, true, not, _&&_, _||_}
 use lib.Dec.{eqb, ltb, leb}
-use Rattle.base.specs.Refuse.{orElse, first}
+use Rattle.base.specs.Refuse.{orElse, firstRefusal}
 use Rattle.base.specs.Limits.{maxModules, maxLinks, maxReading}
 use Rattle.plan.specs.Links.{Plan, modulesOf, linksOf, lowerOf, higherOf, nearOf, farOf, graphOf}
 use Rattle.graph.specs.Decide.{connected}
@@ -33,11 +33,11 @@ linkRefusal p k = linkVerdict (modulesOf p) (lowerOf p k) (higherOf p k) (inOrde
 -- "for each link": n links from k on
 unfoldable pub linksRefusal : Plan → ℕ → ℕ → ℕ
 linksRefusal p zero k = 0
-linksRefusal p (suc n) k = first (linkRefusal p k) (linksRefusal p n (suc k))
+linksRefusal p (suc n) k = firstRefusal (linkRefusal p k) (linksRefusal p n (suc k))
 
 -- "14 ..; 15 ..; then for each link ..; at the end 19 not connected". A value has no length that L might not fit.
 unfoldable pub planRefusal : Plan → ℕ
 planRefusal p =
-    first (countsRefusal (modulesOf p) (linksOf p) true)
-    (first (linksRefusal p (linksOf p) 0)
+    firstRefusal (countsRefusal (modulesOf p) (linksOf p) true)
+    (firstRefusal (linksRefusal p (linksOf p) 0)
     (orElse (not (connected (graphOf p) (modulesOf p))) 19 0))

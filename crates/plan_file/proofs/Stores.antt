@@ -9,7 +9,7 @@ use lib.ListN.{length, getD, set, drop}
 use lib.Seq.{sets, sets-eq}
 use borrow.Author.Tests.{lt-ltb, le-ltb, ne-eqb}
 use Rattle.base.specs.Limits.{maxLinks}
-use Rattle.base.specs.Loop.{After, taken, answering}
+use Rattle.base.specs.Loop.{After, takenTo, answering}
 use Rattle.base.specs.Refuse.{answers-refused}
 use Rattle.base.specs.Table.{tabulate, length-tabulate}
 use Rattle.format_int16.specs.Int16.{put16}
@@ -68,7 +68,7 @@ module _ (p : Plan) (s : List ℕ) (r : ℕ) (e : r ≡ planRefusal p) where
 
     pub w-written : size p ≤ length s → (t : List ℕ) → t ≡ sets s 0 (encode p) → _≡_ {A = After (List ℕ)} (record { answer = 0; state = t }) (writePlan p s)
     unfolding writeRefusal
-    w-written h t q = ap taken (q ∙ all) ∙ writes 0 (rw (← e, z, le-ltb (length s) (size p) h))
+    w-written h t q = ap takenTo (q ∙ all) ∙ writes 0 (rw (← e, z, le-ltb (length s) (size p) h))
       where
         all : sets s 0 (encode p) ≡ encode p ++ drop (size p) s
         all = sets-eq (encode p) s 0 (omega (arith, length-encode p)) ∙ ap (λ n. encode p ++ drop n s) (let l : 0 + length (encode p) ≡ size p = omega (arith, length-encode p) in l)

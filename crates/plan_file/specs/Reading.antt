@@ -5,7 +5,7 @@ use mathlib.Core.Bool.{cond, not, _||_}
 use mathlib.Core.List.{List}
 use lib.Dec.{eqb, ltb}
 use lib.ListN.{length, getD}
-use Rattle.base.specs.Refuse.{orElse, first}
+use Rattle.base.specs.Refuse.{orElse, firstRefusal}
 use Rattle.plan.specs.Refusal.{countsRefusal, planRefusal}
 use Rattle.plan.specs.Links.{Plan}
 use Rattle.plan_file.specs.declared.Outcome.{Outcome}
@@ -22,7 +22,7 @@ headRefusal s = headVerdict (length s) (getD s 0 0) (number s 0) (countsRefusal 
 
 -- "then for each link 16 ..; 17 ..; 18 ..; at the end 19 not connected": as of the plan value
 unfoldable pub readRefusal : List ℕ → ℕ
-readRefusal s = first (headRefusal s) (planRefusal (decode s))
+readRefusal s = firstRefusal (headRefusal s) (planRefusal (decode s))
 
 -- the plan where it is taken, else the number and a plan of zeros
 unfoldable pub readPlan : List ℕ → Outcome

@@ -9,7 +9,7 @@ use lib.Seq.{take-append-seam}
 use borrow.Author.Tests.{le-ltb}
 use Rattle.base.specs.Cond.{eqb-cases}
 use Rattle.base.specs.Limits.{maxLinks}
-use Rattle.base.specs.Loop.{After, taken}
+use Rattle.base.specs.Loop.{After, takenTo}
 use Rattle.base.specs.Refuse.{fine-first, first-fine, answers-taken}
 use Rattle.base.specs.Pool.{con}
 use Rattle.base.specs.Table.{tabulate, length-tabulate, tabulate-ext, getD-tabulate}
@@ -137,7 +137,7 @@ module _ (s : List ℕ) (z : readRefusal s ≡ 0) where
       again (x ∷ t) v e (con q h) = rw (bytes-numbers x t (suc (planNumbers (number s 2))) (omega arith) h, v)
 
   -- so the writer puts them back at the front of any buffer that they fit
-  pub written-again : Bytes s → (t : List ℕ) → length s ≤ length t → writePlan (decode s) t ≡ taken (s ++ drop (length s) t)
+  pub written-again : Bytes s → (t : List ℕ) → length s ≤ length t → writePlan (decode s) t ≡ takenTo (s ++ drop (length s) t)
   unfolding writePlan writeRefusal
   written-again b t l =
       let e = read-written b in

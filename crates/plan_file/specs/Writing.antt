@@ -4,7 +4,7 @@ use mathlib.Core.List.{List, _++_}
 use lib.Dec.{ltb}
 use lib.ListN.{length, drop}
 use Rattle.base.specs.Loop.{After, answering}
-use Rattle.base.specs.Refuse.{orElse, first}
+use Rattle.base.specs.Refuse.{orElse, firstRefusal}
 use Rattle.plan.specs.Links.{Plan, linksOf}
 use Rattle.plan.specs.Refusal.{planRefusal}
 use Rattle.plan_file.specs.Layout.{encode}
@@ -16,7 +16,7 @@ size p = 7 + 8 * linksOf p
 -- "The plan writer refuses a plan value by 14 to 19 likewise, then 22 if its buffer is too short"
 unfoldable pub writeRefusal : Plan → List ℕ → ℕ
 unfolding planRefusal
-writeRefusal p out = first (planRefusal p) (orElse (ltb (length out) (size p)) 22 0)
+writeRefusal p out = firstRefusal (planRefusal p) (orElse (ltb (length out) (size p)) 22 0)
 
 -- the answer, and what the buffer holds then: "bytes past the plan keep"
 unfoldable pub writePlan : Plan → List ℕ → After (List ℕ)

@@ -17,7 +17,7 @@ use Rattle.graph.specs.Ways.{But, wider}
 use Rattle.graph.specs.Decide.{Set, inTree-tree, tree-inTree}
 use Rattle.graph.specs.Span.{spans}
 use Rattle.graph.specs.Cycle.{spare}
-use Rattle.graph.specs.Least.{total, Spanning, tree-least, tree-least-all}
+use Rattle.graph.specs.Least.{totalCost, Spanning, tree-least, tree-least-all}
 use Rattle.plan.specs.Links.{graphOf, Plan, modulesOf, linksOf, lowerOf, higherOf}
 use Rattle.plan.specs.Weights.{cost, earlier, earlier-cost, orderOf}
 use Rattle.plan.specs.Accepted.{accepted}
@@ -66,17 +66,17 @@ module _ (p : Plan) (out : List ℕ) (taken : centralTree p out .answer ≡ 0) w
   written-acyclic k l e w = spare (graphOf p) (orderOf p) k l (tree-written k l e) (wider (λ j lj m. (tree-written j lj (m .0), m .1)) w)
 
   -- LEAST TOTAL COST
-  written-total : total (graphOf p) (cost p) marked ≡ total (graphOf p) (cost p) (treeLink p)
-  unfolding total
+  written-total : totalCost (graphOf p) (cost p) marked ≡ totalCost (graphOf p) (cost p) (treeLink p)
+  unfolding totalCost
   written-total = sum-eq (linksOf p) _ _ (λ k l. rw (written-marked k l))
 
   -- among the sets that join what the links join
-  pub written-least-parts : (s : ℕ → Bool) → Spanning (graphOf p) s → total (graphOf p) (cost p) marked ≤ total (graphOf p) (cost p) s
+  pub written-least-parts : (s : ℕ → Bool) → Spanning (graphOf p) s → totalCost (graphOf p) (cost p) marked ≤ totalCost (graphOf p) (cost p) s
   written-least-parts s sp = rw written-total (tree-least (graphOf p) (orderOf p) (cost p) (earlier-cost p) s sp)
 
   -- "no set of links joining all modules has a smaller total cost"
   pub written-least : (s : ℕ → Bool) → ((u v : ℕ) → u < modulesOf p → v < modulesOf p → Way (graphOf p) (Set s) u v)
-      → total (graphOf p) (cost p) marked ≤ total (graphOf p) (cost p) s
+      → totalCost (graphOf p) (cost p) marked ≤ totalCost (graphOf p) (cost p) s
   written-least s all =
       let a = accepted p (answered p out taken .0) in
       rw written-total (tree-least-all (graphOf p) (orderOf p) (cost p) (earlier-cost p) (modulesOf p)

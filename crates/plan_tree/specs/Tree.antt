@@ -6,7 +6,7 @@ use lib.ListN.{length}
 use lib.Dec.{eqb}
 use Rattle.base.specs.Cond.{bit}
 use Rattle.base.specs.Loop.{After, answering}
-use Rattle.base.specs.Refuse.{orElse, first}
+use Rattle.base.specs.Refuse.{orElse, firstRefusal}
 use Rattle.base.specs.Table.{tabulate}
 use Rattle.graph.specs.Decide.{inTree}
 use Rattle.plan.specs.Links.{graphOf, Plan, linksOf}
@@ -26,7 +26,7 @@ treeBytes p = tabulate (linksOf p) (λ k. bit (treeLink p k))
 -- the plan's refusals 14 to 19, then "20 tree buffer not L bytes"
 unfoldable pub treeRefusal : Plan → List ℕ → ℕ
 unfolding planRefusal
-treeRefusal p out = first (planRefusal p) (orElse (not (eqb (length out) (linksOf p))) 20 0)
+treeRefusal p out = firstRefusal (planRefusal p) (orElse (not (eqb (length out) (linksOf p))) 20 0)
 
 -- the answer, and what the lent buffer holds then: a refused call alters no byte
 unfoldable pub centralTree : Plan → List ℕ → After (List ℕ)

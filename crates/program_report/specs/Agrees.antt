@@ -13,7 +13,7 @@ use Rattle.base.specs.Cond.{eqb-same, bool-cases}
 use Rattle.base.specs.Loop.{Ran}
 use Rattle.format_text.specs.Ascii.{ascii}
 use Rattle.graph.specs.Decide.{inTree-tree, tree-inTree}
-use Rattle.graph.specs.Least.{total}
+use Rattle.graph.specs.Least.{totalCost}
 use Rattle.plan.specs.Links.{graphOf, Plan, modulesOf, linksOf, lowerOf, higherOf}
 use Rattle.plan.specs.Weights.{cost, earlier}
 use Rattle.plan.specs.Accepted.{Accepted, accepted}
@@ -103,7 +103,7 @@ module _ (s : List ℕ) (z : readPlan s .refusal ≡ 0) where
   pub record Says : Type 0 where
     pub core : List ℕ
     pub says : reported s
-        ≡ headText (modulesOf p) (linksOf p) ++ treeLines p (linksOf p) ++ line "total " (total (graphOf p) (cost p) (treeLink p)) ++ core
+        ≡ headText (modulesOf p) (linksOf p) ++ treeLines p (linksOf p) ++ line "total " (totalCost (graphOf p) (cost p) (treeLink p)) ++ core
         ++ tailText (ran .state .field .sent) (ceilingOf p) (ran .done)
     pub alone : modulesOf p ≡ 1 → core ≡ ascii "core none\n"
     pub others : 2 ≤ modulesOf p → CoreNamed core
@@ -111,7 +111,7 @@ module _ (s : List ℕ) (z : readPlan s .refusal ≡ 0) where
     pub soon : ran .done ≤ ceilingOf p + modulesOf p
 
   pub report-says : Says
-  unfolding total
+  unfolding totalCost
   report-says = record {
     core = coreText (modulesOf p) (ran .state .field .cells);
     says = never-refused

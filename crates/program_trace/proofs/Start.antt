@@ -5,13 +5,13 @@ use mathlib.Core.Path.{_≡_}
 use mathlib.Core.List.{List}
 use lib.ListN.{length, replicate}
 use borrow.Author.Tests.{eq-eqb, le-ltb}
-use Rattle.base.specs.Loop.{taken}
+use Rattle.base.specs.Loop.{takenTo}
 use Rattle.plan.specs.declared.Plan.{Plan}
 use Rattle.plan.specs.Refusal.{planRefusal}
 use Rattle.field.specs.Edges.{ceilingOf}
 use Rattle.field.specs.Held.{fresh, setUp}
 
 pub set-up : (p : Plan) (lent : List ℕ) → planRefusal p ≡ 0 → length lent ≡ ceilingOf p
-    → setUp p lent ≡ taken (record { field = fresh p; words = replicate (ceilingOf p) 0 })
+    → setUp p lent ≡ takenTo (record { field = fresh p; words = replicate (ceilingOf p) 0 })
 unfolding setUp
 set-up p lent a m = simp (eq-eqb _ 0 a, m, le-ltb (ceilingOf p) (ceilingOf p) (omega arith))

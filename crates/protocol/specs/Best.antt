@@ -4,13 +4,13 @@ use native.Mathlib.Omega.{arith}
 use mathlib.Core.Path.{_≡_, ap, _∙_}
 use mathlib.Core.Logic.{inl, inr, ⊎-elim}
 use Rattle.protocol.specs.Network.{Network, key}
-use Rattle.protocol.specs.State.{State, set-bw, set-be}
+use Rattle.protocol.specs.State.{ProtocolState, set-bw, set-be}
 use Rattle.protocol.specs.Notion.{CoreEnds}
 use Rattle.protocol.specs.Traffic.{Tokens, Reports}
 use Rattle.protocol.specs.Flow.{Flow}
 
-module _ (p : Network) (s : State) (bw be : ℕ → ℕ) where
-  abbrev pub rated : State
+module _ (p : Network) (s : ProtocolState) (bw be : ℕ → ℕ) where
+  abbrev pub rated : ProtocolState
   rated = set-be (set-bw s bw) be
 
   -- a Found node keeps its best weight

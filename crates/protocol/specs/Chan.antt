@@ -28,10 +28,6 @@ module _ {A : Type 0} where
   pub bef-nil : {x y : A} → Bef x y [] → ⊥
   bef-nil = elim [ ]
 
-  pub bef-cons : {x y z : A} {l : List A} → Bef x y (z ∷ l) → ((x ≡ z) × In y l) ⊎ Bef x y l
-  bef-cons (heads h) = inl (refl, h)
-  bef-cons (tails b) = inr b
-
   pub bef-before : {x y : A} {l : List A} → Bef x y l → In x l
   bef-before (heads h) = first
   bef-before (tails b) = next (bef-before b)
@@ -161,16 +157,8 @@ module _ {A : Type 0} (c : ℕ → ℕ → List A) (u k : ℕ) {m : A} {r : List
   in-pop {x} w j d h = upd2-elim (λ l. In x l) c u k r w j
       (λ a b. ⊎-elim (λ e. absurd (d e)) (λ t. t) (in-cons (subst (λ l. In x l) (head-at w j a b) h))) (λ n. h)
 
-  -- a second one behind it
-  pub pop-twice : {x : A} → In x (upd2 c u k r u k) → Bef m x (c u k)
-  pop-twice {x} h = subst (λ l. Bef m x l) (sym q) (heads (subst (λ l. In x l) (here-new c u k r) h))
-
   pub pop-bef : {x y : A} (w j : ℕ) → Bef x y (upd2 c u k r w j) → Bef x y (c w j)
   pop-bef {x} {y} w j = upd2-elim (λ l. Bef x y l → Bef x y (c w j)) c u k r w j (λ a b h. subst (λ l. Bef x y l) (sym (head-at w j a b)) (tails h)) (λ n h. h)
-
-  pub bef-pop : {x y : A} (w j : ℕ) → x ≢ m → Bef x y (c w j) → Bef x y (upd2 c u k r w j)
-  bef-pop {x} {y} w j d h = upd2-elim (λ l. Bef x y l) c u k r w j
-      (λ a b. ⊎-elim (λ e. absurd (d (e .0))) (λ t. t) (bef-cons (subst (λ l. Bef x y l) (head-at w j a b) h))) (λ n. h)
 
   -- counts: of another kind, at the place itself, and in general
   pub pop-sum : (f : A → ℕ) → f m ≡ 0 → (w j : ℕ) → sumL f (upd2 c u k r w j) ≡ sumL f (c w j)

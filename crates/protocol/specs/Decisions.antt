@@ -3,7 +3,7 @@ use Prim.Native.Nat.{ℕ, suc, _≤_}
 use mathlib.Core.Path.{_≡_}
 use mathlib.Core.Logic.{_≢_}
 use Rattle.format_message.specs.Msg.{none}
-use Rattle.protocol.specs.Network.{Network, Ends, key, rank}
+use Rattle.protocol.specs.Network.{Network, Edge, key, rank}
 use Rattle.protocol.specs.Notion.{Informed, Both, Bounding, Decision, Rooting}
 
 -- D1: dk 3, node z has sent Connect over k, whose other end is y
@@ -22,11 +22,11 @@ pub record HalfOk (p : Network) (fr gl lev ub : ℕ → ℕ) (mark : ℕ → ℕ
 -- D1, M2
 pub record Halves (p : Network) (dk dn de fr gl lev ub : ℕ → ℕ) (mark : ℕ → ℕ → ℕ) : Type 0 where
   -- an edge that is Branch at one end only is that end's decision
-  pub m2 : (k v u : ℕ) → Ends p k v u → mark v k ≡ 1 → mark u k ≢ 1 → Decision 3 dk dn de fr v k
+  pub m2 : (k v u : ℕ) → Edge p k v u → mark v k ≡ 1 → mark u k ≢ 1 → Decision 3 dk dn de fr v k
   -- the node of the decision lies in the fragment, the edge is its own
   pub d1f : (v : ℕ) → dk (fr v) ≡ 3 → fr (dn (fr v)) ≡ fr v
-  pub d1e : (v : ℕ) → dk (fr v) ≡ 3 → (y : ℕ) × Ends p (de (fr v)) (dn (fr v)) y
-  pub d1 : (k z y : ℕ) → Ends p k z y → Decision 3 dk dn de fr z k → HalfOk p fr gl lev ub mark k z y
+  pub d1e : (v : ℕ) → dk (fr v) ≡ 3 → (y : ℕ) × Edge p (de (fr v)) (dn (fr v)) y
+  pub d1 : (k z y : ℕ) → Edge p k z y → Decision 3 dk dn de fr z k → HalfOk p fr gl lev ub mark k z y
 
 -- D2: dk 2, node u has sent Change-root over k to x
 pub record ChangingOk (p : Network) (fr gl gc lev ib ub bw : ℕ → ℕ) (mark : ℕ → ℕ → ℕ) (k u x : ℕ) : Type 0 where
@@ -45,8 +45,8 @@ pub record ChangingOk (p : Network) (fr gl gc lev ib ub bw : ℕ → ℕ) (mark 
 
 pub record ChangeRoots (p : Network) (dk dn de fr gl gc lev ib ub bw : ℕ → ℕ) (mark : ℕ → ℕ → ℕ) : Type 0 where
   pub d2f : (v : ℕ) → dk (fr v) ≡ 2 → fr (dn (fr v)) ≡ fr v
-  pub d2e : (v : ℕ) → dk (fr v) ≡ 2 → (x : ℕ) × Ends p (de (fr v)) (dn (fr v)) x
-  pub d2 : (k u x : ℕ) → Ends p k u x → Decision 2 dk dn de fr u k → ChangingOk p fr gl gc lev ib ub bw mark k u x
+  pub d2e : (v : ℕ) → dk (fr v) ≡ 2 → (x : ℕ) × Edge p (de (fr v)) (dn (fr v)) x
+  pub d2 : (k u x : ℕ) → Edge p k u x → Decision 2 dk dn de fr u k → ChangingOk p fr gl gc lev ib ub bw mark k u x
 
 -- D3: dk 1, node x is about to execute procedure change-root
 pub record RootOk (p : Network) (fr gl lev ib ub bw : ℕ → ℕ) (mark : ℕ → ℕ → ℕ) (x : ℕ) : Type 0 where
@@ -56,7 +56,7 @@ pub record RootOk (p : Network) (fr gl lev ib ub bw : ℕ → ℕ) (mark : ℕ �
   pub d3b : Bounding p fr mark (key p (bw x)) x
   -- its in-branch is inbound for both ends
   pub d3u : ub x ≡ ib x
-  pub d3v : (k y : ℕ) → Ends p k x y → ib x ≡ k → ub y ≡ k
+  pub d3v : (k y : ℕ) → Edge p k x y → ib x ≡ k → ub y ≡ k
 
 -- D3, F5
 pub record Rootings (p : Network) (dk dn fr gl lev ib ub bw : ℕ → ℕ) (mark : ℕ → ℕ → ℕ) (oo : ℕ) : Type 0 where
@@ -68,11 +68,11 @@ pub record Rootings (p : Network) (dk dn fr gl lev ib ub bw : ℕ → ℕ) (mark
 -- D4 to D6: dk 4, the fragment is finished
 pub record Finishes (p : Network) (dk fr gl gc lev bw halt due : ℕ → ℕ) (mark : ℕ → ℕ → ℕ) : Type 0 where
   -- nothing is Basic in the fragment
-  pub d4 : (k v u : ℕ) → Ends p k v u → dk (fr v) ≡ 4 → mark v k ≢ 0
+  pub d4 : (k v u : ℕ) → Edge p k v u → dk (fr v) ≡ 4 → mark v k ≢ 0
   -- above level 0 both core ends are informed and found nothing
-  pub d4i : (k x y : ℕ) → Ends p k x y → gc (fr x) ≡ k → dk (fr x) ≡ 4 → 1 ≤ gl (fr x) → Informed lev fr gl x × (bw x ≡ none)
+  pub d4i : (k x y : ℕ) → Edge p k x y → gc (fr x) ≡ k → dk (fr x) ≡ 4 → 1 ≤ gl (fr x) → Informed lev fr gl x × (bw x ≡ none)
   -- once decided, nobody is due
   pub d5 : (v : ℕ) → dk (fr v) ≢ 0 → due v ≡ 0
   -- who has halted is a core end, or has no edge, of a finished fragment
   pub d6 : (v : ℕ) → halt v ≢ 0 → dk (fr v) ≡ 4
-  pub d6c : (k v u : ℕ) → Ends p k v u → halt v ≢ 0 → (y : ℕ) × Ends p (gc (fr v)) v y
+  pub d6c : (k v u : ℕ) → Edge p k v u → halt v ≢ 0 → (y : ℕ) × Edge p (gc (fr v)) v y

@@ -8,15 +8,15 @@ use Rattle.base.specs.Cond.{by-eq}
 use Rattle.base.specs.Pool.{sumL}
 use Rattle.graph.specs.Ways.{flip}
 use Rattle.format_message.specs.Msg.{Msg, none, connect, initiate, test, report}
-use Rattle.protocol.specs.Network.{Network, Ends, edge-some, ends-irr}
-use Rattle.protocol.specs.State.{State}
+use Rattle.protocol.specs.Network.{Network, Edge, edge-some, ends-irr}
+use Rattle.protocol.specs.State.{ProtocolState}
 use Rattle.protocol.specs.Kind.{isC, isA, Fits}
 use Rattle.protocol.specs.Chan.{In, Bef, heads, sum-none}
 use Rattle.protocol.specs.Lemmas.{no-answers, none-in}
 use Rattle.protocol.specs.Notion.{GL, GC, DK, Inf, Jn, Half, Changing, Root, Waits, Spent}
 use Rattle.protocol.specs.Inv.{Inv}
 
-module _ {p : Network} {s : State} (i : Inv p s) where
+module _ {p : Network} {s : ProtocolState} (i : Inv p s) where
   -- ---- a sleeper is as at setup
 
   pub sleep-lev : (v : ℕ) → s.st v ≡ 0 → s.lev v ≡ 0
@@ -66,7 +66,7 @@ module _ {p : Network} {s : State} (i : Inv p s) where
   pub fc-find : (v : ℕ) → s.fc v ≢ 0 → s.st v ≡ 1
   fc-find v n = by-eq (s.st v) 1 (λ e. e) (λ d. absurd (n (i.F2.f3c v d)))
 
-  pub waits-find : (k v u : ℕ) → Ends p k v u → Waits s v k → s.st v ≡ 1
+  pub waits-find : (k v u : ℕ) → Edge p k v u → Waits s v k → s.st v ≡ 1
   waits-find k v u e w = te-find v (λ z. edge-some p e (sym (w .0) ∙ z))
 
   -- below the fragment's level, or decided: not Find
@@ -77,30 +77,26 @@ module _ {p : Network} {s : State} (i : Inv p s) where
   decided-find v d f = d (i.F1.f1 v f .f1k)
 
   -- who is not Find waits for no answer, and none is on its way to it
-  pub no-waits : (k v u : ℕ) → Ends p k v u → s.st v ≢ 1 → ¬ Waits s v k
+  pub no-waits : (k v u : ℕ) → Edge p k v u → s.st v ≢ 1 → ¬ Waits s v k
   no-waits k v u e n w = n (waits-find k v u e w)
 
-  pub no-answer : (k u v : ℕ) → Ends p k u v → ¬ Waits s v k → sumL isA (s.ch u k) ≡ 0
+  pub no-answer : (k u v : ℕ) → Edge p k u v → ¬ Waits s v k → sumL isA (s.ch u k) ≡ 0
   no-answer k u v e n = no-answers (s.ch u k) (λ h. n (i.A1.a1 k u v e h .a1w)) (λ h. n (i.A1.j1 k u v e h .j1w))
 
   -- ---- joined edges
 
-  pub joined-level : (k v u : ℕ) → Ends p k v u → Jn s k v u → 1 ≤ GL s v
+  pub joined-level : (k v u : ℕ) → Edge p k v u → Jn s k v u → 1 ≤ GL s v
   joined-level k v u e j = by-eq (GL s v) 0 (λ z. absurd (ends-irr p e (sym (i.G4.g4s v u z (sym (i.M1.m3 k v u e j)))))) (λ n. omega arith)
-
-  -- an edge that leaves the fragment is not joined
-  pub out-joined : (k v u : ℕ) → Ends p k v u → s.fr v ≢ s.fr u → ¬ Jn s k v u
-  out-joined k v u e n j = n (i.M1.m3 k v u e j)
 
   -- ---- the decision, with its ends
 
-  pub half-of : (v : ℕ) → DK s v ≡ 3 → (z : ℕ) × (k : ℕ) × (y : ℕ) × Ends p k z y × Half s z k × (s.fr z ≡ s.fr v)
+  pub half-of : (v : ℕ) → DK s v ≡ 3 → (z : ℕ) × (k : ℕ) × (y : ℕ) × Edge p k z y × Half s z k × (s.fr z ≡ s.fr v)
   half-of v d =
       let f = i.D1.d1f v d in
       let e = i.D1.d1e v d in
       (s.dn (s.fr v), s.de (s.fr v), e .0, e .1, (ap s.dk f ∙ d, ap s.dn f, ap s.de f), f)
 
-  pub changing-of : (v : ℕ) → DK s v ≡ 2 → (u : ℕ) × (k : ℕ) × (x : ℕ) × Ends p k u x × Changing s u k × (s.fr u ≡ s.fr v)
+  pub changing-of : (v : ℕ) → DK s v ≡ 2 → (u : ℕ) × (k : ℕ) × (x : ℕ) × Edge p k u x × Changing s u k × (s.fr u ≡ s.fr v)
   changing-of v d =
       let f = i.D2.d2f v d in
       let e = i.D2.d2e v d in
@@ -114,13 +110,13 @@ module _ {p : Network} {s : State} (i : Inv p s) where
   no-root v z d = omega (arith, i.D3.d3o v d)
 
   -- an edge that is Branch on this side and leaves the fragment is half
-  pub half-at : (k u v : ℕ) → Ends p k u v → s.mark u k ≡ 1 → s.mark v k ≡ 0 → Half s u k
+  pub half-at : (k u v : ℕ) → Edge p k u v → s.mark u k ≡ 1 → s.mark v k ≡ 0 → Half s u k
   half-at k u v e m z = i.D1.m2 k u v e m (λ o. omega arith)
 
   -- ---- the tree of informed nodes
 
   -- a parent's in-branch is another edge
-  pub up-other : (k v u : ℕ) → Ends p k v u → Inf s v → s.ib v ≡ k → GC s v ≢ k → s.ib u ≢ k
+  pub up-other : (k v u : ℕ) → Edge p k v u → Inf s v → s.ib v ≡ k → GC s v ≢ k → s.ib u ≢ k
   up-other k v u e h b n c =
       let t = i.T1.t1p k v u e h b n in
       let g : GC s u ≢ k = λ z. n (ap s.gc (i.M1.m3 k v u e (i.U1.u1i k v u e b)) ∙ z) in
@@ -128,24 +124,24 @@ module _ {p : Network} {s : State} (i : Inv p s) where
       omega (arith, t .1, r .1)
 
   -- a joined edge other than the in-branch is not the core
-  pub down-core : (k v c : ℕ) → Ends p k v c → Inf s v → s.ib v ≢ k → GC s v ≢ k
+  pub down-core : (k v c : ℕ) → Edge p k v c → Inf s v → s.ib v ≢ k → GC s v ≢ k
   down-core k v c e h n g = n (i.T1.t1e k v c e h g)
 
   -- both core ends of a decided fragment are informed
-  pub core-informed : (k x y : ℕ) → Ends p k x y → GC s x ≡ k → 1 ≤ GL s x → DK s x ≢ 0 → Inf s x
+  pub core-informed : (k x y : ℕ) → Edge p k x y → GC s x ≡ k → 1 ≤ GL s x → DK s x ≢ 0 → Inf s x
   core-informed k x y e g l d = inf-cases x (λ h. h)
-      (λ n. let j : Jn s k x y = subst (λ a. Jn s a x y) g (i.G5.g5 x x y l (subst (λ a. Ends p a x y) (sym g) e) .0) in
+      (λ n. let j : Jn s k x y = subst (λ a. Jn s a x y) g (i.G5.g5 x x y l (subst (λ a. Edge p a x y) (sym g) e) .0) in
       absurd (omega (arith, i.T2.t4u k x y e j g n .t4d, i.D4.d5 x d)))
       (λ z. absurd (omega arith))
 
   -- ---- messages
 
   -- no Initiate is on its way to an informed node
-  pub no-initiate : (k u v l f x : ℕ) → Ends p k u v → Inf s v → ¬ In (initiate l f x) (s.ch u k)
+  pub no-initiate : (k u v l f x : ℕ) → Edge p k u v → Inf s v → ¬ In (initiate l f x) (s.ch u k)
   no-initiate k u v l f x e h n = omega (arith, h .1, i.I1.i1 k u v l f x e n .i1l, i.I1.i1 k u v l f x e n .i1g)
 
   -- no Connect is on a joined edge of an informed sender or a decided fragment
-  pub no-connect : (k u v l : ℕ) → Ends p k u v → Jn s k u v → Inf s u → ¬ In (connect l) (s.ch u k)
+  pub no-connect : (k u v l : ℕ) → Edge p k u v → Jn s k u v → Inf s u → ¬ In (connect l) (s.ch u k)
   no-connect k u v l e j h n = omega (
     arith,
     h .1,
@@ -155,28 +151,28 @@ module _ {p : Network} {s : State} (i : Inv p s) where
       connect-counts : (l : ℕ) → In (connect l) (s.ch u k) → 1 ≤ sumL isC (s.ch u k)
       connect-counts l n = by-eq (sumL isC (s.ch u k)) 0 (λ z. absurd (omega (arith, none-in isC z n))) (λ d. omega arith)
 
-  pub no-connect-decided : (k u v l : ℕ) → Ends p k u v → Jn s k u v → DK s u ≢ 0 → ¬ In (connect l) (s.ch u k)
+  pub no-connect-decided : (k u v l : ℕ) → Edge p k u v → Jn s k u v → DK s u ≢ 0 → ¬ In (connect l) (s.ch u k)
   no-connect-decided k u v l e j d n = no-connect k u v l e j (core-informed k u v e (i.C1.c1 k u v l e n (j .1) .0) (joined-level k u v e j) d) n
 
   -- an Initiate in a decided fragment says Found
-  pub decided-initiate : (k u v l f x : ℕ) → Ends p k u v → DK s v ≢ 0 → In (initiate l f x) (s.ch u k) → x ≡ 0
+  pub decided-initiate : (k u v l f x : ℕ) → Edge p k u v → DK s v ≢ 0 → In (initiate l f x) (s.ch u k) → x ≡ 0
   decided-initiate k u v l f x e d n = by-eq l (GL s v)
       (λ q. i.I1.i1 k u v l f x e n .i1d q ∙ i.D4.d5 v d)
       (λ q. i.I1.i1 k u v l f x e n .i1z (omega (arith, i.I1.i1 k u v l f x e n .i1g)))
 
   -- a Report to a node that is not Find, in a decided fragment, is spent
-  pub decided-report : (k u v w : ℕ) → Ends p k u v → DK s v ≢ 0 → In (report w) (s.ch u k) → Spent p s u v k w
+  pub decided-report : (k u v w : ℕ) → Edge p k u v → DK s v ≢ 0 → In (report w) (s.ch u k) → Spent p s u v k w
   decided-report k u v w e d n = ⊎-elim (λ c. absurd (decided-find v d (c .6)))
       (λ t. ⊎-elim (λ c. absurd (d (sym (ap s.dk (i.M1.m3 k u v e (i.R1.r1j k u v w e n))) ∙ c .1))) (λ c. c) t)
       (i.R1.r1 k u v w e n)
 
   -- no Test is from a decided fragment
-  pub decided-test : (k u v l f : ℕ) → Ends p k u v → DK s u ≢ 0 → ¬ In (test l f) (s.ch u k)
+  pub decided-test : (k u v l f : ℕ) → Edge p k u v → DK s u ≢ 0 → ¬ In (test l f) (s.ch u k)
   decided-test k u v l f e d n = ⊎-elim (λ t. no-waits k u v e (decided-find u d) (t .0))
       (λ t. no-waits k v u (flip e) (decided-find v (λ z. d (ap s.dk (t .3) ∙ z))) (t .2))
       (i.E1.e1w k u v l f e n)
 
   -- ---- the head of a channel: none of its kind is behind it
 
-  pub rest-none : (f : Msg → ℕ) {k u v : ℕ} {m : Msg} {r : List Msg} → Ends p k u v → s.ch u k ≡ m ∷ r → ((n : Msg) → Fits m n → f n ≡ 0) → sumL f r ≡ 0
+  pub rest-none : (f : Msg → ℕ) {k u v : ℕ} {m : Msg} {r : List Msg} → Edge p k u v → s.ch u k ≡ m ∷ r → ((n : Msg) → Fits m n → f n ≡ 0) → sumL f r ≡ 0
   rest-none f {k} {u} {v} {m} {r} e q h = sum-none f r (λ n o. h n (i.Q1.q1 k u v m n e (subst (λ l. Bef m n l) (sym q) (heads o))))

@@ -5,8 +5,8 @@ use mathlib.Core.Path.{_≡_}
 use mathlib.Core.Logic.{_≢_, _⊎_}
 use Rattle.graph.specs.Graph.{Way}
 use Rattle.format_message.specs.Msg.{none}
-use Rattle.protocol.specs.Network.{Network, Ends, Tree}
-use Rattle.protocol.specs.Notion.{Informed, Both, Joined, members}
+use Rattle.protocol.specs.Network.{Network, Edge, Tree}
+use Rattle.protocol.specs.Notion.{Informed, Both, JoinedEdge, members}
 
 -- W0: ranges of what is coded by numbers
 pub record Ranges (st halt due dk : ℕ → ℕ) (mark : ℕ → ℕ → ℕ) : Type 0 where
@@ -21,7 +21,7 @@ pub record Values (p : Network) (bw be : ℕ → ℕ) : Type 0 where
   -- a best weight is an edge
   pub w1w : (v : ℕ) → bw v ≢ none → bw v < p.g.L
   -- a best edge is an own edge
-  pub w1e : (v : ℕ) → be v ≢ none → (u : ℕ) × Ends p (be v) v u
+  pub w1e : (v : ℕ) → be v ≢ none → (u : ℕ) × Edge p (be v) v u
 
 -- G2, G3: level and identity
 pub record Levels (p : Network) (lev id fr gl gc : ℕ → ℕ) : Type 0 where
@@ -33,7 +33,7 @@ pub record Levels (p : Network) (lev id fr gl gc : ℕ → ℕ) : Type 0 where
   pub g3z : (v : ℕ) → lev v ≡ 0 → id v ≡ none
   pub g3r : (v : ℕ) → lev v ≢ 0 → id v < p.g.L
   -- the ends of an identity lie in the fragment
-  pub g3 : (v x y : ℕ) → lev v ≢ 0 → Ends p (id v) x y → fr x ≡ fr v
+  pub g3 : (v x y : ℕ) → lev v ≢ 0 → Edge p (id v) x y → fr x ≡ fr v
 
 -- G4: sizes
 pub record Sizes (p : Network) (fr gl : ℕ → ℕ) : Type 0 where
@@ -45,7 +45,7 @@ pub record Sizes (p : Network) (fr gl : ℕ → ℕ) : Type 0 where
 -- G5: above level 0 the core is a joined edge of the fragment
 pub record Cores (p : Network) (fr gl gc : ℕ → ℕ) (mark : ℕ → ℕ → ℕ) : Type 0 where
   pub g5r : (v : ℕ) → 1 ≤ gl (fr v) → gc (fr v) < p.g.L
-  pub g5 : (v x y : ℕ) → 1 ≤ gl (fr v) → Ends p (gc (fr v)) x y → Both mark (gc (fr v)) x y × (fr x ≡ fr v)
+  pub g5 : (v x y : ℕ) → 1 ≤ gl (fr v) → Edge p (gc (fr v)) x y → Both mark (gc (fr v)) x y × (fr x ≡ fr v)
 
 -- G6: a sleeper is as at setup. (Level, identity, test edge, in-branch, inbound edge, find-count, halted follow: `sleep-lev` .. in Facts)
 pub record AsleepOk (fr gl dk due bw be : ℕ → ℕ) (v : ℕ) : Type 0 where
@@ -60,31 +60,31 @@ pub record Sleepers (p : Network) (st fr gl dk due bw be ub halt : ℕ → ℕ) 
   pub g6 : (v : ℕ) → st v ≡ 0 → AsleepOk fr gl dk due bw be v
   pub g6m : (v k : ℕ) → st v ≡ 0 → mark v k ≡ 0
   -- an awake node with edges has an inbound edge
-  pub u1a : (k v u : ℕ) → Ends p k v u → st v ≢ 0 → ub v ≢ none
+  pub u1a : (k v u : ℕ) → Edge p k v u → st v ≢ 0 → ub v ≢ none
   -- an awake single node has sent its Connect; without edges it has halted
-  pub g7 : (k v u : ℕ) → Ends p k v u → st v ≢ 0 → gl (fr v) ≡ 0 → dk (fr v) ≡ 3
-  pub g7n : (v : ℕ) → st v ≢ 0 → gl (fr v) ≡ 0 → ((k u : ℕ) → Ends p k v u → ⊥) → (dk (fr v) ≡ 4) × (halt v ≡ 1)
+  pub g7 : (k v u : ℕ) → Edge p k v u → st v ≢ 0 → gl (fr v) ≡ 0 → dk (fr v) ≡ 3
+  pub g7n : (v : ℕ) → st v ≢ 0 → gl (fr v) ≡ 0 → ((k u : ℕ) → Edge p k v u → ⊥) → (dk (fr v) ≡ 4) × (halt v ≡ 1)
 
 -- M1, M3 to M5: marks and fragments
 pub record Marks (p : Network) (fr : ℕ → ℕ) (mark : ℕ → ℕ → ℕ) : Type 0 where
   -- only own edges are marked
-  pub own : (v k : ℕ) → mark v k ≢ 0 → (u : ℕ) × Ends p k v u
+  pub own : (v k : ℕ) → mark v k ≢ 0 → (u : ℕ) × Edge p k v u
   -- Rejected: inside the fragment, and not Branch at the other end
-  pub m1 : (k v u : ℕ) → Ends p k v u → mark v k ≡ 2 → (fr v ≡ fr u) × (mark u k ≢ 1)
+  pub m1 : (k v u : ℕ) → Edge p k v u → mark v k ≡ 2 → (fr v ≡ fr u) × (mark u k ≢ 1)
   -- joined: inside the fragment
-  pub m3 : (k v u : ℕ) → Ends p k v u → Both mark k v u → fr v ≡ fr u
+  pub m3 : (k v u : ℕ) → Edge p k v u → Both mark k v u → fr v ≡ fr u
   -- the joined edges connect each fragment
-  pub m4 : (u v : ℕ) → fr u ≡ fr v → Way p.g (Joined p mark) u v
+  pub m4 : (u v : ℕ) → fr u ≡ fr v → Way p.g (JoinedEdge p mark) u v
   -- a Branch is in the tree
-  pub m5 : (k v u : ℕ) → Ends p k v u → mark v k ≡ 1 → Tree p k
+  pub m5 : (k v u : ℕ) → Edge p k v u → mark v k ≡ 1 → Tree p k
 
 -- U1, M3: inbound edges
 pub record Inbounds (p : Network) (ub ib : ℕ → ℕ) (mark : ℕ → ℕ → ℕ) : Type 0 where
   -- the inbound edge is an own edge, and Branch
-  pub u1o : (v : ℕ) → ub v ≢ none → (u : ℕ) × Ends p (ub v) v u
-  pub u1 : (k v u : ℕ) → Ends p k v u → ub v ≡ k → mark v k ≡ 1
+  pub u1o : (v : ℕ) → ub v ≢ none → (u : ℕ) × Edge p (ub v) v u
+  pub u1 : (k v u : ℕ) → Edge p k v u → ub v ≡ k → mark v k ≡ 1
   -- the in-branch is an own edge, and joined
-  pub u1r : (v : ℕ) → ib v ≢ none → (u : ℕ) × Ends p (ib v) v u
-  pub u1i : (k v u : ℕ) → Ends p k v u → ib v ≡ k → Both mark k v u
+  pub u1r : (v : ℕ) → ib v ≢ none → (u : ℕ) × Edge p (ib v) v u
+  pub u1i : (k v u : ℕ) → Edge p k v u → ib v ≡ k → Both mark k v u
   -- a joined edge is inbound for one of its ends
-  pub m3u : (k v u : ℕ) → Ends p k v u → Both mark k v u → (ub v ≡ k) ⊎ (ub u ≡ k)
+  pub m3u : (k v u : ℕ) → Edge p k v u → Both mark k v u → (ub v ≡ k) ⊎ (ub u ≡ k)

@@ -1,12 +1,12 @@
 -- THE INVARIANT. Every small step keeps it; it holds at setup.
 use Rattle.protocol.specs.Network.{Network}
-use Rattle.protocol.specs.State.{State}
+use Rattle.protocol.specs.State.{ProtocolState}
 use Rattle.protocol.specs.Fragments.{Ranges, Values, Levels, Sizes, Cores, Sleepers, Marks, Inbounds}
 use Rattle.protocol.specs.Decisions.{Halves, ChangeRoots, Rootings, Finishes}
-use Rattle.protocol.specs.Search.{Parents, Kids, Finds, Pending, Counts, Tests, Weights}
+use Rattle.protocol.specs.Search.{Parents, Kids, Finds, Pending, FindCounts, Tests, Weights}
 use Rattle.protocol.specs.Traffic.{Hush, Tokens, Connects, Initiates, Telling, Testing, Answers, Reports, Owing, Bests, Ordered}
 
-pub record Inv (p : Network) (s : State) : Type 0 where
+pub record Inv (p : Network) (s : ProtocolState) : Type 0 where
   -- over tables
   pub W0 : Ranges s.st s.halt s.due s.dk s.mark
   pub W1 : Values p s.bw s.be
@@ -24,7 +24,7 @@ pub record Inv (p : Network) (s : State) : Type 0 where
   pub T2 : Kids p s.lev s.fr s.gl s.gc s.ib s.ub s.due s.mark
   pub F1 : Finds s.st s.lev s.fr s.gl s.dk s.due
   pub F2 : Pending s.st s.te s.fc s.ot s.op
-  pub F4 : Counts p s.fc s.owe
+  pub F4 : FindCounts p s.fc s.owe
   pub E2 : Tests p s.te s.ib s.mark s.ot
   pub B1 : Weights p s.lev s.fr s.gl s.bw s.be s.side
   -- over channels

@@ -103,7 +103,7 @@ Rouse (report w) = ⊥
 Rouse change = ⊥
 
 -- what may stand behind an Initiate of level n
-abbrev pub After : ℕ → Msg → Type 0
+abbrev After : ℕ → Msg → Type 0
 After n (connect l) = ⊥
 After n (initiate l f x) = n < l
 After n (test l f) = Unit {0}
@@ -123,22 +123,22 @@ Fits (report w) m = isR m ≡ 0
 Fits change m = isK m ≡ 0
 
 -- the receiver's level once it has served m; a is its level now
-abbrev pub raise : ℕ → Msg → ℕ
-raise a (connect l) = a
-raise a (initiate l f x) = l
-raise a (test l f) = a
-raise a accept = a
-raise a reject = a
-raise a (report w) = a
-raise a change = a
+abbrev pub levelAfter : ℕ → Msg → ℕ
+levelAfter a (connect l) = a
+levelAfter a (initiate l f x) = l
+levelAfter a (test l f) = a
+levelAfter a accept = a
+levelAfter a reject = a
+levelAfter a (report w) = a
+levelAfter a change = a
 
 -- the same for all messages of a channel
 abbrev pub top : ℕ → List Msg → ℕ
 top a [] = a
-top a (m ∷ r) = top (raise a m) r
+top a (m ∷ r) = top (levelAfter a m) r
 
 -- m leaves it as it is, or is an Initiate of the new level
-pub raise-in : (a : ℕ) (m : Msg) → (raise a m ≡ a) ⊎ ((f : ℕ) × (x : ℕ) × (initiate (raise a m) f x ≡ m))
+pub raise-in : (a : ℕ) (m : Msg) → (levelAfter a m ≡ a) ⊎ ((f : ℕ) × (x : ℕ) × (initiate (levelAfter a m) f x ≡ m))
 raise-in a (connect l) = inl refl
 raise-in a (initiate l f x) = inr (f, x, refl)
 raise-in a (test l f) = inl refl

@@ -12,12 +12,12 @@ use Rattle.base.specs.Sum.{sum, sum-change, sum-eq, le-sum}
 use Rattle.graph.specs.Graph.{Graph, Joins, up, down}
 use Rattle.graph.specs.Ways.{ends-same, ends-two}
 use Rattle.format_message.specs.Msg.{Msg, connect, initiate, test, accept, reject, report, change}
-use Rattle.protocol.specs.Network.{Network, Ends}
-use Rattle.protocol.specs.State.{State}
-use Rattle.protocol.specs.Step.{bulk, fan, fill, copy}
-use Rattle.protocol.specs.Kind.{isC, isI, isCI, isT, isA, isR, isK, Fits, raise, raise-in, top}
+use Rattle.protocol.specs.Network.{Network, Edge}
+use Rattle.protocol.specs.State.{ProtocolState}
+use Rattle.protocol.specs.Step.{bulk, fan, fillEdges, copy}
+use Rattle.protocol.specs.Kind.{isC, isI, isCI, isT, isA, isR, isK, Fits, levelAfter, raise-in, top}
 use Rattle.protocol.specs.Chan.{In, first, next, Bef, heads, tails, in-nil, in-cons, in-snoc, bef-snoc, in-left, in-right, in-sum, some-of, head-at, snoc, snoc-elim}
-use Rattle.protocol.specs.Notion.{Both, Joined}
+use Rattle.protocol.specs.Notion.{Both, JoinedEdge}
 
 -- ---- labels: those of label a get x
 
@@ -58,14 +58,14 @@ pub eqb-true : (a b : ℕ) → eqb a b ≡ true → a ≡ b
 eqb-true a b = eqb-cases a b (λ x. x ≡ true → a ≡ b) (λ e h. e) (λ n h. absurd (let z : _≡_ {A = ℕ} 0 1 = cc in omega arith))
 
 -- who gets a copy from v, told over k
-pub copy-yes : (s : State) (v k j : ℕ) → copy s v k j ≡ true → (j ≢ k) × (s.mark v j ≡ 1)
+pub copy-yes : (s : ProtocolState) (v k j : ℕ) → copy s v k j ≡ true → (j ≢ k) × (s.mark v j ≡ 1)
 unfolding copy
 copy-yes s v k j e = let t = both-true (not (eqb j k)) (eqb (s.mark v j) 1) e in (λ q. no-true (rw (q, eqb-same) at (t .0)), eqb-true (s.mark v j) 1 (t .1))
   where
     no-true : not true ≡ true → ⊥
     no-true q = let z : _≡_ {A = ℕ} 0 1 = cc in omega arith
 
-pub copy-on : (s : State) (v k j : ℕ) → j ≢ k → s.mark v j ≡ 1 → copy s v k j ≡ true
+pub copy-on : (s : ProtocolState) (v k j : ℕ) → j ≢ k → s.mark v j ≡ 1 → copy s v k j ≡ true
 unfolding copy
 copy-on s v k j n e = rw (eqb-diff j k n, e) refl
 
@@ -81,8 +81,8 @@ fan-elim P c v f m w j y n = eqb-cases v w (λ b. P (cond (b && f j) (c w j ++ (
     go false h g = g refl
 
 pub fill-elim {κ} : (P : ℕ → Type κ) (t : ℕ → ℕ → ℕ) (v : ℕ) (f : ℕ → Bool) (x w j : ℕ)
-    → (v ≡ w → f j ≡ true → P x) → ((v ≢ w) ⊎ (f j ≡ false) → P (t w j)) → P (fill t v f x w j)
-unfolding fill
+    → (v ≡ w → f j ≡ true → P x) → ((v ≢ w) ⊎ (f j ≡ false) → P (t w j)) → P (fillEdges t v f x w j)
+unfolding fillEdges
 fill-elim P t v f x w j y n = eqb-cases v w (λ b. P (cond (b && f j) x (t w j)))
     (λ e. go (f j) (λ h. y e h) (λ h. n (inr h))) (λ d. n (inl d))
   where
@@ -123,7 +123,7 @@ module _ (c : ℕ → ℕ → List Msg) (v : ℕ) (f : ℕ → Bool) (m : Msg) w
 
 pub top-app : (a l f x : ℕ) (c : List Msg) → top a (c ++ (initiate l f x ∷ [])) ≡ l
 top-app a l f x [] = refl
-top-app a l f x (m ∷ r) = top-app (raise a m) l f x r
+top-app a l f x (m ∷ r) = top-app (levelAfter a m) l f x r
 
 -- another kind at the head, at the end, put from the head to the middle, changes nothing
 pub top-cons : (a : ℕ) (m : Msg) (c : List Msg) → isI m ≡ 0 → top a (m ∷ c) ≡ top a c
@@ -131,11 +131,11 @@ top-cons a m c h = ap (λ n. top n c) (⊎-elim (λ e. e) (λ t. absurd (omega (
 
 pub top-snoc : (a : ℕ) (m : Msg) (c : List Msg) → isI m ≡ 0 → top a (c ++ (m ∷ [])) ≡ top a c
 top-snoc a m [] h = top-cons a m [] h
-top-snoc a m (n ∷ r) h = top-snoc (raise a n) m r h
+top-snoc a m (n ∷ r) h = top-snoc (levelAfter a n) m r h
 
 top-mid : (a : ℕ) (m : Msg) (b c : List Msg) → isI m ≡ 0 → top a (b ++ (m ∷ c)) ≡ top a (b ++ c)
 top-mid a m [] c h = top-cons a m c h
-top-mid a m (n ∷ r) c h = top-mid (raise a n) m r c h
+top-mid a m (n ∷ r) c h = top-mid (levelAfter a n) m r c h
 
 -- so it is the same where such a message is taken, sent, put back
 module _ (c : ℕ → ℕ → List Msg) (u k : ℕ) (m : Msg) (h : isI m ≡ 0) where
@@ -156,7 +156,7 @@ top-in a [] = inl refl
 top-in a (m ∷ r) = ⊎-elim
     (λ e. ⊎-elim (λ q. inl (e ∙ q))
     (λ t. inr (t .0, t .1, subst (λ n. In (initiate n (t .0) (t .1)) (m ∷ r)) (sym e) (subst (λ n. In n (m ∷ r)) (sym (t .2)) first))) (raise-in a m))
-    (λ h. inr (h .0, h .1, next (h .2))) (top-in (raise a m) r)
+    (λ h. inr (h .0, h .1, next (h .2))) (top-in (levelAfter a m) r)
 
 -- no Initiate there
 pub top-none : (a : ℕ) (c : List Msg) → ((l f x : ℕ) → ¬ In (initiate l f x) c) → top a c ≡ a
@@ -166,9 +166,9 @@ top-none a c h = ⊎-elim (λ e. e) (λ t. absurd (h (top a c) (t .0) (t .1) (t 
 pub top-max : (a : ℕ) (c : List Msg) → ((m n : Msg) → Bef m n c → Fits m n) → (l f x : ℕ) → In (initiate l f x) c → l ≤ top a c
 top-max a [] q l f x h = absurd (in-nil h)
 top-max a (m ∷ r) q l f x h = ⊎-elim
-    (λ e. ⊎-elim (λ z. omega (arith, ap (raise a) e))
-    (λ z. let n = initiate (top (raise a m) r) (z .0) (z .1) in omega (arith, subst (λ y. Fits y n) (sym e) (q m n (heads (z .2))))) (top-in (raise a m) r))
-    (λ t. top-max (raise a m) r (λ n n′ b. q n n′ (tails b)) l f x t)
+    (λ e. ⊎-elim (λ z. omega (arith, ap (levelAfter a) e))
+    (λ z. let n = initiate (top (levelAfter a m) r) (z .0) (z .1) in omega (arith, subst (λ y. Fits y n) (sym e) (q m n (heads (z .2))))) (top-in (levelAfter a m) r))
+    (λ t. top-max (levelAfter a m) r (λ n n′ b. q n n′ (tails b)) l f x t)
     (in-cons h)
 
 -- ---- from counts to messages
@@ -210,9 +210,6 @@ some-answer c h = some isA c h (λ l i. no) (λ l f x i. no) (λ l f i. no) (λ 
 pub some-call : (c : List Msg) → 1 ≤ sumL isCI c → ((l : ℕ) × In (connect l) c) ⊎ ((l : ℕ) × (f : ℕ) × (x : ℕ) × In (initiate l f x) c)
 some-call c h = some isCI c h (λ l i o. inl (l, i)) (λ l f x i o. inr (l, f, x, i)) (λ l f i. no) (λ i. no) (λ i. no) (λ w i. no) (λ i. no)
 
-pub no-connects : (c : List Msg) → ((l : ℕ) → ¬ In (connect l) c) → sumL isC c ≡ 0
-no-connects c h = by-eq (sumL isC c) 0 (λ e. e) (λ n. let t = some-connect c (omega arith) in absurd (h (t .0) (t .1)))
-
 pub no-tests : (c : List Msg) → ((l f : ℕ) → ¬ In (test l f) c) → sumL isT c ≡ 0
 no-tests c h = by-eq (sumL isT c) 0 (λ e. e) (λ n. let t = some-test c (omega arith) in absurd (h (t .0) (t .1) (t .2)))
 
@@ -242,11 +239,11 @@ same-edge {g} {u} {v} d e q = ends-two (subst (λ n. Joins g n u v) q d) e
 
 -- joined, of an edge and of its ends
 
-pub joined-both : (p : Network) (mark : ℕ → ℕ → ℕ) {k a b : ℕ} → Ends p k a b → Joined p mark k → Both mark k a b
+pub joined-both : (p : Network) (mark : ℕ → ℕ → ℕ) {k a b : ℕ} → Edge p k a b → JoinedEdge p mark k → Both mark k a b
 joined-both p mark {k} (up l e f) j = (sym (ap (λ x. mark x k) e) ∙ j .0, sym (ap (λ x. mark x k) f) ∙ j .1)
 joined-both p mark {k} (down l e f) j = (sym (ap (λ x. mark x k) e) ∙ j .1, sym (ap (λ x. mark x k) f) ∙ j .0)
 
-pub both-joined : (p : Network) (mark : ℕ → ℕ → ℕ) {k a b : ℕ} → Ends p k a b → Both mark k a b → Joined p mark k
+pub both-joined : (p : Network) (mark : ℕ → ℕ → ℕ) {k a b : ℕ} → Edge p k a b → Both mark k a b → JoinedEdge p mark k
 both-joined p mark {k} (up l e f) j = (ap (λ x. mark x k) e ∙ j .0, ap (λ x. mark x k) f ∙ j .1)
 both-joined p mark {k} (down l e f) j = (ap (λ x. mark x k) f ∙ j .1, ap (λ x. mark x k) e ∙ j .0)
 
@@ -266,10 +263,10 @@ unfolding upd2
 row-else v k x t w n = upd-other t v (upd (t v) k x) w n
 
 -- an empty row is filled
-pub sum-fill : (n v x : ℕ) (t : ℕ → ℕ → ℕ) (f : ℕ → Bool) → sum n (t v) ≡ 0 → sum n (fill t v f x v) ≡ x * sum n (λ j. bit (f j))
-sum-fill n v x t f z = sum-eq n (fill t v f x v) (λ j. x * bit (f j)) each ∙ times n
+pub sum-fill : (n v x : ℕ) (t : ℕ → ℕ → ℕ) (f : ℕ → Bool) → sum n (t v) ≡ 0 → sum n (fillEdges t v f x v) ≡ x * sum n (λ j. bit (f j))
+sum-fill n v x t f z = sum-eq n (fillEdges t v f x v) (λ j. x * bit (f j)) each ∙ times n
   where
-    each : (j : ℕ) → j < n → fill t v f x v j ≡ x * bit (f j)
+    each : (j : ℕ) → j < n → fillEdges t v f x v j ≡ x * bit (f j)
     each j l = fill-elim (λ y. y ≡ x * bit (f j)) t v f x v j
         (λ a b. rw b (omega arith))
         (λ d. ⊎-elim (λ q. absurd (q refl)) (λ q. rw q (omega (arith, le-sum n j (t v) l))) d)
@@ -278,5 +275,5 @@ sum-fill n v x t f z = sum-eq n (fill t v f x v) (λ j. x * bit (f j)) each ∙ 
     times zero = omega arith
     times (suc m) = omega (arith, times m)
 
-pub fill-else : (t : ℕ → ℕ → ℕ) (v : ℕ) (f : ℕ → Bool) (x w j : ℕ) → v ≢ w → fill t v f x w j ≡ t w j
+pub fill-else : (t : ℕ → ℕ → ℕ) (v : ℕ) (f : ℕ → Bool) (x w j : ℕ) → v ≢ w → fillEdges t v f x w j ≡ t w j
 fill-else t v f x w j n = fill-elim (λ y. y ≡ t w j) t v f x w j (λ a b. absurd (n a)) (λ d. refl)

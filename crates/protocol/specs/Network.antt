@@ -9,7 +9,7 @@ use Rattle.base.specs.Cond.{eqb-cases}
 use Rattle.graph.specs.Graph.{Graph, Joins, up, down}
 use Rattle.graph.specs.Order.{Order, InTree}
 use Rattle.graph.specs.Ways.{joins-lt, ends-diff}
-use Rattle.graph.specs.Rank as R
+use Rattle.graph.specs.Rank.{rank-bound, rankIn, rankIn-inj}
 use Rattle.format_message.specs.Msg.{none}
 
 pub record Network : Type 0 where
@@ -24,8 +24,8 @@ pub record Network : Type 0 where
   pub small : g.L ≤ 65535
 
 -- edge k joins u and v
-abbrev pub Ends : Network → ℕ → ℕ → ℕ → Type 0
-Ends p k u v = Joins p.g k u v
+abbrev pub Edge : Network → ℕ → ℕ → ℕ → Type 0
+Edge p k u v = Joins p.g k u v
 
 -- edge k is in the tree
 abbrev pub Tree : Network → ℕ → Type 0
@@ -33,7 +33,7 @@ Tree p k = InTree p.g (p.order.earlier) k
 
 -- place of an edge in the order: smaller is earlier
 abbrev pub rank : Network → ℕ → ℕ
-rank p k = R.rank p.order k
+rank p k = rankIn p.order k
 
 -- the same for an edge or none: none is later than all
 unfoldable pub key : Network → ℕ → ℕ
@@ -52,25 +52,25 @@ module _ (p : Network) where
   key-edge k l = key-some k (λ e. omega (arith, p.small))
 
   pub rank-lt : (k : ℕ) → k < p.g.L → rank p k < p.g.L
-  rank-lt k l = R.rank-bound p.order k l
+  rank-lt k l = rank-bound p.order k l
 
   pub rank-inj : (e f : ℕ) → e < p.g.L → f < p.g.L → rank p e ≡ rank p f → e ≡ f
-  rank-inj e f a b q = R.rank-inj p.order e f a b q
+  rank-inj e f a b q = rankIn-inj p.order e f a b q
 
   -- an edge of the graph is not none, and its ends differ
-  pub edge-some : {k u v : ℕ} → Ends p k u v → k ≢ none
+  pub edge-some : {k u v : ℕ} → Edge p k u v → k ≢ none
   edge-some e n = omega (arith, joins-lt e, p.small)
 
-  pub ends-irr : {k u v : ℕ} → Ends p k u v → u ≢ v
+  pub ends-irr : {k u v : ℕ} → Edge p k u v → u ≢ v
   ends-irr {k} e = ends-diff (p.no-loop k (joins-lt e)) e
 
-  pub ends-key : {k u v : ℕ} → Ends p k u v → key p k ≡ rank p k
+  pub ends-key : {k u v : ℕ} → Edge p k u v → key p k ≡ rank p k
   ends-key {k} e = key-edge k (joins-lt e)
 
-  pub ends-rank : {k u v : ℕ} → Ends p k u v → rank p k < p.g.L
+  pub ends-rank : {k u v : ℕ} → Edge p k u v → rank p k < p.g.L
   ends-rank {k} e = rank-lt k (joins-lt e)
 
   -- an end of an edge is a node
-  pub end-lt : {k u v : ℕ} → Ends p k u v → u < p.N
+  pub end-lt : {k u v : ℕ} → Edge p k u v → u < p.N
   end-lt {k} (up l a b) = omega (arith, p.ends-lt k l .0)
   end-lt {k} (down l a b) = omega (arith, p.ends-lt k l .1)

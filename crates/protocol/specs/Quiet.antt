@@ -8,26 +8,26 @@ use Rattle.base.specs.Sum.{le-sum}
 use Rattle.base.specs.Search.{strong}
 use Rattle.graph.specs.Graph.{Way, stop, go}
 use Rattle.graph.specs.Ways.{joins-lt, flip, ends-two}
-use Rattle.protocol.specs.Network.{Network, Ends}
-use Rattle.protocol.specs.State.{State}
+use Rattle.protocol.specs.Network.{Network, Edge}
+use Rattle.protocol.specs.State.{ProtocolState}
 use Rattle.protocol.specs.Lemmas.{joined-both}
-use Rattle.protocol.specs.Notion.{GL, GC, Inf, Jn, Joined, Outst}
+use Rattle.protocol.specs.Notion.{GL, GC, Inf, Jn, JoinedEdge, Outst}
 use Rattle.protocol.specs.Inv.{Inv}
 use Rattle.protocol.specs.Facts.{inf-cases, fc-find, up-other}
 
-module _ {p : Network} {s : State} (i : Inv p s) where
+module _ {p : Network} {s : ProtocolState} (i : Inv p s) where
   -- who waits for a Report is Find
-  pub parent-find : (k v c : ℕ) → Ends p k v c → Inf s v → Jn s k v c → s.ib v ≢ k → Outst s c k → s.st v ≡ 1
+  pub parent-find : (k v c : ℕ) → Edge p k v c → Inf s v → Jn s k v c → s.ib v ≢ k → Outst s c k → s.st v ≡ 1
   parent-find k v c e h j n o = fc-find i v (λ z. omega (arith, i.F4.f4 v, i.F4c.f4n k v c e h j n o, le-sum p.g.L k (s.owe v) (joins-lt e)))
 
   -- the parent of a Find node is Find
-  pub climb : (k v u : ℕ) → Ends p k v u → s.ib v ≡ k → GC s v ≢ k → s.st v ≡ 1 → s.st u ≡ 1
+  pub climb : (k v u : ℕ) → Edge p k v u → s.ib v ≡ k → GC s v ≢ k → s.st v ≡ 1 → s.st u ≡ 1
   climb k v u e b n f =
       let h = i.F1.f1 v f .f1i in
       let j = i.U1.u1i k v u e b in
       parent-find k u v (flip e) (i.T1.t1p k v u e h b n .0) (j .1, j .0) (up-other i k v u e h b n) (inl (h, inl f))
 
-  module _ {k x y : ℕ} (ends : Ends p k x y) (core : GC s x ≡ k) (ix : Inf s x) (iy : Inf s y) (fx : s.st x ≢ 1) (fy : s.st y ≢ 1) where
+  module _ {k x y : ℕ} (ends : Edge p k x y) (core : GC s x ≡ k) (ix : Inf s x) (iy : Inf s y) (fx : s.st x ≢ 1) (fy : s.st y ≢ 1) where
     -- nobody informed is Find: by the depth
     no-find-at : (d v : ℕ) → s.dep v ≡ d → s.fr v ≡ s.fr x → s.st v ≢ 1
     no-find-at = strong (λ d. (v : ℕ) → s.dep v ≡ d → s.fr v ≡ s.fr x → s.st v ≢ 1) step
@@ -36,7 +36,7 @@ module _ {p : Network} {s : State} (i : Inv p s) where
         end : (v : ℕ) → Inf s v → s.fr v ≡ s.fr x → s.ib v ≡ k → s.st v ≢ 1
         end v h q b =
             let t = i.U1.u1r v (i.T1.t1 v h) in
-            ⊎-elim (λ z f. fx (ap s.st (sym (z .0)) ∙ f)) (λ z f. fy (ap s.st (sym (z .0)) ∙ f)) (ends-two (subst (λ j. Ends p j v (t .0)) b (t .1)) ends)
+            ⊎-elim (λ z f. fx (ap s.st (sym (z .0)) ∙ f)) (λ z f. fy (ap s.st (sym (z .0)) ∙ f)) (ends-two (subst (λ j. Edge p j v (t .0)) b (t .1)) ends)
 
         step : (d : ℕ) → ((c : ℕ) → c < d → (v : ℕ) → s.dep v ≡ c → s.fr v ≡ s.fr x → s.st v ≢ 1) → (v : ℕ) → s.dep v ≡ d → s.fr v ≡ s.fr x → s.st v ≢ 1
         step d ih v e q f =
@@ -58,7 +58,7 @@ module _ {p : Network} {s : State} (i : Inv p s) where
     due-inf v q h d = no-find v q (i.F1.f1d v h d)
 
     -- nobody at all: along a way of joined edges to the core end
-    along : {v : ℕ} {w : ℕ} → Way p.g (Joined p s.mark) v w → w ≡ x → s.fr v ≡ s.fr x → s.due v ≢ 1
+    along : {v : ℕ} {w : ℕ} → Way p.g (JoinedEdge p s.mark) v w → w ≡ x → s.fr v ≡ s.fr x → s.due v ≢ 1
     along stop e q d = due-inf _ q (subst (λ z. Inf s z) (sym e) ix) d
     along (go {u = a} {v = b} j f o w) e q d =
         let both = joined-both p s.mark f o in
@@ -75,10 +75,10 @@ module _ {p : Network} {s : State} (i : Inv p s) where
         (λ z. omega (arith, ap s.gl q, ix .0))
       where
         -- a node beyond the core, in the fragment, is a core end, so informed
-        low : (a b j : ℕ) → Ends p j a b → Jn s j a b → s.fr a ≡ s.fr x → s.fr b ≡ s.fr x → s.lev a < GL s a → GC s b ≡ j → s.lev a ≡ GL s a
+        low : (a b j : ℕ) → Edge p j a b → Jn s j a b → s.fr a ≡ s.fr x → s.fr b ≡ s.fr x → s.lev a < GL s a → GC s b ≡ j → s.lev a ≡ GL s a
         low a b j f both q r l g =
             let e : j ≡ k = sym g ∙ ap s.gc r ∙ core in
-            ⊎-elim (λ z. subst (λ n. s.lev n ≡ GL s n) (sym (z .0)) (ix .1)) (λ z. subst (λ n. s.lev n ≡ GL s n) (sym (z .0)) (iy .1)) (ends-two (subst (λ n. Ends p n a b) e f) ends)
+            ⊎-elim (λ z. subst (λ n. s.lev n ≡ GL s n) (sym (z .0)) (ix .1)) (λ z. subst (λ n. s.lev n ≡ GL s n) (sym (z .0)) (iy .1)) (ends-two (subst (λ n. Edge p n a b) e f) ends)
 
     pub no-due : (v : ℕ) → s.fr v ≡ s.fr x → s.due v ≢ 1
     no-due v q = along (i.M1.m4 v x q) refl q

@@ -1,11 +1,11 @@
 -- A step that changes test edges, best edges, find-counts or what is open keeps the clauses on channels that do not read them.
 use Prim.Native.Nat.{ℕ}
 use Rattle.protocol.specs.Network.{Network}
-use Rattle.protocol.specs.State.{State, set-te, set-be, set-fc, set-ot, set-op, set-oo}
+use Rattle.protocol.specs.State.{ProtocolState, set-te, set-be, set-fc, set-ot, set-op, set-oo}
 use Rattle.protocol.specs.Flow.{Flow}
 
-module _ (p : Network) (s : State) (te be fc : ℕ → ℕ) (ot op oo : ℕ) where
-  abbrev pub reopened : State
+module _ (p : Network) (s : ProtocolState) (te be fc : ℕ → ℕ) (ot op oo : ℕ) where
+  abbrev pub reopened : ProtocolState
   reopened = set-oo (set-op (set-ot (set-fc (set-be (set-te s te) be) fc) ot) op) oo
 
   pub flow-open : Flow p s → Flow p reopened

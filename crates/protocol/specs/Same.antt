@@ -7,39 +7,39 @@ use mathlib.Core.Logic.{_⊎_, inl, inr, ⊎-elim}
 use mathlib.Core.List.{List}
 use Rattle.base.specs.Pool.{sumL}
 use Rattle.format_message.specs.Msg.{Msg, connect, initiate, test, accept, reject, report}
-use Rattle.protocol.specs.Network.{Network, Ends, rank}
-use Rattle.protocol.specs.State.{State, set-ch}
+use Rattle.protocol.specs.Network.{Network, Edge, rank}
+use Rattle.protocol.specs.State.{ProtocolState, set-ch}
 use Rattle.protocol.specs.Kind.{isCI, isT, isA, isR}
 use Rattle.protocol.specs.Chan.{In, Bef}
-use Rattle.protocol.specs.Notion.{Both, GL, Outst, Live, Covered, CoreEnds}
+use Rattle.protocol.specs.Notion.{Both, GL, Outst, Counting, Covered, CoreEnds}
 use Rattle.protocol.specs.Traffic.{Connects, InitOk, Initiates, Testing, Answers, Reports, Owing, Bests}
 
 -- ---- Reports to come, live best weights, what covers an edge
 
-pub outst-ch : (s : State) (c′ : ℕ → ℕ → List Msg) (c k : ℕ) → (1 ≤ sumL isR (s.ch c k) → 1 ≤ sumL isR (c′ c k)) → Outst s c k → Outst (set-ch s c′) c k
+pub outst-ch : (s : ProtocolState) (c′ : ℕ → ℕ → List Msg) (c k : ℕ) → (1 ≤ sumL isR (s.ch c k) → 1 ≤ sumL isR (c′ c k)) → Outst s c k → Outst (set-ch s c′) c k
 outst-ch s c′ c k h (inl t) = inl (t .0, ⊎-elim (λ f. inl f) (λ r. inr (h r)) (t .1))
 outst-ch s c′ c k h (inr t) = inr t
 
-pub live-ch : (s : State) (c′ : ℕ → ℕ → List Msg) (x : ℕ) → (1 ≤ sumL isR (s.ch x (s.ib x)) → Live (set-ch s c′) x) → Live s x → Live (set-ch s c′) x
-live-ch s c′ x h (inl f) = inl f
-live-ch s c′ x h (inr (inl g)) = inr (inl g)
-live-ch s c′ x h (inr (inr r)) = h r
+pub counting-ch : (s : ProtocolState) (c′ : ℕ → ℕ → List Msg) (x : ℕ) → (1 ≤ sumL isR (s.ch x (s.ib x)) → Counting (set-ch s c′) x) → Counting s x → Counting (set-ch s c′) x
+counting-ch s c′ x h (inl f) = inl f
+counting-ch s c′ x h (inr (inl g)) = inr (inl g)
+counting-ch s c′ x h (inr (inr r)) = h r
 
 -- the last of the four cases of b2
-pub last : {A B C D E : Type 0} → (D → E) → A ⊎ (B ⊎ (C ⊎ D)) → A ⊎ (B ⊎ (C ⊎ E))
-last f (inl a) = inl a
-last f (inr (inl b)) = inr (inl b)
-last f (inr (inr (inl c))) = inr (inr (inl c))
-last f (inr (inr (inr d))) = inr (inr (inr (f d)))
+pub last-case : {A B C D E : Type 0} → (D → E) → A ⊎ (B ⊎ (C ⊎ D)) → A ⊎ (B ⊎ (C ⊎ E))
+last-case f (inl a) = inl a
+last-case f (inr (inl b)) = inr (inl b)
+last-case f (inr (inr (inl c))) = inr (inr (inl c))
+last-case f (inr (inr (inr d))) = inr (inr (inr (f d)))
 
 -- ---- as many Reports on each channel
 
-module _ (p : Network) (s : State) (c′ : ℕ → ℕ → List Msg) (rep : (w j : ℕ) → sumL isR (c′ w j) ≡ sumL isR (s.ch w j)) where
-  pub live-to : (x : ℕ) → Live s x → Live (set-ch s c′) x
-  live-to x = live-ch s c′ x (λ r. inr (inr (omega (arith, rep x (s.ib x)))))
+module _ (p : Network) (s : ProtocolState) (c′ : ℕ → ℕ → List Msg) (rep : (w j : ℕ) → sumL isR (c′ w j) ≡ sumL isR (s.ch w j)) where
+  pub counting-to : (x : ℕ) → Counting s x → Counting (set-ch s c′) x
+  counting-to x = counting-ch s c′ x (λ r. inr (inr (omega (arith, rep x (s.ib x)))))
 
   pub covered-to : (u n : ℕ) → Covered p s u n → Covered p (set-ch s c′) u n
-  covered-to u n t = (t .0, t .1, t .2, t .3, live-to (t .0) (t .4), t .5)
+  covered-to u n t = (t .0, t .1, t .2, t .3, counting-to (t .0) (t .4), t .5)
 
   pub owing-same : Owing p s → Owing p (set-ch s c′)
   owing-same o = record {
@@ -50,16 +50,16 @@ module _ (p : Network) (s : State) (c′ : ℕ → ℕ → List Msg) (rep : (w j
   pub bests-same : Bests p s → Bests p (set-ch s c′)
   bests-same o = record {
     b1e = λ v h n d. let t = o.b1e v h n d in (t .0, t .1, t .2, t .3, t .4, t .5, t .6, t .7, rep (t .0) (s.be v) ∙ t .8);
-    b2 = λ k u w e m d g. last (covered-to u (rank p k)) (o.b2 k u w e m d g);
+    b2 = λ k u w e m d g. last-case (covered-to u (rank p k)) (o.b2 k u w e m d g);
   }
 
 -- ---- no new Connect, Initiate, answer
 
-pub connects-same : (p : Network) (s : State) (c′ : ℕ → ℕ → List Msg) → ((w j l : ℕ) → In (connect l) (c′ w j) → In (connect l) (s.ch w j))
+pub connects-same : (p : Network) (s : ProtocolState) (c′ : ℕ → ℕ → List Msg) → ((w j l : ℕ) → In (connect l) (c′ w j) → In (connect l) (s.ch w j))
     → Connects p s → Connects p (set-ch s c′)
 connects-same p s c′ old o = record { c1m = λ k u v l e n. o.c1m k u v l e (old u k l n); c1 = λ k u v l e n m. o.c1 k u v l e (old u k l n) m }
 
-pub initiates-same : (p : Network) (s : State) (c′ : ℕ → ℕ → List Msg) → ((w j l f x : ℕ) → In (initiate l f x) (c′ w j) → In (initiate l f x) (s.ch w j))
+pub initiates-same : (p : Network) (s : ProtocolState) (c′ : ℕ → ℕ → List Msg) → ((w j l f x : ℕ) → In (initiate l f x) (c′ w j) → In (initiate l f x) (s.ch w j))
     → Initiates p s → Initiates p (set-ch s c′)
 initiates-same p s c′ old o = record { i1 = λ k u v l f x e n. o.i1 k u v l f x e (old u k l f x n) }
 
@@ -79,12 +79,12 @@ init-ok t j u d = record {
   i1z = t.i1z;
 }
 
-pub answers-same : (p : Network) (s : State) (c′ : ℕ → ℕ → List Msg) → ((w j : ℕ) → In accept (c′ w j) → In accept (s.ch w j))
+pub answers-same : (p : Network) (s : ProtocolState) (c′ : ℕ → ℕ → List Msg) → ((w j : ℕ) → In accept (c′ w j) → In accept (s.ch w j))
     → ((w j : ℕ) → In reject (c′ w j) → In reject (s.ch w j)) → Answers p s → Answers p (set-ch s c′)
 answers-same p s c′ ya yr o = record { a1 = λ k u v e n. o.a1 k u v e (ya u k n); j1 = λ k u v e n. o.j1 k u v e (yr u k n) }
 
 -- as many Tests and answers on each channel, and no new Test
-pub testing-same : (p : Network) (s : State) (c′ : ℕ → ℕ → List Msg) → ((w j l f : ℕ) → In (test l f) (c′ w j) → In (test l f) (s.ch w j))
+pub testing-same : (p : Network) (s : ProtocolState) (c′ : ℕ → ℕ → List Msg) → ((w j l f : ℕ) → In (test l f) (c′ w j) → In (test l f) (s.ch w j))
     → ((w j : ℕ) → sumL isT (c′ w j) ≡ sumL isT (s.ch w j)) → ((w j : ℕ) → sumL isA (c′ w j) ≡ sumL isA (s.ch w j)) → Testing p s → Testing p (set-ch s c′)
 testing-same p s c′ old t a o = record {
   e1 = λ k u v l f e n. o.e1 k u v l f e (old u k l f n);
@@ -110,10 +110,10 @@ pub around-same : {c l : List Msg} {w : ℕ} → l ≡ c → In (report w) l →
 around-same {c} {w} q h = subst (λ x. Around c x w) (sym q)
     (record { was = subst (λ x. In (report w) x) q h; call-sum = refl; in-init = λ n f x i. i; behind = λ n b. inl b; ahead = λ n b. inl b })
 
-abbrev pub Alike : Network → State → (ℕ → ℕ → List Msg) → Type 0
-Alike p s c′ = (k u v w : ℕ) → Ends p k u v → In (report w) (c′ u k) → Around (s.ch u k) (c′ u k) w
+abbrev pub Alike : Network → ProtocolState → (ℕ → ℕ → List Msg) → Type 0
+Alike p s c′ = (k u v w : ℕ) → Edge p k u v → In (report w) (c′ u k) → Around (s.ch u k) (c′ u k) w
 
-module _ (p : Network) (s : State) (c′ : ℕ → ℕ → List Msg) where
+module _ (p : Network) (s : ProtocolState) (c′ : ℕ → ℕ → List Msg) where
   pub core-same : (u v k w : ℕ) → Around (s.ch u k) (c′ u k) w → CoreEnds s u v k w → CoreEnds (set-ch s c′) u v k w
   core-same u v k w h t = (
     t .0,

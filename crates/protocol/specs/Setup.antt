@@ -7,11 +7,11 @@ use Rattle.base.specs.Sum.{sum-zero}
 use Rattle.graph.specs.Size.{size-start}
 use Rattle.graph.specs.Ways.{here}
 use Rattle.protocol.specs.Network.{Network, edge-some}
-use Rattle.protocol.specs.State.{setup}
+use Rattle.protocol.specs.State.{setupState}
 use Rattle.protocol.specs.Chan.{in-nil, bef-nil}
 use Rattle.protocol.specs.Inv.{Inv}
 
-pub inv-setup : (p : Network) → Inv p setup
+pub inv-setup : (p : Network) → Inv p setupState
 inv-setup p = record {
   W0 = record { st-le = λ v. zero-le; halt-le = λ v. zero-le; due-le = λ v. zero-le; dk-le = λ a. zero-le; mark-le = λ v k. zero-le };
   W1 = record { w1w = λ v n. absurd (n refl); w1e = λ v n. absurd (n refl) };

@@ -5,7 +5,7 @@ use Prim.Native.Nat.{ℕ}
 use mathlib.Core.List.{List, []}
 use Rattle.format_message.specs.Msg.{Msg, none}
 
-pub record State : Type 0 where
+pub record ProtocolState : Type 0 where
   -- status: 0 asleep, 1 Find, 2 Found
   pub st : ℕ → ℕ
   -- level
@@ -60,81 +60,81 @@ pub record State : Type 0 where
   pub oo : ℕ
 
 -- one setter for each table
-abbrev pub set-st : State → (ℕ → ℕ) → State
+abbrev pub set-st : ProtocolState → (ℕ → ℕ) → ProtocolState
 set-st s x = record { st = x; lev = s.lev; id = s.id; bw = s.bw; be = s.be; te = s.te; ib = s.ib; fc = s.fc; halt = s.halt; mark = s.mark; ch = s.ch; fr = s.fr; gl = s.gl; gc = s.gc; dk = s.dk; dn = s.dn; de = s.de; due = s.due; dep = s.dep; side = s.side; ub = s.ub; owe = s.owe; ot = s.ot; op = s.op; oo = s.oo }
 
-abbrev pub set-lev : State → (ℕ → ℕ) → State
+abbrev pub set-lev : ProtocolState → (ℕ → ℕ) → ProtocolState
 set-lev s x = record { st = s.st; lev = x; id = s.id; bw = s.bw; be = s.be; te = s.te; ib = s.ib; fc = s.fc; halt = s.halt; mark = s.mark; ch = s.ch; fr = s.fr; gl = s.gl; gc = s.gc; dk = s.dk; dn = s.dn; de = s.de; due = s.due; dep = s.dep; side = s.side; ub = s.ub; owe = s.owe; ot = s.ot; op = s.op; oo = s.oo }
 
-abbrev pub set-id : State → (ℕ → ℕ) → State
+abbrev pub set-id : ProtocolState → (ℕ → ℕ) → ProtocolState
 set-id s x = record { st = s.st; lev = s.lev; id = x; bw = s.bw; be = s.be; te = s.te; ib = s.ib; fc = s.fc; halt = s.halt; mark = s.mark; ch = s.ch; fr = s.fr; gl = s.gl; gc = s.gc; dk = s.dk; dn = s.dn; de = s.de; due = s.due; dep = s.dep; side = s.side; ub = s.ub; owe = s.owe; ot = s.ot; op = s.op; oo = s.oo }
 
-abbrev pub set-bw : State → (ℕ → ℕ) → State
+abbrev pub set-bw : ProtocolState → (ℕ → ℕ) → ProtocolState
 set-bw s x = record { st = s.st; lev = s.lev; id = s.id; bw = x; be = s.be; te = s.te; ib = s.ib; fc = s.fc; halt = s.halt; mark = s.mark; ch = s.ch; fr = s.fr; gl = s.gl; gc = s.gc; dk = s.dk; dn = s.dn; de = s.de; due = s.due; dep = s.dep; side = s.side; ub = s.ub; owe = s.owe; ot = s.ot; op = s.op; oo = s.oo }
 
-abbrev pub set-be : State → (ℕ → ℕ) → State
+abbrev pub set-be : ProtocolState → (ℕ → ℕ) → ProtocolState
 set-be s x = record { st = s.st; lev = s.lev; id = s.id; bw = s.bw; be = x; te = s.te; ib = s.ib; fc = s.fc; halt = s.halt; mark = s.mark; ch = s.ch; fr = s.fr; gl = s.gl; gc = s.gc; dk = s.dk; dn = s.dn; de = s.de; due = s.due; dep = s.dep; side = s.side; ub = s.ub; owe = s.owe; ot = s.ot; op = s.op; oo = s.oo }
 
-abbrev pub set-te : State → (ℕ → ℕ) → State
+abbrev pub set-te : ProtocolState → (ℕ → ℕ) → ProtocolState
 set-te s x = record { st = s.st; lev = s.lev; id = s.id; bw = s.bw; be = s.be; te = x; ib = s.ib; fc = s.fc; halt = s.halt; mark = s.mark; ch = s.ch; fr = s.fr; gl = s.gl; gc = s.gc; dk = s.dk; dn = s.dn; de = s.de; due = s.due; dep = s.dep; side = s.side; ub = s.ub; owe = s.owe; ot = s.ot; op = s.op; oo = s.oo }
 
-abbrev pub set-ib : State → (ℕ → ℕ) → State
+abbrev pub set-ib : ProtocolState → (ℕ → ℕ) → ProtocolState
 set-ib s x = record { st = s.st; lev = s.lev; id = s.id; bw = s.bw; be = s.be; te = s.te; ib = x; fc = s.fc; halt = s.halt; mark = s.mark; ch = s.ch; fr = s.fr; gl = s.gl; gc = s.gc; dk = s.dk; dn = s.dn; de = s.de; due = s.due; dep = s.dep; side = s.side; ub = s.ub; owe = s.owe; ot = s.ot; op = s.op; oo = s.oo }
 
-abbrev pub set-fc : State → (ℕ → ℕ) → State
+abbrev pub set-fc : ProtocolState → (ℕ → ℕ) → ProtocolState
 set-fc s x = record { st = s.st; lev = s.lev; id = s.id; bw = s.bw; be = s.be; te = s.te; ib = s.ib; fc = x; halt = s.halt; mark = s.mark; ch = s.ch; fr = s.fr; gl = s.gl; gc = s.gc; dk = s.dk; dn = s.dn; de = s.de; due = s.due; dep = s.dep; side = s.side; ub = s.ub; owe = s.owe; ot = s.ot; op = s.op; oo = s.oo }
 
-abbrev pub set-halt : State → (ℕ → ℕ) → State
+abbrev pub set-halt : ProtocolState → (ℕ → ℕ) → ProtocolState
 set-halt s x = record { st = s.st; lev = s.lev; id = s.id; bw = s.bw; be = s.be; te = s.te; ib = s.ib; fc = s.fc; halt = x; mark = s.mark; ch = s.ch; fr = s.fr; gl = s.gl; gc = s.gc; dk = s.dk; dn = s.dn; de = s.de; due = s.due; dep = s.dep; side = s.side; ub = s.ub; owe = s.owe; ot = s.ot; op = s.op; oo = s.oo }
 
-abbrev pub set-mark : State → (ℕ → ℕ → ℕ) → State
+abbrev pub set-mark : ProtocolState → (ℕ → ℕ → ℕ) → ProtocolState
 set-mark s x = record { st = s.st; lev = s.lev; id = s.id; bw = s.bw; be = s.be; te = s.te; ib = s.ib; fc = s.fc; halt = s.halt; mark = x; ch = s.ch; fr = s.fr; gl = s.gl; gc = s.gc; dk = s.dk; dn = s.dn; de = s.de; due = s.due; dep = s.dep; side = s.side; ub = s.ub; owe = s.owe; ot = s.ot; op = s.op; oo = s.oo }
 
-abbrev pub set-ch : State → (ℕ → ℕ → List Msg) → State
+abbrev pub set-ch : ProtocolState → (ℕ → ℕ → List Msg) → ProtocolState
 set-ch s x = record { st = s.st; lev = s.lev; id = s.id; bw = s.bw; be = s.be; te = s.te; ib = s.ib; fc = s.fc; halt = s.halt; mark = s.mark; ch = x; fr = s.fr; gl = s.gl; gc = s.gc; dk = s.dk; dn = s.dn; de = s.de; due = s.due; dep = s.dep; side = s.side; ub = s.ub; owe = s.owe; ot = s.ot; op = s.op; oo = s.oo }
 
-abbrev pub set-fr : State → (ℕ → ℕ) → State
+abbrev pub set-fr : ProtocolState → (ℕ → ℕ) → ProtocolState
 set-fr s x = record { st = s.st; lev = s.lev; id = s.id; bw = s.bw; be = s.be; te = s.te; ib = s.ib; fc = s.fc; halt = s.halt; mark = s.mark; ch = s.ch; fr = x; gl = s.gl; gc = s.gc; dk = s.dk; dn = s.dn; de = s.de; due = s.due; dep = s.dep; side = s.side; ub = s.ub; owe = s.owe; ot = s.ot; op = s.op; oo = s.oo }
 
-abbrev pub set-gl : State → (ℕ → ℕ) → State
+abbrev pub set-gl : ProtocolState → (ℕ → ℕ) → ProtocolState
 set-gl s x = record { st = s.st; lev = s.lev; id = s.id; bw = s.bw; be = s.be; te = s.te; ib = s.ib; fc = s.fc; halt = s.halt; mark = s.mark; ch = s.ch; fr = s.fr; gl = x; gc = s.gc; dk = s.dk; dn = s.dn; de = s.de; due = s.due; dep = s.dep; side = s.side; ub = s.ub; owe = s.owe; ot = s.ot; op = s.op; oo = s.oo }
 
-abbrev pub set-gc : State → (ℕ → ℕ) → State
+abbrev pub set-gc : ProtocolState → (ℕ → ℕ) → ProtocolState
 set-gc s x = record { st = s.st; lev = s.lev; id = s.id; bw = s.bw; be = s.be; te = s.te; ib = s.ib; fc = s.fc; halt = s.halt; mark = s.mark; ch = s.ch; fr = s.fr; gl = s.gl; gc = x; dk = s.dk; dn = s.dn; de = s.de; due = s.due; dep = s.dep; side = s.side; ub = s.ub; owe = s.owe; ot = s.ot; op = s.op; oo = s.oo }
 
-abbrev pub set-dk : State → (ℕ → ℕ) → State
+abbrev pub set-dk : ProtocolState → (ℕ → ℕ) → ProtocolState
 set-dk s x = record { st = s.st; lev = s.lev; id = s.id; bw = s.bw; be = s.be; te = s.te; ib = s.ib; fc = s.fc; halt = s.halt; mark = s.mark; ch = s.ch; fr = s.fr; gl = s.gl; gc = s.gc; dk = x; dn = s.dn; de = s.de; due = s.due; dep = s.dep; side = s.side; ub = s.ub; owe = s.owe; ot = s.ot; op = s.op; oo = s.oo }
 
-abbrev pub set-dn : State → (ℕ → ℕ) → State
+abbrev pub set-dn : ProtocolState → (ℕ → ℕ) → ProtocolState
 set-dn s x = record { st = s.st; lev = s.lev; id = s.id; bw = s.bw; be = s.be; te = s.te; ib = s.ib; fc = s.fc; halt = s.halt; mark = s.mark; ch = s.ch; fr = s.fr; gl = s.gl; gc = s.gc; dk = s.dk; dn = x; de = s.de; due = s.due; dep = s.dep; side = s.side; ub = s.ub; owe = s.owe; ot = s.ot; op = s.op; oo = s.oo }
 
-abbrev pub set-de : State → (ℕ → ℕ) → State
+abbrev pub set-de : ProtocolState → (ℕ → ℕ) → ProtocolState
 set-de s x = record { st = s.st; lev = s.lev; id = s.id; bw = s.bw; be = s.be; te = s.te; ib = s.ib; fc = s.fc; halt = s.halt; mark = s.mark; ch = s.ch; fr = s.fr; gl = s.gl; gc = s.gc; dk = s.dk; dn = s.dn; de = x; due = s.due; dep = s.dep; side = s.side; ub = s.ub; owe = s.owe; ot = s.ot; op = s.op; oo = s.oo }
 
-abbrev pub set-due : State → (ℕ → ℕ) → State
+abbrev pub set-due : ProtocolState → (ℕ → ℕ) → ProtocolState
 set-due s x = record { st = s.st; lev = s.lev; id = s.id; bw = s.bw; be = s.be; te = s.te; ib = s.ib; fc = s.fc; halt = s.halt; mark = s.mark; ch = s.ch; fr = s.fr; gl = s.gl; gc = s.gc; dk = s.dk; dn = s.dn; de = s.de; due = x; dep = s.dep; side = s.side; ub = s.ub; owe = s.owe; ot = s.ot; op = s.op; oo = s.oo }
 
-abbrev pub set-dep : State → (ℕ → ℕ) → State
+abbrev pub set-dep : ProtocolState → (ℕ → ℕ) → ProtocolState
 set-dep s x = record { st = s.st; lev = s.lev; id = s.id; bw = s.bw; be = s.be; te = s.te; ib = s.ib; fc = s.fc; halt = s.halt; mark = s.mark; ch = s.ch; fr = s.fr; gl = s.gl; gc = s.gc; dk = s.dk; dn = s.dn; de = s.de; due = s.due; dep = x; side = s.side; ub = s.ub; owe = s.owe; ot = s.ot; op = s.op; oo = s.oo }
 
-abbrev pub set-side : State → (ℕ → ℕ) → State
+abbrev pub set-side : ProtocolState → (ℕ → ℕ) → ProtocolState
 set-side s x = record { st = s.st; lev = s.lev; id = s.id; bw = s.bw; be = s.be; te = s.te; ib = s.ib; fc = s.fc; halt = s.halt; mark = s.mark; ch = s.ch; fr = s.fr; gl = s.gl; gc = s.gc; dk = s.dk; dn = s.dn; de = s.de; due = s.due; dep = s.dep; side = x; ub = s.ub; owe = s.owe; ot = s.ot; op = s.op; oo = s.oo }
 
-abbrev pub set-ub : State → (ℕ → ℕ) → State
+abbrev pub set-ub : ProtocolState → (ℕ → ℕ) → ProtocolState
 set-ub s x = record { st = s.st; lev = s.lev; id = s.id; bw = s.bw; be = s.be; te = s.te; ib = s.ib; fc = s.fc; halt = s.halt; mark = s.mark; ch = s.ch; fr = s.fr; gl = s.gl; gc = s.gc; dk = s.dk; dn = s.dn; de = s.de; due = s.due; dep = s.dep; side = s.side; ub = x; owe = s.owe; ot = s.ot; op = s.op; oo = s.oo }
 
-abbrev pub set-owe : State → (ℕ → ℕ → ℕ) → State
+abbrev pub set-owe : ProtocolState → (ℕ → ℕ → ℕ) → ProtocolState
 set-owe s x = record { st = s.st; lev = s.lev; id = s.id; bw = s.bw; be = s.be; te = s.te; ib = s.ib; fc = s.fc; halt = s.halt; mark = s.mark; ch = s.ch; fr = s.fr; gl = s.gl; gc = s.gc; dk = s.dk; dn = s.dn; de = s.de; due = s.due; dep = s.dep; side = s.side; ub = s.ub; owe = x; ot = s.ot; op = s.op; oo = s.oo }
 
-abbrev pub set-ot : State → ℕ → State
+abbrev pub set-ot : ProtocolState → ℕ → ProtocolState
 set-ot s x = record { st = s.st; lev = s.lev; id = s.id; bw = s.bw; be = s.be; te = s.te; ib = s.ib; fc = s.fc; halt = s.halt; mark = s.mark; ch = s.ch; fr = s.fr; gl = s.gl; gc = s.gc; dk = s.dk; dn = s.dn; de = s.de; due = s.due; dep = s.dep; side = s.side; ub = s.ub; owe = s.owe; ot = x; op = s.op; oo = s.oo }
 
-abbrev pub set-op : State → ℕ → State
+abbrev pub set-op : ProtocolState → ℕ → ProtocolState
 set-op s x = record { st = s.st; lev = s.lev; id = s.id; bw = s.bw; be = s.be; te = s.te; ib = s.ib; fc = s.fc; halt = s.halt; mark = s.mark; ch = s.ch; fr = s.fr; gl = s.gl; gc = s.gc; dk = s.dk; dn = s.dn; de = s.de; due = s.due; dep = s.dep; side = s.side; ub = s.ub; owe = s.owe; ot = s.ot; op = x; oo = s.oo }
 
-abbrev pub set-oo : State → ℕ → State
+abbrev pub set-oo : ProtocolState → ℕ → ProtocolState
 set-oo s x = record { st = s.st; lev = s.lev; id = s.id; bw = s.bw; be = s.be; te = s.te; ib = s.ib; fc = s.fc; halt = s.halt; mark = s.mark; ch = s.ch; fr = s.fr; gl = s.gl; gc = s.gc; dk = s.dk; dn = s.dn; de = s.de; due = s.due; dep = s.dep; side = s.side; ub = s.ub; owe = s.owe; ot = s.ot; op = s.op; oo = x }
 
 -- everybody asleep, no message under way, each node a fragment of its own
-abbrev pub setup : State
-setup = record { st = λ v. 0; lev = λ v. 0; id = λ v. none; bw = λ v. none; be = λ v. none; te = λ v. none; ib = λ v. none; fc = λ v. 0; halt = λ v. 0; mark = λ v k. 0; ch = λ v k. []; fr = λ v. v; gl = λ a. 0; gc = λ a. none; dk = λ a. 0; dn = λ a. 0; de = λ a. 0; due = λ v. 0; dep = λ v. 0; side = λ v. v; ub = λ v. none; owe = λ v k. 0; ot = 0; op = 0; oo = 0 }
+abbrev pub setupState : ProtocolState
+setupState = record { st = λ v. 0; lev = λ v. 0; id = λ v. none; bw = λ v. none; be = λ v. none; te = λ v. none; ib = λ v. none; fc = λ v. 0; halt = λ v. 0; mark = λ v k. 0; ch = λ v k. []; fr = λ v. v; gl = λ a. 0; gc = λ a. none; dk = λ a. 0; dn = λ a. 0; de = λ a. 0; due = λ v. 0; dep = λ v. 0; side = λ v. v; ub = λ v. none; owe = λ v k. 0; ot = 0; op = 0; oo = 0 }

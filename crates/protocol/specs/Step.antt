@@ -9,18 +9,18 @@ use lib.Dec.{eqb}
 use Rattle.base.specs.Cond.{upd, upd2, bit}
 use Rattle.base.specs.Sum.{sum}
 use Rattle.format_message.specs.Msg.{Msg, none, connect, initiate, test, accept, reject, report, change}
-use Rattle.protocol.specs.Network.{Network, Ends, key, rank}
-use Rattle.protocol.specs.State.{State, set-st, set-lev, set-id, set-bw, set-be, set-te, set-ib, set-fc, set-halt, set-mark, set-ch, set-fr, set-gl}
+use Rattle.protocol.specs.Network.{Network, Edge, key, rank}
+use Rattle.protocol.specs.State.{ProtocolState, set-st, set-lev, set-id, set-bw, set-be, set-te, set-ib, set-fc, set-halt, set-mark, set-ch, set-fr, set-gl}
 use Rattle.protocol.specs.State.{set-gc, set-dk, set-dn, set-de, set-due, set-dep, set-side, set-ub, set-owe, set-ot, set-op, set-oo}
 
 -- ---- guards
 
 -- no response is under way
-abbrev pub Idle : State → Type 0
+abbrev pub Idle : ProtocolState → Type 0
 Idle s = (s.ot ≡ 0) × (s.op ≡ 0) × (s.oo ≡ 0)
 
 -- m, which came over k, is put back by v
-abbrev pub Blocked : State → ℕ → ℕ → Msg → Type 0
+abbrev pub Blocked : ProtocolState → ℕ → ℕ → Msg → Type 0
 Blocked s v k (connect l) = (s.lev v ≤ l) × (s.mark v k ≡ 0)
 Blocked s v k (initiate l f x) = ⊥
 Blocked s v k (test l f) = s.lev v < l
@@ -30,23 +30,23 @@ Blocked s v k (report w) = (s.ib v ≡ k) × (s.st v ≡ 1)
 Blocked s v k change = ⊥
 
 -- k is the earliest own edge of v
-abbrev pub First : Network → ℕ → ℕ → Type 0
-First p v k = (j w : ℕ) → Ends p j v w → rank p k ≤ rank p j
+abbrev pub FirstOwn : Network → ℕ → ℕ → Type 0
+FirstOwn p v k = (j w : ℕ) → Edge p j v w → rank p k ≤ rank p j
 
 -- k is the earliest own edge of v with mark Basic
-abbrev pub FirstBasic : Network → State → ℕ → ℕ → Type 0
-FirstBasic p s v k = (s.mark v k ≡ 0) × ((j w : ℕ) → Ends p j v w → s.mark v j ≡ 0 → rank p k ≤ rank p j)
+abbrev pub FirstBasic : Network → ProtocolState → ℕ → ℕ → Type 0
+FirstBasic p s v k = (s.mark v k ≡ 0) × ((j w : ℕ) → Edge p j v w → s.mark v j ≡ 0 → rank p k ≤ rank p j)
 
 -- x is v's Find bit
-abbrev pub Flag : State → ℕ → ℕ → Type 0
+abbrev pub Flag : ProtocolState → ℕ → ℕ → Type 0
 Flag s v x = ((s.st v ≡ 1) × (x ≡ 1)) ⊎ ((s.st v ≢ 1) × (x ≡ 0))
 
 -- weight w, from edge k, against v's best: b and e are the new best weight and best edge
-abbrev pub Better : Network → State → ℕ → ℕ → ℕ → ℕ → ℕ → Type 0
+abbrev pub Better : Network → ProtocolState → ℕ → ℕ → ℕ → ℕ → ℕ → Type 0
 Better p s v w k b e = ((key p w < key p (s.bw v)) × (b ≡ w) × (e ≡ k)) ⊎ ((key p (s.bw v) ≤ key p w) × (b ≡ s.bw v) × (e ≡ s.be v))
 
 -- c is v's mark for k once Basic has become Rejected
-abbrev pub Strike : State → ℕ → ℕ → ℕ → Type 0
+abbrev pub Strike : ProtocolState → ℕ → ℕ → ℕ → Type 0
 Strike s v k c = ((s.mark v k ≡ 0) × (c ≡ 2)) ⊎ ((s.mark v k ≢ 0) × (c ≡ s.mark v k))
 
 -- an Initiate with Find bit x makes v's status a; b is the open test afterwards
@@ -54,25 +54,25 @@ abbrev pub Mode : ℕ → ℕ → ℕ → ℕ → Type 0
 Mode v x a b = ((x ≡ 1) × (a ≡ 1) × (b ≡ suc v)) ⊎ ((x ≡ 0) × (a ≡ 2) × (b ≡ 0))
 
 -- depth d and side e of v, told by u over k
-abbrev pub Place : State → ℕ → ℕ → ℕ → ℕ → ℕ → Type 0
+abbrev pub Place : ProtocolState → ℕ → ℕ → ℕ → ℕ → ℕ → Type 0
 Place s u v k d e = ((k ≡ s.gc (s.fr v)) × (d ≡ 0) × (e ≡ v)) ⊎ ((k ≢ s.gc (s.fr v)) × (d ≡ suc (s.dep u)) × (e ≡ s.side u))
 
 -- ---- what a step does
 
 -- m goes to the end of the channel from v over k
-abbrev pub send : State → ℕ → ℕ → Msg → State
-send s v k m = set-ch s (upd2 s.ch v k (s.ch v k ++ (m ∷ [])))
+abbrev pub sendOver : ProtocolState → ℕ → ℕ → Msg → ProtocolState
+sendOver s v k m = set-ch s (upd2 s.ch v k (s.ch v k ++ (m ∷ [])))
 
 -- the channel from u over k becomes r
-abbrev pub pop : State → ℕ → ℕ → List Msg → State
+abbrev pub pop : ProtocolState → ℕ → ℕ → List Msg → ProtocolState
 pop s u k r = set-ch s (upd2 s.ch u k r)
 
-abbrev pub marked : State → ℕ → ℕ → ℕ → State
-marked s v k c = set-mark s (upd2 s.mark v k c)
+abbrev pub remarked : ProtocolState → ℕ → ℕ → ℕ → ProtocolState
+remarked s v k c = set-mark s (upd2 s.mark v k c)
 
 -- (2) procedure wakeup, with document 01's list of what waking sets
-abbrev pub woken : State → ℕ → State
-woken s v =
+abbrev pub wokenUp : ProtocolState → ℕ → ProtocolState
+wokenUp s v =
     set-fc
     (set-ib
     (set-bw
@@ -90,19 +90,19 @@ woken s v =
     (upd s.fc v 0)
 
 -- decision of v's fragment: kind d, node n, edge k
-abbrev pub decided : State → ℕ → ℕ → ℕ → ℕ → State
+abbrev pub decided : ProtocolState → ℕ → ℕ → ℕ → ℕ → ProtocolState
 decided s v d n k = set-de (set-dn (set-dk s (upd s.dk (s.fr v) d)) (upd s.dn (s.fr v) n)) (upd s.de (s.fr v) k)
 
 -- v sends Connect of level l over k and marks it Branch
-abbrev pub halved : State → ℕ → ℕ → ℕ → State
-halved s v k l = decided (set-ub (marked (send s v k (connect l)) v k 1) (upd s.ub v k)) v 3 v k
+abbrev pub halved : ProtocolState → ℕ → ℕ → ℕ → ProtocolState
+halved s v k l = decided (set-ub (remarked (sendOver s v k (connect l)) v k 1) (upd s.ub v k)) v 3 v k
 
 -- those of label a get x
 unfoldable pub bulk : {A : Type 0} → (ℕ → ℕ) → ℕ → A → (ℕ → A) → ℕ → A
 bulk fr a x f w = cond (eqb (fr w) a) x (f w)
 
 -- the fragments of v and y, of one level, become one of the next level, with core k
-abbrev pub merged : State → ℕ → ℕ → ℕ → State
+abbrev pub merged : ProtocolState → ℕ → ℕ → ℕ → ProtocolState
 merged s v y k =
     set-due
     (set-dk
@@ -115,20 +115,20 @@ merged s v y k =
     (bulk s.fr (s.fr y) 1 (bulk s.fr (s.fr v) 1 s.due))
 
 -- (3) v absorbs u's fragment over k; x is v's Find bit
-abbrev pub absorbed : State → ℕ → ℕ → ℕ → ℕ → State
+abbrev pub absorbed : ProtocolState → ℕ → ℕ → ℕ → ℕ → ProtocolState
 absorbed s u v k x =
     set-owe
     (set-fc
     (set-due
     (set-fr
-    (marked (send s v k (initiate (s.lev v) (s.id v) x)) v k 1)
+    (remarked (sendOver s v k (initiate (s.lev v) (s.id v) x)) v k 1)
     (bulk s.fr (s.fr u) (s.fr v) s.fr))
     (bulk s.fr (s.fr u) (s.due v) s.due))
     (upd s.fc v (s.fc v + x)))
     (upd2 s.owe v k x)
 
 -- (4) the edges over which v, told over k, sends a copy
-unfoldable pub copy : State → ℕ → ℕ → ℕ → Bool
+unfoldable pub copy : ProtocolState → ℕ → ℕ → ℕ → Bool
 copy s v k j = not (eqb j k) && eqb (s.mark v j) 1
 
 -- m goes to the end of the channel from v over each edge with f
@@ -136,12 +136,12 @@ unfoldable pub fan : (ℕ → ℕ → List Msg) → ℕ → (ℕ → Bool) → M
 fan c v f m a j = cond (eqb v a && f j) (c a j ++ (m ∷ [])) (c a j)
 
 -- v's entry becomes x for each edge with f
-unfoldable pub fill : (ℕ → ℕ → ℕ) → ℕ → (ℕ → Bool) → ℕ → ℕ → ℕ → ℕ
-fill t v f x a j = cond (eqb v a && f j) x (t a j)
+unfoldable pub fillEdges : (ℕ → ℕ → ℕ) → ℕ → (ℕ → Bool) → ℕ → ℕ → ℕ → ℕ
+fillEdges t v f x a j = cond (eqb v a && f j) x (t a j)
 
 -- (4) v takes the values of Initiate (l, f, x) that came over k and sends the copies. a: new status, d, e: depth and side, b: open test
-abbrev pub informed : Network → State → ℕ → ℕ → ℕ → ℕ → ℕ → ℕ → ℕ → ℕ → ℕ → State
-informed p s v k l f x a d e b =
+abbrev pub initiated : Network → ProtocolState → ℕ → ℕ → ℕ → ℕ → ℕ → ℕ → ℕ → ℕ → ℕ → ProtocolState
+initiated p s v k l f x a d e b =
     set-ot
     (set-owe
     (set-fc
@@ -163,75 +163,75 @@ informed p s v k l f x a d e b =
     (upd s.side v e))
     (fan s.ch v (copy s v k) (initiate l f x)))
     (upd s.fc v (s.fc v + x * sum p.g.L (λ j. bit (copy s v k j)))))
-    (fill s.owe v (copy s v k) x))
+    (fillEdges s.owe v (copy s v k) x))
     b
 
 -- v's best weight and best edge become b and e
-abbrev pub bested : State → ℕ → ℕ → ℕ → State
+abbrev pub bested : ProtocolState → ℕ → ℕ → ℕ → ProtocolState
 bested s v b e = set-be (set-bw s (upd s.bw v b)) (upd s.be v e)
 
 -- v is to execute procedure change-root
-abbrev pub rooted : State → ℕ → State
+abbrev pub rooted : ProtocolState → ℕ → ProtocolState
 rooted s v = set-oo (set-dn (set-dk s (upd s.dk (s.fr v) 1)) (upd s.dn (s.fr v) v)) (suc v)
 
 -- (9) v sends its Report over k
-abbrev pub reported : State → ℕ → ℕ → State
-reported s v k = set-op (set-due (set-st (send s v k (report (s.bw v))) (upd s.st v 2)) (upd s.due v 0)) 0
+abbrev pub reportSent : ProtocolState → ℕ → ℕ → ProtocolState
+reportSent s v k = set-op (set-due (set-st (sendOver s v k (report (s.bw v))) (upd s.st v 2)) (upd s.due v 0)) 0
 
 -- ---- the steps
 
-pub data Step (p : Network) (s : State) : State → Type 0 where
+pub data Step (p : Network) (s : ProtocolState) : ProtocolState → Type 0 where
   -- (2) wakeup of a node without edges, of one whose earliest edge k is no branch at the other end y, of one where it is
-  wake-lone : {v : ℕ} → Idle s → v < p.N → s.st v ≡ 0 → ((k u : ℕ) → Ends p k v u → ⊥)
-      → Step p s (set-halt (set-dk (woken s v) (upd s.dk (s.fr v) 4)) (upd s.halt v 1))
-  wake-half : {v k y : ℕ} → Idle s → Ends p k v y → s.st v ≡ 0 → First p v k → s.mark y k ≢ 1 → Step p s (halved (woken s v) v k 0)
-  wake-merge : {v k y : ℕ} → Idle s → Ends p k v y → s.st v ≡ 0 → First p v k → s.mark y k ≡ 1 → Step p s (merged (halved (woken s v) v k 0) v y k)
+  wake-lone : {v : ℕ} → Idle s → v < p.N → s.st v ≡ 0 → ((k u : ℕ) → Edge p k v u → ⊥)
+      → Step p s (set-halt (set-dk (wokenUp s v) (upd s.dk (s.fr v) 4)) (upd s.halt v 1))
+  wake-half : {v k y : ℕ} → Idle s → Edge p k v y → s.st v ≡ 0 → FirstOwn p v k → s.mark y k ≢ 1 → Step p s (halved (wokenUp s v) v k 0)
+  wake-merge : {v k y : ℕ} → Idle s → Edge p k v y → s.st v ≡ 0 → FirstOwn p v k → s.mark y k ≡ 1 → Step p s (merged (halved (wokenUp s v) v k 0) v y k)
   -- a put-back: the message at the head goes to a later place
-  back : {u v k : ℕ} {m : Msg} (a b : List Msg) → Idle s → Ends p k u v → s.st v ≢ 0 → s.ch u k ≡ m ∷ (a ++ b) → Blocked s v k m
+  back : {u v k : ℕ} {m : Msg} (a b : List Msg) → Idle s → Edge p k u v → s.st v ≢ 0 → s.ch u k ≡ m ∷ (a ++ b) → Blocked s v k m
       → Step p s (pop s u k (a ++ (m ∷ b)))
   -- (3) Connect: of a lower level; of the same level, on an edge that is not Basic
-  absorb : {u v k l x : ℕ} {r : List Msg} → Idle s → Ends p k u v → s.st v ≢ 0 → s.ch u k ≡ connect l ∷ r → l < s.lev v → Flag s v x
+  absorb : {u v k l x : ℕ} {r : List Msg} → Idle s → Edge p k u v → s.st v ≢ 0 → s.ch u k ≡ connect l ∷ r → l < s.lev v → Flag s v x
       → Step p s (absorbed (pop s u k r) u v k x)
-  core-reply : {u v k l : ℕ} {r : List Msg} → Idle s → Ends p k u v → s.st v ≢ 0 → s.ch u k ≡ connect l ∷ r → s.lev v ≤ l → s.mark v k ≢ 0
-      → Step p s (send (pop s u k r) v k (initiate (s.lev v + 1) k 1))
+  core-reply : {u v k l : ℕ} {r : List Msg} → Idle s → Edge p k u v → s.st v ≢ 0 → s.ch u k ≡ connect l ∷ r → s.lev v ≤ l → s.mark v k ≢ 0
+      → Step p s (sendOver (pop s u k r) v k (initiate (s.lev v + 1) k 1))
   -- (4) Initiate
-  tell : {u v k l f x a b d e : ℕ} {r : List Msg} → Idle s → Ends p k u v → s.ch u k ≡ initiate l f x ∷ r → Mode v x a b → Place s u v k d e
-      → Step p s (informed p (pop s u k r) v k l f x a d e b)
+  tell : {u v k l f x a b d e : ℕ} {r : List Msg} → Idle s → Edge p k u v → s.ch u k ≡ initiate l f x ∷ r → Mode v x a b → Place s u v k d e
+      → Step p s (initiated p (pop s u k r) v k l f x a d e b)
   -- (6) Test: of another fragment; of the same; of the same over v's own test edge
-  accept-test : {u v k l f : ℕ} {r : List Msg} → Idle s → Ends p k u v → s.st v ≢ 0 → s.ch u k ≡ test l f ∷ r → l ≤ s.lev v → s.id v ≢ f
-      → Step p s (send (pop s u k r) v k accept)
-  reject-test : {u v k l f c : ℕ} {r : List Msg} → Idle s → Ends p k u v → s.st v ≢ 0 → s.ch u k ≡ test l f ∷ r → l ≤ s.lev v → s.id v ≡ f → s.te v ≢ k
-      → Strike s v k c → Step p s (send (marked (pop s u k r) v k c) v k reject)
-  crossed-test : {u v k l f c : ℕ} {r : List Msg} → Idle s → Ends p k u v → s.st v ≢ 0 → s.ch u k ≡ test l f ∷ r → l ≤ s.lev v → s.id v ≡ f → s.te v ≡ k
-      → Strike s v k c → Step p s (set-ot (marked (pop s u k r) v k c) (suc v))
+  accept-test : {u v k l f : ℕ} {r : List Msg} → Idle s → Edge p k u v → s.st v ≢ 0 → s.ch u k ≡ test l f ∷ r → l ≤ s.lev v → s.id v ≢ f
+      → Step p s (sendOver (pop s u k r) v k accept)
+  reject-test : {u v k l f c : ℕ} {r : List Msg} → Idle s → Edge p k u v → s.st v ≢ 0 → s.ch u k ≡ test l f ∷ r → l ≤ s.lev v → s.id v ≡ f → s.te v ≢ k
+      → Strike s v k c → Step p s (sendOver (remarked (pop s u k r) v k c) v k reject)
+  crossed-test : {u v k l f c : ℕ} {r : List Msg} → Idle s → Edge p k u v → s.st v ≢ 0 → s.ch u k ≡ test l f ∷ r → l ≤ s.lev v → s.id v ≡ f → s.te v ≡ k
+      → Strike s v k c → Step p s (set-ot (remarked (pop s u k r) v k c) (suc v))
   -- (7) Accept, (8) Reject
-  accepted : {u v k b e : ℕ} {r : List Msg} → Idle s → Ends p k u v → s.ch u k ≡ accept ∷ r → Better p s v k k b e
+  accepted : {u v k b e : ℕ} {r : List Msg} → Idle s → Edge p k u v → s.ch u k ≡ accept ∷ r → Better p s v k k b e
       → Step p s (set-op (bested (set-te (pop s u k r) (upd s.te v none)) v b e) (suc v))
-  rejected : {u v k c : ℕ} {r : List Msg} → Idle s → Ends p k u v → s.ch u k ≡ reject ∷ r → Strike s v k c
-      → Step p s (set-ot (marked (pop s u k r) v k c) (suc v))
+  rejected : {u v k c : ℕ} {r : List Msg} → Idle s → Edge p k u v → s.ch u k ≡ reject ∷ r → Strike s v k c
+      → Step p s (set-ot (remarked (pop s u k r) v k c) (suc v))
   -- (10) Report: of a child; between the ends of the core, where it does nothing, halts, or decides
-  child-report : {u v k w b e : ℕ} {r : List Msg} → Idle s → Ends p k u v → s.ch u k ≡ report w ∷ r → s.ib v ≢ k → Better p s v w k b e
+  child-report : {u v k w b e : ℕ} {r : List Msg} → Idle s → Edge p k u v → s.ch u k ≡ report w ∷ r → s.ib v ≢ k → Better p s v w k b e
       → Step p s (set-op (set-owe (set-fc (bested (pop s u k r) v b e) (upd s.fc v (s.fc v - 1))) (upd2 s.owe v k 0)) (suc v))
-  core-nothing : {u v k w : ℕ} {r : List Msg} → Idle s → Ends p k u v → s.ch u k ≡ report w ∷ r → s.ib v ≡ k → s.st v ≢ 1 → key p w ≤ key p (s.bw v)
+  core-nothing : {u v k w : ℕ} {r : List Msg} → Idle s → Edge p k u v → s.ch u k ≡ report w ∷ r → s.ib v ≡ k → s.st v ≢ 1 → key p w ≤ key p (s.bw v)
       → (w ≢ none) ⊎ (s.bw v ≢ none) → Step p s (pop s u k r)
-  core-halt : {u v k w : ℕ} {r : List Msg} → Idle s → Ends p k u v → s.ch u k ≡ report w ∷ r → s.ib v ≡ k → s.st v ≢ 1 → w ≡ none → s.bw v ≡ none
+  core-halt : {u v k w : ℕ} {r : List Msg} → Idle s → Edge p k u v → s.ch u k ≡ report w ∷ r → s.ib v ≡ k → s.st v ≢ 1 → w ≡ none → s.bw v ≡ none
       → Step p s (set-halt (set-dk (pop s u k r) (upd s.dk (s.fr v) 4)) (upd s.halt v 1))
-  decide : {u v k w : ℕ} {r : List Msg} → Idle s → Ends p k u v → s.ch u k ≡ report w ∷ r → s.ib v ≡ k → s.st v ≢ 1 → key p (s.bw v) < key p w
+  decide : {u v k w : ℕ} {r : List Msg} → Idle s → Edge p k u v → s.ch u k ≡ report w ∷ r → s.ib v ≡ k → s.st v ≢ 1 → key p (s.bw v) < key p w
       → Step p s (rooted (pop s u k r) v)
   -- (12) Change-root
-  change-root : {u v k : ℕ} {r : List Msg} → Idle s → Ends p k u v → s.ch u k ≡ change ∷ r → Step p s (rooted (pop s u k r) v)
+  change-root : {u v k : ℕ} {r : List Msg} → Idle s → Edge p k u v → s.ch u k ≡ change ∷ r → Step p s (rooted (pop s u k r) v)
   -- (5) procedure test
-  test-next : {v k u : ℕ} → s.ot ≡ suc v → s.op ≡ 0 → s.oo ≡ 0 → Ends p k v u → FirstBasic p s v k
-      → Step p s (set-ot (set-te (send s v k (test (s.lev v) (s.id v))) (upd s.te v k)) 0)
-  test-none : {v : ℕ} → s.ot ≡ suc v → s.op ≡ 0 → s.oo ≡ 0 → ((k u : ℕ) → Ends p k v u → s.mark v k ≢ 0)
+  test-next : {v k u : ℕ} → s.ot ≡ suc v → s.op ≡ 0 → s.oo ≡ 0 → Edge p k v u → FirstBasic p s v k
+      → Step p s (set-ot (set-te (sendOver s v k (test (s.lev v) (s.id v))) (upd s.te v k)) 0)
+  test-none : {v : ℕ} → s.ot ≡ suc v → s.op ≡ 0 → s.oo ≡ 0 → ((k u : ℕ) → Edge p k v u → s.mark v k ≢ 0)
       → Step p s (set-op (set-ot (set-te s (upd s.te v none)) 0) (suc v))
   -- (9) procedure report
-  report-now : {v k u : ℕ} → s.ot ≡ 0 → s.op ≡ suc v → s.oo ≡ 0 → Ends p k v u → s.ib v ≡ k → s.fc v ≡ 0 → s.te v ≡ none → Step p s (reported s v k)
+  report-now : {v k u : ℕ} → s.ot ≡ 0 → s.op ≡ suc v → s.oo ≡ 0 → Edge p k v u → s.ib v ≡ k → s.fc v ≡ 0 → s.te v ≡ none → Step p s (reportSent s v k)
   report-later : {v : ℕ} → s.ot ≡ 0 → s.op ≡ suc v → s.oo ≡ 0 → (s.fc v ≢ 0) ⊎ (s.te v ≢ none) → Step p s (set-op s 0)
   -- (11) procedure change-root, for best edge k
-  root-branch : {v k c : ℕ} → s.ot ≡ 0 → s.op ≡ 0 → s.oo ≡ suc v → Ends p k v c → s.be v ≡ k → s.mark v k ≡ 1
-      → Step p s (set-oo (decided (set-ub (send s v k change) (upd s.ub v k)) v 2 v k) 0)
-  root-half : {v k y : ℕ} → s.ot ≡ 0 → s.op ≡ 0 → s.oo ≡ suc v → Ends p k v y → s.be v ≡ k → s.mark v k ≢ 1 → s.mark y k ≢ 1
+  root-branch : {v k c : ℕ} → s.ot ≡ 0 → s.op ≡ 0 → s.oo ≡ suc v → Edge p k v c → s.be v ≡ k → s.mark v k ≡ 1
+      → Step p s (set-oo (decided (set-ub (sendOver s v k change) (upd s.ub v k)) v 2 v k) 0)
+  root-half : {v k y : ℕ} → s.ot ≡ 0 → s.op ≡ 0 → s.oo ≡ suc v → Edge p k v y → s.be v ≡ k → s.mark v k ≢ 1 → s.mark y k ≢ 1
       → Step p s (set-oo (halved s v k (s.lev v)) 0)
-  root-merge : {v k y : ℕ} → s.ot ≡ 0 → s.op ≡ 0 → s.oo ≡ suc v → Ends p k v y → s.be v ≡ k → s.mark v k ≢ 1 → s.mark y k ≡ 1
+  root-merge : {v k y : ℕ} → s.ot ≡ 0 → s.op ≡ 0 → s.oo ≡ suc v → Edge p k v y → s.be v ≡ k → s.mark v k ≢ 1 → s.mark y k ≡ 1
       → Step p s (set-oo (merged (halved s v k (s.lev v)) v y k) 0)

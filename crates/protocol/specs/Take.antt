@@ -8,7 +8,7 @@ use Rattle.base.specs.Cond.{upd2, upd2-elim}
 use Rattle.base.specs.Pool.{sumL}
 use Rattle.format_message.specs.Msg.{Msg, test, accept, reject}
 use Rattle.protocol.specs.Network.{Network}
-use Rattle.protocol.specs.State.{State, set-ch}
+use Rattle.protocol.specs.State.{ProtocolState, set-ch}
 use Rattle.protocol.specs.Kind.{isC, isI, isCI, isR, isK, call-parts}
 use Rattle.protocol.specs.Chan.{In, in-nil, at2, pop-head, pop-in, in-pop, pop-bef, pop-sum, pop-all}
 use Rattle.protocol.specs.Lemmas.{pop-top}
@@ -16,12 +16,12 @@ use Rattle.protocol.specs.Same.{Alike, connects-same, initiates-same, ow
 use Rattle.protocol.specs.Traffic.{Hush, Tokens, Connects, Initiates, Telling, Ordered}
 use Rattle.protocol.specs.Flow.{Flow}
 
-module _ (p : Network) (s : State) (u k : ℕ) {m : Msg} {r : List Msg} (q : s.ch u k ≡ m ∷ r) where
+module _ (p : Network) (s : ProtocolState) (u k : ℕ) {m : Msg} {r : List Msg} (q : s.ch u k ≡ m ∷ r) where
   abbrev taken : ℕ → ℕ → List Msg
   taken = upd2 s.ch u k r
 
   -- those of the other kinds stay
-  pub kept : {x : Msg} (f : Msg → ℕ) → f m ≡ 0 → 1 ≤ f x → (w j : ℕ) → In x (s.ch w j) → In x (taken w j)
+  kept : {x : Msg} (f : Msg → ℕ) → f m ≡ 0 → 1 ≤ f x → (w j : ℕ) → In x (s.ch w j) → In x (taken w j)
   kept f z o w j n = in-pop s.ch u k q w j (λ e. omega (arith, ap f e)) n
 
   pub take-hush : Hush p s → Hush p (set-ch s taken)
@@ -81,7 +81,7 @@ plain-accept = record { no-call = refl; no-rep = refl; no-change = refl }
 pub plain-reject : Plain reject
 plain-reject = record { no-call = refl; no-rep = refl; no-change = refl }
 
-module _ (p : Network) (s : State) (u k : ℕ) {m : Msg} {r : List Msg} (q : s.ch u k ≡ m ∷ r) (h : Plain m) where
+module _ (p : Network) (s : ProtocolState) (u k : ℕ) {m : Msg} {r : List Msg} (q : s.ch u k ≡ m ∷ r) (h : Plain m) where
   abbrev c′ : ℕ → ℕ → List Msg
   c′ = upd2 s.ch u k r
 

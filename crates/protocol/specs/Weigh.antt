@@ -1,23 +1,23 @@
 -- v, which is Find, weighs w, which came over its own edge k, against its best: the clauses on best weights and best edges.
 use Rattle.protocol.specs.Prelude.{ℕ, _≤_, _<_, arith, _≡_, sym, ap, subst, _∙_, _≢_, _⊎_, inl, ⊎-elim, by-eq}
 use Rattle.protocol.specs.Prelude.{List, upd, upd-elim, upd-same, upd-other, sumL, Msg, none}
-use Rattle.protocol.specs.Prelude.{Network, Ends, key, joins-lt, edge-some, key-none, key-edge, rank-lt, State, Better, set-bw, set-be, set-te, set-fc, set-owe, set-op, set-ch, isR}
-use Rattle.protocol.specs.Prelude.{GL, DK, Inf, Jn, Live, Covered, Inv, Flow, decided-find, no-root}
+use Rattle.protocol.specs.Prelude.{Network, Edge, key, joins-lt, edge-some, key-none, key-edge, rank-lt, ProtocolState, Better, set-bw, set-be, set-te, set-fc, set-owe, set-op, set-ch, isR}
+use Rattle.protocol.specs.Prelude.{GL, DK, Inf, Jn, Counting, Covered, Inv, Flow, decided-find, no-root}
 use Rattle.protocol.specs.Fragments.{Values, Sleepers}
 use Rattle.protocol.specs.Decisions.{ChangeRoots, Rootings, Finishes}
-use Rattle.protocol.specs.Search.{Pending, Counts, Tests, Weights}
+use Rattle.protocol.specs.Search.{Pending, FindCounts, Tests, Weights}
 use Rattle.protocol.specs.Traffic.{Testing, Answers, Bests}
 
 -- weight w leaves v's fragment, from an informed node of v's side to a node of no lower level
-abbrev pub Leaves : Network → State → ℕ → ℕ → Type 0
-Leaves p s v w = (x : ℕ) × (y : ℕ) × Ends p w x y × (s.fr x ≡ s.fr v) × (s.fr y ≢ s.fr v) × (GL s v ≤ s.lev y) × Inf s x × (s.side x ≡ s.side v)
+abbrev pub LeavesFragment : Network → ProtocolState → ℕ → ℕ → Type 0
+LeavesFragment p s v w = (x : ℕ) × (y : ℕ) × Edge p w x y × (s.fr x ≡ s.fr v) × (s.fr y ≢ s.fr v) × (GL s v ≤ s.lev y) × Inf s x × (s.side x ≡ s.side v)
 
 -- x's best edge j leads to a child with best weight n whose Report has been consumed; c′ are the channels
-abbrev pub Kid : Network → State → (ℕ → ℕ) → (ℕ → ℕ → List Msg) → ℕ → ℕ → ℕ → Type 0
-Kid p s bw c′ x j n = (c : ℕ) × Ends p j x c × Jn s j x c × (s.ib x ≢ j) × Inf s c × (s.ib c ≡ j) × (bw c ≡ n) × (s.st c ≡ 2) × (sumL isR (c′ c j) ≡ 0)
+abbrev pub Kid : Network → ProtocolState → (ℕ → ℕ) → (ℕ → ℕ → List Msg) → ℕ → ℕ → ℕ → Type 0
+Kid p s bw c′ x j n = (c : ℕ) × Edge p j x c × Jn s j x c × (s.ib x ≢ j) × Inf s c × (s.ib c ≡ j) × (bw c ≡ n) × (s.st c ≡ 2) × (sumL isR (c′ c j) ≡ 0)
 
-module _ {p : Network} {s : State} (i : Inv p s) {u v w k b e : ℕ} (calm : s.oo ≡ 0) (find : s.st v ≡ 1) (ends : Ends p k v u)
-    (better : Better p s v w k b e) (leaves : w ≢ none → Leaves p s v w) where
+module _ {p : Network} {s : ProtocolState} (i : Inv p s) {u v w k b e : ℕ} (calm : s.oo ≡ 0) (find : s.st v ≡ 1) (ends : Edge p k v u)
+    (better : Better p s v w k b e) (leaves : w ≢ none → LeavesFragment p s v w) where
   abbrev bw′ : ℕ → ℕ
   bw′ = upd s.bw v b
 
@@ -55,9 +55,9 @@ module _ {p : Network} {s : State} (i : Inv p s) {u v w k b e : ℕ} (calm : s.o
   W1′ = record {
     w1w = λ x. upd-elim (λ a. a ≢ none → a < p.g.L) s.bw v b x
         (λ z n. cases (λ o a c. omega (arith, joins-lt (leaves o .2))) (λ a c. omega (arith, i.W1.w1w v (λ y. n (a ∙ y))))) (λ d n. i.W1.w1w x n);
-    w1e = λ x. upd-elim (λ a. a ≢ none → (y : ℕ) × Ends p a x y) s.be v e x
-        (λ z n. subst (λ a. (y : ℕ) × Ends p e a y) z
-        (cases (λ o a c. (u, subst (λ a. Ends p a v u) (sym c) ends)) (λ a c. subst (λ a. (y : ℕ) × Ends p a v y) (sym c) (i.W1.w1e v (λ y. n (c ∙ y))))))
+    w1e = λ x. upd-elim (λ a. a ≢ none → (y : ℕ) × Edge p a x y) s.be v e x
+        (λ z n. subst (λ a. (y : ℕ) × Edge p e a y) z
+        (cases (λ o a c. (u, subst (λ a. Edge p a v u) (sym c) ends)) (λ a c. subst (λ a. (y : ℕ) × Edge p a v y) (sym c) (i.W1.w1e v (λ y. n (c ∙ y))))))
         (λ d n. i.W1.w1e x n);
   }
 
@@ -112,17 +112,17 @@ module _ {p : Network} {s : State} (i : Inv p s) {u v w k b e : ℕ} (calm : s.o
         (λ z y. let o = sym (upd-same s.be v e) ∙ ap be′ z ∙ y in
         sym (ap bw′ z) ∙ upd-same s.bw v b ∙ cases (λ n a c. absurd (edge-some p ends (sym c ∙ o))) (λ a c. a ∙ i.B1.b1m v inf (sym c ∙ o)))
         (λ n y. upd-other s.bw v b x n ∙ i.B1.b1m x h (sym (upd-other s.be v e x n) ∙ y));
-    b1 = λ x h. upd-elim (λ a. a ≢ none → Leaves p s x a) s.bw v b x
-        (λ z n. subst (λ x. Leaves p s x b) z (cases (λ o a c. subst (Leaves p s v) (sym a) (leaves o)) (λ a c. subst (Leaves p s v) (sym a) (i.B1.b1 v inf (λ y. n (a ∙ y))))))
+    b1 = λ x h. upd-elim (λ a. a ≢ none → LeavesFragment p s x a) s.bw v b x
+        (λ z n. subst (λ x. LeavesFragment p s x b) z (cases (λ o a c. subst (LeavesFragment p s v) (sym a) (leaves o)) (λ a c. subst (LeavesFragment p s v) (sym a) (i.B1.b1 v inf (λ y. n (a ∙ y))))))
         (λ d n. i.B1.b1 x h n);
   }
 
   -- the whole, where besides test edges, find-counts, what is owed or open, and channels change
   module _ (te fc : ℕ → ℕ) (owe : ℕ → ℕ → ℕ) (op : ℕ) (c′ : ℕ → ℕ → List Msg) where
-    abbrev weighed : State
+    abbrev weighed : ProtocolState
     weighed = set-op (set-owe (set-fc (set-te (set-be (set-bw (set-ch s c′) bw′) be′) te) fc) owe) op
 
-    pub inv-weighed : Pending s.st te fc s.ot op → Counts p fc owe → Tests p te s.ib s.mark s.ot
+    pub inv-weighed : Pending s.st te fc s.ot op → FindCounts p fc owe → Tests p te s.ib s.mark s.ot
         → Flow p weighed → Testing p weighed → Answers p weighed → Bests p weighed → Inv p weighed
     inv-weighed f2 f4 e2 f e1 a1 b2 = record {
       W0 = i.W0;
@@ -169,7 +169,7 @@ module _ {p : Network} {s : State} (i : Inv p s) {u v w k b e : ℕ} (calm : s.o
         same-kid x h n m y z =
             let t = i.B2.b1e x h (λ a. n (z ∙ a)) (λ a. m (y ∙ a ∙ sym z)) in (
               t .0,
-              subst (λ a. Ends p a x (t .0)) (sym y) (t .1),
+              subst (λ a. Edge p a x (t .0)) (sym y) (t .1),
               subst (λ a. Jn s a x (t .0)) (sym y) (t .2),
               λ a. t .3 (a ∙ y),
               t .4,
@@ -190,7 +190,7 @@ module _ {p : Network} {s : State} (i : Inv p s) {u v w k b e : ℕ} (calm : s.o
 
     -- what a best weight covered is covered: by the same, if it is live, or by v's, if that is not later
     pub cover : (x n : ℕ) (t : Covered p s x n)
-        → (v ≢ t .0 → ((s.fr v ≡ s.fr x) × (key p b ≤ key p (s.bw (t .0)))) ⊎ Live (set-ch s c′) (t .0)) → Covered p (set-bw (set-ch s c′) bw′) x n
+        → (v ≢ t .0 → ((s.fr v ≡ s.fr x) × (key p b ≤ key p (s.bw (t .0)))) ⊎ Counting (set-ch s c′) (t .0)) → Covered p (set-bw (set-ch s c′) bw′) x n
     cover x n t h = by-eq v (t .0)
         (λ z. own (ap s.fr z ∙ t .1) (omega (arith, best-old, ap (λ a. key p (s.bw a)) z)))
         (λ d. ⊎-elim (λ o. own (o .0) (o .1))

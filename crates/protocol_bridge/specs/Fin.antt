@@ -8,20 +8,19 @@ use lib.ListN.{length, length-append}
 use Rattle.base.specs.Cond.{upd-same}
 use Rattle.format_message.specs.Msg.{Msg}
 use Rattle.node.specs.declared.Node.{Node}
-use Rattle.node.specs.Work.{Work, Send, start, withNode, setMark, setStatus, setBest, setTest, setCount, setHalted}
-use Rattle.node.specs.Work as W
-use Rattle.node.specs.Rules as N
-use Rattle.protocol.specs.Network.{Network, Ends}
-use Rattle.protocol.specs.State.{State}
+use Rattle.node.specs.Work.{Work, Send, start, withNode, setMark, setStatus, setBest, setTest, setCount, setHalted, send}
+use Rattle.node.specs.Rules.{copied, informed, woken}
+use Rattle.protocol.specs.Network.{Network, Edge}
+use Rattle.protocol.specs.State.{ProtocolState}
 use Rattle.protocol.specs.Step.{Step, Idle, pop}
 use Rattle.protocol.specs.Run.{sends, Steps, done, then}
 use Rattle.protocol.specs.Inv.{Inv}
-use Rattle.protocol_bridge.specs.Real.{Real, real, post, place}
+use Rattle.protocol_bridge.specs.Real.{Real, real, post, placeIn}
 use Rattle.protocol_bridge.specs.Place.{toStatus, toBest, toTest, toCount, toHalted, toMark, toChans, toSend, toPop, toTold, toWoken, place-status, place-best, place-test, place-count, place-halted, place-mark, place-woken, place-told, place-send, place-copied, place-pop}
 
 -- the tables x are r with the response w, as far as it has come, placed at v
 pub record At (r : Real) (v : ℕ) (w : Work) (x : Real) : Type 0 where
-  pub is : x ≡ place r v w
+  pub is : x ≡ placeIn r v w
 
 -- n has v's values in the tables r: a response that has done nothing changes none. (n may have values that no table has.)
 abbrev pub Shows : Real → ℕ → Node → Type 0
@@ -86,16 +85,16 @@ module _ {r : Real} {v : ℕ} {w : Work} {x : Real} (a : At r v w x) where
   pub at-mark : (k c : ℕ) → At r v (setMark k c w) (toMark v k c x)
   at-mark k c = record { is = ap (toMark v k c) (a.is) ∙ place-mark r v w k c }
 
-  pub at-send : (k : ℕ) (m : Msg) → At r v (W.send k m w) (toSend v k m x)
+  pub at-send : (k : ℕ) (m : Msg) → At r v (send k m w) (toSend v k m x)
   at-send k m = record { is = ap (toSend v k m) (a.is) ∙ place-send r v w k m }
 
-  pub at-woken : At r v (withNode (N.woken (w .node)) w) (toWoken v (N.woken (w .node)) x)
-  at-woken = record { is = ap (toWoken v (N.woken (w .node))) (a.is) ∙ place-woken r v w }
+  pub at-woken : At r v (withNode (woken (w .node)) w) (toWoken v (woken (w .node)) x)
+  at-woken = record { is = ap (toWoken v (woken (w .node))) (a.is) ∙ place-woken r v w }
 
-  pub at-told : (l f b k : ℕ) → At r v (withNode (N.informed l f b k (w .node)) w) (toTold v (N.informed l f b k (w .node)) x)
-  at-told l f b k = record { is = ap (toTold v (N.informed l f b k (w .node))) (a.is) ∙ place-told r v w l f b k }
+  pub at-told : (l f b k : ℕ) → At r v (withNode (informed l f b k (w .node)) w) (toTold v (informed l f b k (w .node)) x)
+  at-told l f b k = record { is = ap (toTold v (informed l f b k (w .node))) (a.is) ∙ place-told r v w l f b k }
 
-  pub at-copied : (cs : List Send) → At r v (N.copied cs w) (toChans (post x.ch v cs) x)
+  pub at-copied : (cs : List Send) → At r v (copied cs w) (toChans (post x.ch v cs) x)
   at-copied cs = record { is = ap (λ (y : Real). toChans (post y.ch v cs) y) (a.is) ∙ place-copied r v w cs }
 
   -- a change of another node's channel
@@ -103,13 +102,13 @@ module _ {r : Real} {v : ℕ} {w : Work} {x : Real} (a : At r v w x) where
   at-pop u k l d = record { is = ap (toPop u k l) (a.is) ∙ place-pop r v w u k l d }
 
 -- one message more
-pub one-more : (w : Work) (k : ℕ) (m : Msg) → length (w .sends) + 1 ≡ length (W.send k m w .sends)
+pub one-more : (w : Work) (k : ℕ) (m : Msg) → length (w .sends) + 1 ≡ length (send k m w .sends)
 one-more w k m = sym (length-append (w .sends) (record { edge = k; msg = m } ∷ []))
 
 -- THE REST OF A RESPONSE: from s, where b messages are sent, small steps lead to an idle state whose tables are r with w placed at v;
 -- the messages sent in all are w's; w's answer is c
-pub record Fin (p : Network) (r : Real) (v c b : ℕ) (w : Work) (s : State) : Type 0 where
-  pub to : State
+pub record Fin (p : Network) (r : Real) (v c b : ℕ) (w : Work) (s : ProtocolState) : Type 0 where
+  pub to : ProtocolState
   pub n : ℕ
   pub steps : Steps p s to n
   pub idle : Idle to
@@ -117,47 +116,47 @@ pub record Fin (p : Network) (r : Real) (v c b : ℕ) (w : Work) (s : State) : T
   pub at : At r v w (real to)
   pub count : b + n ≡ length (w .sends)
 
-module _ {p : Network} {r : Real} {v c : ℕ} {w : Work} {s : State} where
+module _ {p : Network} {r : Real} {v c : ℕ} {w : Work} {s : ProtocolState} where
   -- nothing is left to do
-  abbrev pub over : Idle s → w .answer ≡ c → At r v w (real s) → Fin p r v c (length (w .sends)) w s
-  over idle z a = record { to = s; n = 0; steps = done; idle = idle; answer = z; at = a; count = omega arith }
+  abbrev pub fin-over : Idle s → w .answer ≡ c → At r v w (real s) → Fin p r v c (length (w .sends)) w s
+  fin-over idle z a = record { to = s; n = 0; steps = done; idle = idle; answer = z; at = a; count = omega arith }
 
   -- a step, then the rest
-  pub after : {s′ : State} {b d : ℕ} (t : Step p s s′) → b + sends t ≡ d → Fin p r v c d w s′ → Fin p r v c b w s
-  after {b} t q f = record { to = f.to; n = sends t + f.n; steps = then t (f.steps); idle = f.idle; answer = f.answer; at = f.at; count = omega (arith, f.count) }
+  pub fin-step : {s′ : ProtocolState} {b d : ℕ} (t : Step p s s′) → b + sends t ≡ d → Fin p r v c d w s′ → Fin p r v c b w s
+  fin-step {b} t q f = record { to = f.to; n = sends t + f.n; steps = then t (f.steps); idle = f.idle; answer = f.answer; at = f.at; count = omega (arith, f.count) }
 
   -- the last step
-  pub last : {s′ : State} {b : ℕ} (t : Step p s s′) → b + sends t ≡ length (w .sends) → Idle s′ → w .answer ≡ c → At r v w (real s′) → Fin p r v c b w s
-  last {s′} t q idle z a = record { to = s′; n = sends t + 0; steps = then t done; idle = idle; answer = z; at = a; count = omega arith }
+  pub fin-last : {s′ : ProtocolState} {b : ℕ} (t : Step p s s′) → b + sends t ≡ length (w .sends) → Idle s′ → w .answer ≡ c → At r v w (real s′) → Fin p r v c b w s
+  fin-last {s′} t q idle z a = record { to = s′; n = sends t + 0; steps = then t done; idle = idle; answer = z; at = a; count = omega arith }
 
 -- an equal response
-pub same : {p : Network} {r : Real} {v c b : ℕ} {w w′ : Work} {s : State} → w′ ≡ w → Fin p r v c b w s → Fin p r v c b w′ s
-same {p} {r} {v} {c} {b} {s = s} e f = subst (λ y. Fin p r v c b y s) (sym e) f
+pub fin-same : {p : Network} {r : Real} {v c b : ℕ} {w w′ : Work} {s : ProtocolState} → w′ ≡ w → Fin p r v c b w s → Fin p r v c b w′ s
+fin-same {p} {r} {v} {c} {b} {s = s} e f = subst (λ y. Fin p r v c b y s) (sym e) f
 
 -- the first steps, then the rest
-pub steps-app : {p : Network} {s s′ s″ : State} {n m : ℕ} → Steps p s s′ n → Steps p s′ s″ m → (k : ℕ) × (k ≡ n + m) × Steps p s s″ k
+pub steps-app : {p : Network} {s s′ s″ : ProtocolState} {n m : ℕ} → Steps p s s′ n → Steps p s′ s″ m → (k : ℕ) × (k ≡ n + m) × Steps p s s″ k
 steps-app {m} done t = (m, omega arith, t)
 steps-app (then t l) r = let q = steps-app l r in (sends t + q .0, omega (arith, q .1), then t (q .2))
 
 -- a response that was carried out so far, and the rest from there
-pub resume : {p : Network} {r r′ : Real} {v c c′ b : ℕ} {w w′ : Work} {s : State} (f : Fin p r v c b w s) → Fin p r′ v c′ (length (w .sends)) w′ f.to → Fin p r′ v c′ b w′ s
+pub resume : {p : Network} {r r′ : Real} {v c c′ b : ℕ} {w w′ : Work} {s : ProtocolState} (f : Fin p r v c b w s) → Fin p r′ v c′ (length (w .sends)) w′ f.to → Fin p r′ v c′ b w′ s
 resume f g =
     let t = steps-app f.steps g.steps in
     record { to = g.to; n = t .0; steps = t .2; idle = g.idle; answer = g.answer; at = g.at; count = omega (arith, t .1, f.count, g.count) }
 
 -- every small step keeps the invariant
 abbrev pub Keeps : Network → Type 0
-Keeps p = (s s′ : State) → Step p s s′ → Inv p s → Inv p s′
+Keeps p = (s s′ : ProtocolState) → Step p s s′ → Inv p s → Inv p s′
 
-pub keeps-steps : {p : Network} → Keeps p → {s s′ : State} {n : ℕ} → Steps p s s′ n → Inv p s → Inv p s′
+pub keeps-steps : {p : Network} → Keeps p → {s s′ : ProtocolState} {n : ℕ} → Steps p s s′ n → Inv p s → Inv p s′
 keeps-steps h done i = i
 keeps-steps h (then {s} {s′} t l) i = keeps-steps h l (h s s′ t i)
 
 -- v, awake, serves the head m of the channel from u over k: w is its response before it looks at m, r the tables without m
-pub record Serving (p : Network) (s : State) (r : Real) (u v k : ℕ) (m : Msg) (rest : List Msg) (w : Work) : Type 0 where
+pub record Serving (p : Network) (s : ProtocolState) (r : Real) (u v k : ℕ) (m : Msg) (rest : List Msg) (w : Work) : Type 0 where
   pub inv : Inv p s
   pub idle : Idle s
-  pub ends : Ends p k u v
+  pub ends : Edge p k u v
   pub awake : s.st v ≢ 0
   pub head : s.ch u k ≡ m ∷ rest
   pub at : At r v w (real (pop s u k rest))

@@ -6,10 +6,9 @@ use mathlib.Core.List.{List, [], _∷_, _++_}
 use Rattle.base.specs.Cond.{upd, upd-elim, upd-same, upd-other, upd2, upd2-elim}
 use Rattle.format_message.specs.Msg.{Msg}
 use Rattle.node.specs.declared.Node.{Node}
-use Rattle.node.specs.Work.{Work, Send, withNode, setMark, setStatus, setBest, setTest, setCount, setHalted}
-use Rattle.node.specs.Work as W
-use Rattle.node.specs.Rules as N
-use Rattle.protocol_bridge.specs.Real.{Real, post, place}
+use Rattle.node.specs.Work.{Work, Send, withNode, setMark, setStatus, setBest, setTest, setCount, setHalted, send}
+use Rattle.node.specs.Rules.{copied, informed, woken}
+use Rattle.protocol_bridge.specs.Real.{Real, post, placeIn}
 
 -- ---- assignments to v's values, in the tables
 
@@ -109,39 +108,39 @@ post-else c u v k [] d = refl
 post-else c u v k (x ∷ a) d = post-else (upd2 c v (x .edge) (c v (x .edge) ++ (x .msg ∷ []))) u v k a d
     ∙ upd2-elim (λ y. y ≡ c u k) c v (x .edge) (c v (x .edge) ++ (x .msg ∷ [])) u k (λ p q. absurd (d (sym p))) (λ n. refl)
 
--- ---- laws of `place`
+-- ---- laws of `placeIn`
 
 module _ (r : Real) (v : ℕ) (w : Work) where
-  pub place-status : (a : ℕ) → toStatus v a (place r v w) ≡ place r v (withNode (setStatus a (w .node)) w)
+  pub place-status : (a : ℕ) → toStatus v a (placeIn r v w) ≡ placeIn r v (withNode (setStatus a (w .node)) w)
   place-status a = simp upd-upd
 
-  pub place-best : (e x : ℕ) → toBest v e x (place r v w) ≡ place r v (withNode (setBest e x (w .node)) w)
+  pub place-best : (e x : ℕ) → toBest v e x (placeIn r v w) ≡ placeIn r v (withNode (setBest e x (w .node)) w)
   place-best e x = simp upd-upd
 
-  pub place-test : (a : ℕ) → toTest v a (place r v w) ≡ place r v (withNode (setTest a (w .node)) w)
+  pub place-test : (a : ℕ) → toTest v a (placeIn r v w) ≡ placeIn r v (withNode (setTest a (w .node)) w)
   place-test a = simp upd-upd
 
-  pub place-count : (a : ℕ) → toCount v a (place r v w) ≡ place r v (withNode (setCount a (w .node)) w)
+  pub place-count : (a : ℕ) → toCount v a (placeIn r v w) ≡ placeIn r v (withNode (setCount a (w .node)) w)
   place-count a = simp upd-upd
 
-  pub place-halted : (a : ℕ) → toHalted v a (place r v w) ≡ place r v (withNode (setHalted a (w .node)) w)
+  pub place-halted : (a : ℕ) → toHalted v a (placeIn r v w) ≡ placeIn r v (withNode (setHalted a (w .node)) w)
   place-halted a = simp upd-upd
 
-  pub place-mark : (k c : ℕ) → toMark v k c (place r v w) ≡ place r v (setMark k c w)
+  pub place-mark : (k c : ℕ) → toMark v k c (placeIn r v w) ≡ placeIn r v (setMark k c w)
   place-mark k c = simp row-upd
 
-  pub place-woken : toWoken v (N.woken (w .node)) (place r v w) ≡ place r v (withNode (N.woken (w .node)) w)
+  pub place-woken : toWoken v (woken (w .node)) (placeIn r v w) ≡ placeIn r v (withNode (woken (w .node)) w)
   place-woken = simp upd-upd
 
-  pub place-told : (l f x k : ℕ) → toTold v (N.informed l f x k (w .node)) (place r v w) ≡ place r v (withNode (N.informed l f x k (w .node)) w)
+  pub place-told : (l f x k : ℕ) → toTold v (informed l f x k (w .node)) (placeIn r v w) ≡ placeIn r v (withNode (informed l f x k (w .node)) w)
   place-told l f x k = simp upd-upd
 
-  pub place-send : (k : ℕ) (m : Msg) → toSend v k m (place r v w) ≡ place r v (W.send k m w)
-  place-send k m = ap (λ c. toChans c (place r v w)) (sym (post-app r.ch v (w .sends) (record { edge = k; msg = m } ∷ []) ∙ post-one (post r.ch v (w .sends)) v k m))
+  pub place-send : (k : ℕ) (m : Msg) → toSend v k m (placeIn r v w) ≡ placeIn r v (send k m w)
+  place-send k m = ap (λ c. toChans c (placeIn r v w)) (sym (post-app r.ch v (w .sends) (record { edge = k; msg = m } ∷ []) ∙ post-one (post r.ch v (w .sends)) v k m))
 
-  pub place-copied : (cs : List Send) → toChans (post (post r.ch v (w .sends)) v cs) (place r v w) ≡ place r v (N.copied cs w)
-  place-copied cs = ap (λ c. toChans c (place r v w)) (sym (post-app r.ch v (w .sends) cs))
+  pub place-copied : (cs : List Send) → toChans (post (post r.ch v (w .sends)) v cs) (placeIn r v w) ≡ placeIn r v (copied cs w)
+  place-copied cs = ap (λ c. toChans c (placeIn r v w)) (sym (post-app r.ch v (w .sends) cs))
 
   -- another node's channel
-  pub place-pop : (u k : ℕ) (l : List Msg) → u ≢ v → toPop u k l (place r v w) ≡ place (toPop u k l r) v w
-  place-pop u k l d = ap (λ c. toChans c (place r v w)) (post-pop r.ch u v k l (w .sends) d)
+  pub place-pop : (u k : ℕ) (l : List Msg) → u ≢ v → toPop u k l (placeIn r v w) ≡ placeIn (toPop u k l r) v w
+  place-pop u k l d = ap (λ c. toChans c (placeIn r v w)) (post-pop r.ch u v k l (w .sends) d)

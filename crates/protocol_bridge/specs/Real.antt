@@ -7,7 +7,7 @@ use Rattle.base.specs.Cond.{upd, upd2}
 use Rattle.format_message.specs.Msg.{Msg}
 use Rattle.node.specs.Work.{Own, Work, Send}
 use Rattle.protocol.specs.Network.{Network}
-use Rattle.protocol.specs.State.{State}
+use Rattle.protocol.specs.State.{ProtocolState}
 
 -- one table for each of a module's values that the protocol knows, the marks, and the channels
 pub record Real : Type 0 where
@@ -23,7 +23,7 @@ pub record Real : Type 0 where
   pub mark : ℕ → ℕ → ℕ
   pub ch : ℕ → ℕ → List Msg
 
-abbrev pub real : State → Real
+abbrev pub real : ProtocolState → Real
 real s = record { st = s.st; lev = s.lev; id = s.id; bw = s.bw; be = s.be; te = s.te; ib = s.ib; fc = s.fc; halt = s.halt; mark = s.mark; ch = s.ch }
 
 -- v's edges as its rules see them
@@ -36,8 +36,8 @@ post c v [] = c
 post c v (x ∷ l) = post (upd2 c v (x .edge) (c v (x .edge) ++ (x .msg ∷ []))) v l
 
 -- r with v's values and marks as the response w leaves them, and w's messages sent
-abbrev pub place : Real → ℕ → Work → Real
-place r v w =
+abbrev pub placeIn : Real → ℕ → Work → Real
+placeIn r v w =
     record {
       st = upd r.st v (w .node .status);
       lev = upd r.lev v (w .node .level);

@@ -9,21 +9,20 @@ use lib.ListN.{length}
 use Rattle.base.specs.Cond.{by-eq, bool-cases, upd, upd2}
 use Rattle.graph.specs.Ways.{joins-lt}
 use Rattle.format_message.specs.Msg.{Msg, none, accept, report, change}
-use Rattle.node.specs.Work.{Work, putBack, before, withNode, setCount}
-use Rattle.node.specs.Work as W
+use Rattle.node.specs.Work.{Work, putBack, before, withNode, setCount, Own}
 use Rattle.node.specs.Rules.{onAccept, onReport, onChange, coreReport, better, doReport, changeRoot}
 use Rattle.node.specs.Laws.{child-reports, report-child, report-waits, report-core, core-decides, core-halts, core-edge, core-idle}
-use Rattle.protocol.specs.Prelude.{Network, key, State, Step, Blocked, Better, In, pop-head, pop, rooted, bested, set-te, set-op, set-owe, set-fc}
+use Rattle.protocol.specs.Prelude.{Network, key, ProtocolState, Step, Blocked, Better, In, pop-head, pop, rooted, bested, set-te, set-op, set-owe, set-fc}
 use Rattle.protocol.specs.Step.{accepted, child-report, core-nothing, core-halt, decide, change-root}
 use Rattle.protocol.specs.Run.{sends}
 use Rattle.protocol_invariant.specs.Safe.{child-count}
 use Rattle.protocol_bridge.specs.Real.{Real, ownP}
 use Rattle.protocol_bridge.specs.Own.{before-lt, before-ge}
-use Rattle.protocol_bridge.specs.Fin.{Fin, Keeps, Serving, after, last, same, st-is, bw-is, be-is, ib-is, fc-is, at-best, at-test, at-count, at-halted}
+use Rattle.protocol_bridge.specs.Fin.{Fin, Keeps, Serving, fin-step, fin-last, fin-same, st-is, bw-is, be-is, ib-is, fc-is, at-best, at-test, at-count, at-halted}
 use Rattle.protocol_bridge.specs.Finish.{report-fin, root-fin}
 
 -- a weight x that came over k against v's best
-module _ {p : Network} {s : State} {r : Real} {u v k : ℕ} {m : Msg} {rest : List Msg} {w : Work} (sv : Serving p s r u v k m rest w) where
+module _ {p : Network} {s : ProtocolState} {r : Real} {u v k : ℕ} {m : Msg} {rest : List Msg} {w : Work} (sv : Serving p s r u v k m rest w) where
   -- v's best weight is an edge or none (W1)
   weight : w .node .weight ≢ none → w .node .weight < p.g.L
   weight n = omega (arith, bw-is sv.at, sv.inv.W1.w1w v (λ e. n (sym (bw-is sv.at) ∙ e)))
@@ -44,27 +43,27 @@ module _ {p : Network} {s : State} {r : Real} {u v k : ℕ} {m : Msg} {rest : Li
         (λ e. inr (omega (arith, before-ge p v x (w .node .weight) edge weight e, ap (key p) (bw-is sv.at)), rw e (sym (bw-is sv.at)), rw e (sym (be-is sv.at))))
 
 -- (7) Accept
-pub accept-fin : {p : Network} → Keeps p → {s : State} {r : Real} {u v k : ℕ} {rest : List Msg} {w : Work} → Serving p s r u v k accept rest w
+pub accept-fin : {p : Network} → Keeps p → {s : ProtocolState} {r : Real} {u v k : ℕ} {rest : List Msg} {w : Work} → Serving p s r u v k accept rest w
     → Fin p r v 0 (length (w .sends)) (onAccept (ownP p v) k w) s
 accept-fin {p} keeps {s} {r} {u} {v} {k} {rest} {w} sv =
     let b = newWeight sv k in
     let e = newEdge sv k in
     let t : Step p s (set-op (bested (set-te (pop s u k rest) (upd s.te v none)) v b e) (suc v)) = accepted sv.idle sv.ends sv.head (chosen sv k (λ n. joins-lt sv.ends)) in
-    after t (omega arith) (report-fin (keeps _ _ t sv.inv) (at-best (at-test sv.at none) e b) sv.fresh (sv.idle .0) refl (sv.idle .2))
+    fin-step t (omega arith) (report-fin (keeps _ _ t sv.inv) (at-best (at-test sv.at none) e b) sv.fresh (sv.idle .0) refl (sv.idle .2))
 
 -- procedure change-root follows
-rooted-fin : {p : Network} → Keeps p → {s : State} {r : Real} {u v k : ℕ} {m : Msg} {rest : List Msg} {w : Work} → Serving p s r u v k m rest w
+rooted-fin : {p : Network} → Keeps p → {s : ProtocolState} {r : Real} {u v k : ℕ} {m : Msg} {rest : List Msg} {w : Work} → Serving p s r u v k m rest w
     → (t : Step p s (rooted (pop s u k rest) v)) → sends t ≡ 0 → Fin p r v 0 (length (w .sends)) (changeRoot w) s
-rooted-fin keeps sv t n = after t (omega arith) (root-fin (keeps _ _ t sv.inv) sv.at sv.fresh (sv.idle .0) (sv.idle .1) refl)
+rooted-fin keeps sv t n = fin-step t (omega arith) (root-fin (keeps _ _ t sv.inv) sv.at sv.fresh (sv.idle .0) (sv.idle .1) refl)
 
 -- (12) Change-root
-pub change-fin : {p : Network} → Keeps p → {s : State} {r : Real} {u v k : ℕ} {rest : List Msg} {w : Work} → Serving p s r u v k change rest w
+pub change-fin : {p : Network} → Keeps p → {s : ProtocolState} {r : Real} {u v k : ℕ} {rest : List Msg} {w : Work} → Serving p s r u v k change rest w
     → Fin p r v 0 (length (w .sends)) (onChange w) s
 change-fin keeps sv = rooted-fin keeps sv (change-root sv.idle sv.ends sv.head) refl
 
 -- (10) Report
-module _ {p : Network} (keeps : Keeps p) {s : State} {r : Real} {u v k x : ℕ} {rest : List Msg} {w : Work} (sv : Serving p s r u v k (report x) rest w) where
-  abbrev o : W.Own
+module _ {p : Network} (keeps : Keeps p) {s : ProtocolState} {r : Real} {u v k x : ℕ} {rest : List Msg} {w : Work} (sv : Serving p s r u v k (report x) rest w) where
+  abbrev o : Own
   o = ownP p v
 
   here : In (report x) (s.ch u k)
@@ -81,9 +80,9 @@ module _ {p : Network} (keeps : Keeps p) {s : State} {r : Real} {u v k x : ℕ} 
       let e = newEdge sv x in
       let c = s.fc v - 1 in
       let t : Step p s (set-op (set-owe (set-fc (bested (pop s u k rest) v b e) (upd s.fc v c)) (upd2 s.owe v k 0)) (suc v)) = child-report sv.idle sv.ends sv.head n (chosen sv x edge) in
-      same (report-child o x k w (λ q. n (ib-is sv.at ∙ sym q)) ∙ (child-reports o x k w (λ q. child-count sv.inv k u v x sv.ends sv.head n (fc-is sv.at ∙ q))
+      fin-same (report-child o x k w (λ q. n (ib-is sv.at ∙ sym q)) ∙ (child-reports o x k w (λ q. child-count sv.inv k u v x sv.ends sv.head n (fc-is sv.at ∙ q))
       ∙ ap (λ d. doReport (withNode (better o k x (setCount (d - 1) (w .node))) w)) (sym (fc-is sv.at))))
-      (after t (omega arith) (report-fin (keeps _ _ t sv.inv) (at-best (at-count sv.at c) e b) sv.fresh (sv.idle .0) refl (sv.idle .2)))
+      (fin-step t (omega arith) (report-fin (keeps _ _ t sv.inv) (at-best (at-count sv.at c) e b) sv.fresh (sv.idle .0) refl (sv.idle .2)))
 
   -- over the in-branch, at a Found node
   module _ (b : s.ib v ≡ k) (f : s.st v ≢ 1) where
@@ -91,16 +90,16 @@ module _ {p : Network} (keeps : Keeps p) {s : State} {r : Real} {u v k x : ℕ} 
     core-is = report-core o x k w (sym b ∙ ib-is sv.at) (λ e. f (st-is sv.at ∙ e))
 
     nothing-fin : before o (w .node .weight) x ≡ false → (x ≢ none) ⊎ (s.bw v ≢ none) → coreReport o x w ≡ w → Fin p r v 0 (length (w .sends)) (onReport o x k w) s
-    nothing-fin h n e = same (core-is ∙ e)
-        (last (core-nothing sv.idle sv.ends sv.head b f (omega (arith, before-ge p v (w .node .weight) x (weight sv) edge h, ap (key p) (bw-is sv.at))) n) (omega arith) sv.idle sv.fresh sv.at)
+    nothing-fin h n e = fin-same (core-is ∙ e)
+        (fin-last (core-nothing sv.idle sv.ends sv.head b f (omega (arith, before-ge p v (w .node .weight) x (weight sv) edge h, ap (key p) (bw-is sv.at))) n) (omega arith) sv.idle sv.fresh sv.at)
 
     core-fin : Fin p r v 0 (length (w .sends)) (onReport o x k w) s
     core-fin = bool-cases (before o (w .node .weight) x)
-        (λ h. same (core-is ∙ core-decides o x w h)
+        (λ h. fin-same (core-is ∙ core-decides o x w h)
         (rooted-fin keeps sv (decide sv.idle sv.ends sv.head b f (omega (arith, before-lt p v (w .node .weight) x (weight sv) edge h, ap (key p) (bw-is sv.at)))) refl))
         (λ h. by-eq x none
         (λ e. by-eq (w .node .weight) none
-        (λ q. same (core-is ∙ core-halts o x w h e q) (last (core-halt sv.idle sv.ends sv.head b f e (bw-is sv.at ∙ q)) (omega arith) sv.idle sv.fresh (at-halted sv.at 1)))
+        (λ q. fin-same (core-is ∙ core-halts o x w h e q) (fin-last (core-halt sv.idle sv.ends sv.head b f e (bw-is sv.at ∙ q)) (omega arith) sv.idle sv.fresh (at-halted sv.at 1)))
         (λ n. nothing-fin h (inr (λ q. n (sym (bw-is sv.at) ∙ q))) (core-idle o x w h n)))
         (λ n. nothing-fin h (inl n) (core-edge o x w h n)))
 

@@ -10,27 +10,27 @@ use Rattle.node.specs.Work.{Work, BRANCH, anyEdge, earliest}
 use Rattle.node.specs.Rules.{wakeup}
 use Rattle.node.specs.Laws.{wake-alone, wake-edge}
 use Rattle.protocol.specs.Network.{Network, edge-some}
-use Rattle.protocol.specs.State.{State}
+use Rattle.protocol.specs.State.{ProtocolState}
 use Rattle.protocol.specs.Step.{Idle, wake-lone, wake-half, wake-merge}
 use Rattle.protocol_bridge.specs.Real.{Real, real, ownP}
-use Rattle.protocol_bridge.specs.Own.{Lacks, Finds, searched}
-use Rattle.protocol_bridge.specs.Fin.{At, Fin, last, same, one-more, at-halted, at-woken, at-mark, at-send}
+use Rattle.protocol_bridge.specs.Own.{Lacks, FindsFirst, searched}
+use Rattle.protocol_bridge.specs.Fin.{At, Fin, fin-last, fin-same, one-more, at-halted, at-woken, at-mark, at-send}
 
-module _ (p : Network) (s : State) {r : Real} {v : ℕ} {w : Work} (a : At r v w (real s)) (z : w .answer ≡ 0) (idle : Idle s) (lt : v < p.N) (asleep : s.st v ≡ 0) where
+module _ (p : Network) (s : ProtocolState) {r : Real} {v : ℕ} {w : Work} (a : At r v w (real s)) (z : w .answer ≡ 0) (idle : Idle s) (lt : v < p.N) (asleep : s.st v ≡ 0) where
   abbrev edge : ℕ
   edge = earliest (ownP p v) anyEdge p.g.L
 
   alone : Lacks p v anyEdge edge → Fin p r v 0 (length (w .sends)) (wakeup (ownP p v) w) s
-  alone h = same (wake-alone edge w (h .is)) (last (wake-lone idle lt asleep (λ k u e. h .nothing k u e refl)) (omega arith) idle z (at-halted (at-woken a) 1))
+  alone h = fin-same (wake-alone edge w (h .is)) (fin-last (wake-lone idle lt asleep (λ k u e. h .nothing k u e refl)) (omega arith) idle z (at-halted (at-woken a) 1))
 
-  connects : Finds p v anyEdge edge → Fin p r v 0 (length (w .sends)) (wakeup (ownP p v) w) s
+  connects : FindsFirst p v anyEdge edge → Fin p r v 0 (length (w .sends)) (wakeup (ownP p v) w) s
   connects h =
       let y = h .other in
       let m = connect 0 in
       let a′ = at-send (at-mark (at-woken a) edge BRANCH) edge m in
-      same (wake-edge edge w (edge-some p (h .ends))) (by-eq (s.mark y edge) 1
-      (λ b. last (wake-merge idle (h .ends) asleep (λ j u e. h .least j u e refl) b) (one-more w edge m) idle z a′)
-      (λ b. last (wake-half idle (h .ends) asleep (λ j u e. h .least j u e refl) b) (one-more w edge m) idle z a′))
+      fin-same (wake-edge edge w (edge-some p (h .ends))) (by-eq (s.mark y edge) 1
+      (λ b. fin-last (wake-merge idle (h .ends) asleep (λ j u e. h .least j u e refl) b) (one-more w edge m) idle z a′)
+      (λ b. fin-last (wake-half idle (h .ends) asleep (λ j u e. h .least j u e refl) b) (one-more w edge m) idle z a′))
 
   pub wake-fin : Fin p r v 0 (length (w .sends)) (wakeup (ownP p v) w) s
   wake-fin = ⊎-elim alone connects (searched p v anyEdge)

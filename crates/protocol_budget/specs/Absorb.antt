@@ -1,16 +1,16 @@
 -- A fragment is absorbed: its node u gets an Initiate, and the others are below the level that they then have to reach.
 use Rattle.protocol.specs.Prelude.{ℕ, _+_, _≤_, _<_, arith, _≡_, sym, ap, subst, _∙_, _⊎_, by-eq}
 use Rattle.protocol.specs.Prelude.{List, _∷_, upd2, upd2-elim, Msg, connect, initiate}
-use Rattle.protocol.specs.Prelude.{Network, Ends, flip, ends-same, State, Idle, Flag}
+use Rattle.protocol.specs.Prelude.{Network, Edge, flip, ends-same, ProtocolState, Idle, Flag}
 use Rattle.protocol.specs.Prelude.{In, all-in, pop-head, at2, GL, Half, Inv}
 use Rattle.protocol_budget.specs.Paid.{Dues, Tries, Paid}
-use Rattle.protocol_budget.specs.Height.{keep, tb-none, tb-le}
-use Rattle.protocol.specs.Prelude.{bulk-in, bulk-out, send, pop, absorbed, half-at}
+use Rattle.protocol_budget.specs.Height.{paid-keep, tb-none, tb-le}
+use Rattle.protocol.specs.Prelude.{bulk-in, bulk-out, sendOver, pop, absorbed, half-at}
 use Rattle.protocol_budget.specs.Raise.{Raised, raise}
 
-module _ {p : Network} {z n : ℕ} {s : State} (i : Inv p s) (h : Paid p z s n) {u v k l x : ℕ} {r : List Msg} (idle : Idle s) (ends : Ends p k u v) (q : s.ch u k ≡ connect l ∷ r)
+module _ {p : Network} {z n : ℕ} {s : ProtocolState} (i : Inv p s) (h : Paid p z s n) {u v k l x : ℕ} {r : List Msg} (idle : Idle s) (ends : Edge p k u v) (q : s.ch u k ≡ connect l ∷ r)
     (low : l < s.lev v) (flag : Flag s v x) where
-  abbrev S′ : State
+  abbrev S′ : ProtocolState
   S′ = absorbed (pop s u k r) u v k x
 
   head : In (connect l) (s.ch u k)
@@ -32,15 +32,15 @@ module _ {p : Network} {z n : ℕ} {s : State} (i : Inv p s) (h : Paid p z s n) 
   tb-u : h.tb u ≡ s.lev u
   tb-u = tb-none i (h.H) u (λ a b d f g w e o. not-joined a b d f g w (sym (i.D1.d1 k u v ends half .d1u) ∙ e) o)
     where
-      not-joined : (a b d f g : ℕ) → Ends p a b u → k ≡ a → In (initiate d f g) (s.ch b a) → ⊥
+      not-joined : (a b d f g : ℕ) → Edge p a b u → k ≡ a → In (initiate d f g) (s.ch b a) → ⊥
       not-joined a b d f g w e o =
-          let t = ends-same ends (subst (λ c. Ends p c u b) (sym e) (flip w)) in
+          let t = ends-same ends (subst (λ c. Edge p c u b) (sym e) (flip w)) in
           omega (arith, i.I1.i1 a b u d f g w o .i1j .0, ap (λ c. s.mark c a) t, ap (s.mark v) e, basic)
 
-  raised : Raised p z (send (pop s u k r) v k (initiate (s.lev v) (s.id v) x)) (n + 1) u (h.tb)
+  raised : Raised p z (sendOver (pop s u k r) v k (initiate (s.lev v) (s.id v) x)) (n + 1) u (h.tb)
   raised = raise i h (s.lev v) (s.id v) x ends q (i.D1.d1 k u v ends half .d1u) (omega (arith, tb-u, i.D1.d1 k u v ends half .d1l, level))
 
-  abbrev h′ : Paid p z (send (pop s u k r) v k (initiate (s.lev v) (s.id v) x)) (n + 1)
+  abbrev h′ : Paid p z (sendOver (pop s u k r) v k (initiate (s.lev v) (s.id v) x)) (n + 1)
   h′ = raised .paid
 
   -- by the label: u itself, or one whose fragment is not absorbed
@@ -73,7 +73,7 @@ module _ {p : Network} {z n : ℕ} {s : State} (i : Inv p s) (h : Paid p z s n) 
   }
 
   pub paid-absorb : Paid p z S′ (n + 1)
-  paid-absorb = keep h′ S′ (h′ .H) D′ T′
+  paid-absorb = paid-keep h′ S′ (h′ .H) D′ T′
       (record { ts3 = h′ .L .ts3; lk1 = λ j w y e a b. h′ .L .lk1 j w y e (still w j a) (λ o. b (rejected y j o)); lk2 = h′ .L .lk2 })
     where
       still : (w j : ℕ) → upd2 s.mark v k 1 w j ≡ 0 → s.mark w j ≡ 0

@@ -1,16 +1,16 @@
 -- An accepted Test: its sender pays for Test and Accept.
 use Rattle.protocol.specs.Prelude.{ℕ, _+_, _-_, _≤_, arith, _≡_, refl, sym, ap, _∙_, _≢_, inl, inr, by-eq}
 use Rattle.protocol.specs.Prelude.{List, _∷_, sumL, upd, upd-other, upd2, sum-upd, Msg, test, accept}
-use Rattle.protocol.specs.Prelude.{Network, Ends, end-lt, flip, other-end, State, Idle, send, pop}
+use Rattle.protocol.specs.Prelude.{Network, Edge, end-lt, flip, other-end, ProtocolState, Idle, sendOver, pop}
 use Rattle.protocol.specs.Prelude.{isT, isA, isY, pop-head, pop-sum, pop-le, snoc, snoc-sum, snoc-here, snoc-else, GL, Inf, Waits, Inv}
 use Rattle.base.specs.Log.{log2}
 use Rattle.graph.specs.Size.{level-two}
 use Rattle.protocol_budget.specs.Paid.{LT, Tries, Links, Paid, lt-else, lt-same, yes-le}
 use Rattle.protocol_budget.specs.Height.{heights-pop, heights-send}
 use Rattle.protocol_search.specs.AcceptTest as A
-use Rattle.protocol_search.specs.Answer as W
+use Rattle.protocol_search.specs.Answer.{tests-answer}
 
-module _ {p : Network} {z n : ℕ} (last : log2 p.N ≤ z) {s : State} (i : Inv p s) (h : Paid p z s n) {u v k l f : ℕ} {r : List Msg} (idle : Idle s) (ends : Ends p k u v)
+module _ {p : Network} {z n : ℕ} (last : log2 p.N ≤ z) {s : ProtocolState} (i : Inv p s) (h : Paid p z s n) {u v k l f : ℕ} {r : List Msg} (idle : Idle s) (ends : Edge p k u v)
     (awake : s.st v ≢ 0) (q : s.ch u k ≡ test l f ∷ r) (low : l ≤ s.lev v) (differ : s.id v ≢ f) where
   abbrev c₁ : ℕ → ℕ → List Msg
   c₁ = upd2 s.ch u k r
@@ -19,10 +19,10 @@ module _ {p : Network} {z n : ℕ} (last : log2 p.N ≤ z) {s : State} (i : Inv 
   c′ = snoc c₁ v k accept
 
   waits : Waits s u k
-  waits = A.waits i idle ends awake q low differ
+  waits = A.waits-accept i idle ends awake q low differ
 
   inf : Inf s u
-  inf = A.inf i idle ends awake q low differ
+  inf = A.tester-inf i idle ends awake q low differ
 
   -- of two fragments the lower level is not the last
   below : s.lev u ≢ z
@@ -31,7 +31,7 @@ module _ {p : Network} {z n : ℕ} (last : log2 p.N ≤ z) {s : State} (i : Inv 
       omega (
         arith,
         inf .1,
-        level-two p.N s.fr (s.fr u) (s.fr v) (GL s u) (GL s v) (A.apart i idle ends awake q low differ) (i.G4.g4 u (end-lt p ends)) (i.G4.g4 v (end-lt p (flip ends)))
+        level-two p.N s.fr (s.fr u) (s.fr v) (GL s u) (GL s v) (A.tester-apart i idle ends awake q low differ) (i.G4.g4 u (end-lt p ends)) (i.G4.g4 v (end-lt p (flip ends)))
             (omega (arith, inf .1, i.G2.g2 v, a)),
       )
 
@@ -50,7 +50,7 @@ module _ {p : Network} {z n : ℕ} (last : log2 p.N ≤ z) {s : State} (i : Inv 
   lt : (w j : ℕ) → LT z s.lev c′ w j ≡ LT z s.lev s.ch w j
   lt w j = by-eq u w
       (λ e. let b : s.lev w ≢ z = λ o. below (ap s.lev e ∙ o) in lt-else z s.lev c′ w j b ∙ sym (lt-else z s.lev s.ch w j b))
-      (λ d. lt-same z s.lev s.ch w j c′ (W.tests p s ends q accept refl refl w j (inl d)))
+      (λ d. lt-same z s.lev s.ch w j c′ (tests-answer p s ends q accept refl refl w j (inl d)))
 
   yes : (w j : ℕ) → sumL isY (s.ch w j) ≤ sumL isY (c′ w j)
   yes w j = by-eq v w
@@ -80,12 +80,12 @@ module _ {p : Network} {z n : ℕ} (last : log2 p.N ≤ z) {s : State} (i : Inv 
         let y : k ≡ j = sym (waits .0) ∙ ap s.te o ∙ a .0 in
         let t = other-end ends e o y in
         omega (arith, snoc-here c₁ v k accept isY, ap (λ m. sumL isY (c′ m j)) t, ap (λ m. sumL isY (c′ v m)) y))
-        (λ d. omega (arith, other w d, h.L .ts3 j w x e a b, W.tests p s ends q accept refl refl w j (inl d), yes x j));
+        (λ d. omega (arith, other w d, h.L .ts3 j w x e a b, tests-answer p s ends q accept refl refl w j (inl d), yes x j));
     lk1 = λ j w x e a b. omega (arith, h.L .lk1 j w x e a b, lt w j, lt x j);
     lk2 = λ j w x e a b. omega (arith, h.L .lk2 j w x e a (omega (arith, snoc-sum c₁ v k accept isT refl w j, pop-le s.ch u k q isT w j)), lt w j, lt x j);
   }
 
-  pub paid-accept-test : Paid p z (send (pop s u k r) v k accept) (n + 1)
+  pub paid-accept-test : Paid p z (sendOver (pop s u k r) v k accept) (n + 1)
   unfolding ts′
   paid-accept-test = record {
     tb = h.tb;

@@ -1,6 +1,6 @@
 -- THE CEILING: at most N × (5 ⌊log2 N⌋ − 2) + 2 L messages for N ≥ 2, none for N ≤ 1; so at most 5 N ⌊log2 N⌋ + 2 L.
 use Rattle.protocol.specs.Prelude.{ℕ, suc, _+_, _*_, _≤_, _<_, arith, _≡_, refl, sym, ap, _∙_, _≢_, _⊎_, inl, inr, by-eq, sum-le, sum-add, none}
-use Rattle.protocol.specs.Prelude.{Network, end-lt, flip, State, Step, setup, GL, DK, Inf, Inv, sends, half-of, changing-of, root-of, edge-some}
+use Rattle.protocol.specs.Prelude.{Network, end-lt, flip, ProtocolState, Step, setupState, GL, DK, Inf, Inv, sends, half-of, changing-of, root-of, edge-some}
 use Rattle.base.specs.Log.{log2, level-le}
 use Rattle.base.specs.Ceiling.{ceiling, within-ceiling}
 use Rattle.base.specs.Sum.{sum-const}
@@ -10,10 +10,10 @@ use Rattle.protocol_budget.specs.Height.{tb-le}
 use Rattle.protocol_budget.specs.Pick.{sum-times}
 use Rattle.protocol_budget.specs.Steps.{paid-step, lone-step}
 
-module _ {p : Network} {s : State} (i : Inv p s) where
+module _ {p : Network} {s : ProtocolState} (i : Inv p s) where
   -- no level is above the logarithm; two fragments: the lower is below it
-  pub level : (v : ℕ) → v < p.N → GL s v ≤ log2 p.N
-  level v l = level-one p.N s.fr (s.fr v) (GL s v) (i.G4.g4 v l)
+  pub level-log : (v : ℕ) → v < p.N → GL s v ≤ log2 p.N
+  level-log v l = level-one p.N s.fr (s.fr v) (GL s v) (i.G4.g4 v l)
 
   two : (x y : ℕ) → x < p.N → y < p.N → s.fr x ≢ s.fr y → GL s x ≤ GL s y → suc (GL s x) ≤ log2 p.N
   two x y a b n l = level-two p.N s.fr (s.fr x) (s.fr y) (GL s x) (GL s y) n (i.G4.g4 x a) (i.G4.g4 y b) l
@@ -69,7 +69,7 @@ module _ {p : Network} {s : State} (i : Inv p s) where
       each : (v : ℕ) → v < p.N → 5 * h.tb v + 3 ≤ 5 * log2 p.N + (h.ts v + h.rt v)
       each v l =
           let a = tb-le i (h.H) v in
-          let b = level v l in
+          let b = level-log v l in
           by-eq (h.tb v) (log2 p.N)
           (λ e.
           let g : GL s v ≡ log2 p.N = omega arith in
@@ -79,7 +79,7 @@ module _ {p : Network} {s : State} (i : Inv p s) where
 
 -- ---- setup
 
-pub paid-setup : (p : Network) (z : ℕ) → 1 ≤ z → Paid p z setup 0
+pub paid-setup : (p : Network) (z : ℕ) → 1 ≤ z → Paid p z setupState 0
 paid-setup p z l = record {
   tb = λ v. 0;
   rp = λ v. 0;
@@ -95,20 +95,20 @@ paid-setup p z l = record {
 
 -- ---- for every N: what was sent so far
 
-pub record Sent (p : Network) (s : State) (n : ℕ) : Type 0 where
+pub record Sent (p : Network) (s : ProtocolState) (n : ℕ) : Type 0 where
   pub many : 2 ≤ p.N → Paid p (log2 p.N) s n
   pub few : p.N ≤ 1 → n ≡ 0
 
-pub sent-setup : (p : Network) → Sent p setup 0
+pub sent-setup : (p : Network) → Sent p setupState 0
 sent-setup p = record { many = λ l. paid-setup p (log2 p.N) (level-le 1 p.N l); few = λ l. refl }
 
-pub sent-step : {p : Network} {s s′ : State} {n : ℕ} → Inv p s → (t : Step p s s′) → Sent p s n → Sent p s′ (n + sends t)
+pub sent-step : {p : Network} {s s′ : ProtocolState} {n : ℕ} → Inv p s → (t : Step p s s′) → Sent p s n → Sent p s′ (n + sends t)
 sent-step i t h = record { many = λ l. paid-step i t (h.many l); few = λ l. omega (arith, h.few l, lone-step l t) }
 
 -- the lower ceiling of N ≥ 2
-pub sent-low : {p : Network} {s : State} {n : ℕ} → Inv p s → Sent p s n → 2 ≤ p.N → n + 2 * p.N ≤ p.N * (5 * log2 p.N) + 2 * p.g.L
+pub sent-low : {p : Network} {s : ProtocolState} {n : ℕ} → Inv p s → Sent p s n → 2 ≤ p.N → n + 2 * p.N ≤ p.N * (5 * log2 p.N) + 2 * p.g.L
 sent-low i h l = paid-low i (h.many l)
 
 -- NO MORE THAN M
-pub sent-ceiling : {p : Network} {s : State} {n : ℕ} → Inv p s → Sent p s n → n ≤ ceiling p.N p.g.L
+pub sent-ceiling : {p : Network} {s : ProtocolState} {n : ℕ} → Inv p s → Sent p s n → n ≤ ceiling p.N p.g.L
 sent-ceiling {p} i h = within-ceiling p.N p.g.L (λ l. sent-low i h l) h.few

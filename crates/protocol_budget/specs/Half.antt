@@ -1,12 +1,12 @@
 -- A Connect is paid from rt, at waking and by procedure change-root; fragments that merge reach a level that none of their nodes has or is about to have.
 use Rattle.protocol.specs.Prelude.{ℕ, suc, _+_, _≤_, arith, _≡_, refl, sym, ap, subst, _∙_, _≢_, inl, inr, ⊎-elim, by-eq}
 use Rattle.protocol.specs.Prelude.{upd, upd-elim, upd-same, upd-other, upd2, upd2-elim, sum-upd, none, connect, initiate}
-use Rattle.protocol.specs.Prelude.{Network, Ends, end-lt, flip, other-end, ends-two, edge-some, State}
+use Rattle.protocol.specs.Prelude.{Network, Edge, end-lt, flip, other-end, ends-two, edge-some, ProtocolState}
 use Rattle.protocol.specs.Prelude.{top, top-none, In, all-in, at2, GL, DK, Inf, Inv}
 use Rattle.protocol.specs.Decisions.{HalfOk, RootOk}
 use Rattle.protocol_budget.specs.Paid.{Dues, Paid}
-use Rattle.protocol_budget.specs.Height.{keep, Neutral, heights-send, links-send, dues-decide, tb-inf, tb-le}
-use Rattle.protocol.specs.Prelude.{bulk, bulk-in, bulk-out, set-st, set-oo, halved, merged, woken, woken-same, sleep-lev, sleep-ub, no-initiate}
+use Rattle.protocol_budget.specs.Height.{paid-keep, Neutral, heights-send, links-send, dues-decide, tb-inf, tb-le}
+use Rattle.protocol.specs.Prelude.{bulk, bulk-in, bulk-out, set-st, set-oo, halved, merged, wokenUp, woken-same, sleep-lev, sleep-ub, no-initiate}
 
 -- v, whose fragment is half, needs no more for its Connect
 dues-drop : {lev fr gl due dk dn dep tb rp rt : ℕ → ℕ} (v : ℕ) → dk (fr v) ≡ 3 → Dues lev fr gl due dk dn dep tb rp rt → Dues lev fr gl due dk dn dep tb rp (upd rt v 0)
@@ -22,7 +22,7 @@ dues-drop {fr = fr} {dk = dk} {rt = rt} v d h = record {
     at w n = upd-other rt v 0 w n
 
 -- v sends Connect over k, which is not Rejected at v; no Initiate is on its way to v
-module _ {p : Network} {z n : ℕ} {s : State} (i : Inv p s) (h : Paid p z s n) {v k y : ℕ} (l : ℕ) (ends : Ends p k v y) (one : 1 ≤ h.rt v) (here : h.tb v ≡ s.lev v)
+module _ {p : Network} {z n : ℕ} {s : ProtocolState} (i : Inv p s) (h : Paid p z s n) {v k y : ℕ} (l : ℕ) (ends : Edge p k v y) (one : 1 ≤ h.rt v) (here : h.tb v ≡ s.lev v)
     (quiet : (a f x : ℕ) → ¬ In (initiate a f x) (s.ch y k)) (fair : s.mark v k ≢ 2) where
   a-connect : Neutral (connect l)
   a-connect = record { no-init = refl; no-test = refl; no-yes = refl }
@@ -66,8 +66,8 @@ module _ {p : Network} {z n : ℕ} {s : State} (i : Inv p s) (h : Paid p z s n) 
       rejected w j o = upd2-elim (λ a. a ≡ 2) s.mark v k 1 w j (λ a b. absurd (fair (at2 s.mark a b ∙ o))) (λ d. o)
 
 -- two fragments of one level become one of the next
-module _ {p : Network} {z n : ℕ} {s : State} (h : Paid p z s n) {v y : ℕ} (k : ℕ) (below : (w : ℕ) → h.tb w ≤ GL s w) (alike : GL s y ≡ GL s v) where
-  abbrev S′ : State
+module _ {p : Network} {z n : ℕ} {s : ProtocolState} (h : Paid p z s n) {v y : ℕ} (k : ℕ) (below : (w : ℕ) → h.tb w ≤ GL s w) (alike : GL s y ≡ GL s v) where
+  abbrev S′ : ProtocolState
   S′ = merged s v y k
 
   -- those of the two reach a level above
@@ -93,7 +93,7 @@ module _ {p : Network} {z n : ℕ} {s : State} (h : Paid p z s n) {v y : ℕ} (k
       (bulk-out s.fr (s.fr y) 1 (bulk s.fr (s.fr v) 1 s.due) w (t .0) ∙ bulk-out s.fr (s.fr v) 1 s.due w (λ e. d (sym e ∙ sym (t .1)))))
 
   pub paid-merge : Paid p z S′ n
-  paid-merge = keep h S′ (h.H)
+  paid-merge = paid-keep h S′ (h.H)
       (record {
         rp1 = λ w q. cases w q (λ a b c d. omega (arith, d, h.D .rp1 w (q ∙ b)));
         rt0 = λ w q o. cases w q (λ a b c d. h.D .rt0 w (q ∙ b) (⊎-elim (λ e. inl (sym c ∙ e)) (λ e. inr (sym c ∙ e)) o));
@@ -110,7 +110,7 @@ module _ {p : Network} {z n : ℕ} {s : State} (h : Paid p z s n) {v y : ℕ} (k
 
 -- ---- waking
 
-module _ {p : Network} {z n : ℕ} {s : State} (i : Inv p s) (h : Paid p z s n) {v k y : ℕ} (ends : Ends p k v y) (asleep : s.st v ≡ 0) where
+module _ {p : Network} {z n : ℕ} {s : ProtocolState} (i : Inv p s) (h : Paid p z s n) {v k y : ℕ} (ends : Edge p k v y) (asleep : s.st v ≡ 0) where
   level : GL s v ≡ 0
   level = i.G6.g6 v asleep .g6g
 
@@ -122,23 +122,23 @@ module _ {p : Network} {z n : ℕ} {s : State} (i : Inv p s) (h : Paid p z s n) 
       (h.D .rt0 v (omega (arith, here, sleep-lev i v asleep, level)) (inl (i.G6.g6 v asleep .g6d))) here
       (λ a f x m. all-in (i.G6c.g6i k y v (flip ends) asleep) m) (λ o. omega (arith, i.G6.g6m v k asleep))
 
-  pub paid-wake-half : Paid p z (halved (woken s v) v k 0) (n + 1)
+  pub paid-wake-half : Paid p z (halved (wokenUp s v) v k 0) (n + 1)
   paid-wake-half = subst (λ x. Paid p z (halved x v k 0) (n + 1)) (sym (woken-same i v asleep))
-      (let h′ = woken-half in keep h′ (halved (set-st s (upd s.st v 2)) v k 0) (h′.H) (h′.D) (h′.T) (h′.L))
+      (let h′ = woken-half in paid-keep h′ (halved (set-st s (upd s.st v 2)) v k 0) (h′.H) (h′.D) (h′.T) (h′.L))
 
-  pub paid-wake-merge : s.mark y k ≡ 1 → Paid p z (merged (halved (woken s v) v k 0) v y k) (n + 1)
+  pub paid-wake-merge : s.mark y k ≡ 1 → Paid p z (merged (halved (wokenUp s v) v k 0) v y k) (n + 1)
   unfolding woken-half paid-half
   paid-wake-merge m = subst (λ x. Paid p z (merged (halved x v k 0) v y k) (n + 1)) (sym (woken-same i v asleep))
       (let a : GL s y ≡ GL s v = omega (arith, level, o.d1g, sleep-lev i v asleep) in
       let h′ = paid-merge {s = halved s v k 0} woken-half {v = v} {y = y} k (tb-le i (h.H)) a in
-      keep h′ (merged (halved (set-st s (upd s.st v 2)) v k 0) v y k) (h′.H) (h′.D) (h′.T) (h′.L))
+      paid-keep h′ (merged (halved (set-st s (upd s.st v 2)) v k 0) v y k) (h′.H) (h′.D) (h′.T) (h′.L))
     where
       o : HalfOk p s.fr s.gl s.lev s.ub s.mark k y v
       o = i.D1.d1 k y v (flip ends) (i.D1.m2 k y v (flip ends) m (λ a. omega (arith, i.G6.g6m v k asleep)))
 
 -- ---- procedure change-root, over a best edge that is no branch
 
-module _ {p : Network} {z n : ℕ} {s : State} (i : Inv p s) (h : Paid p z s n) {v k y : ℕ} (oo : s.oo ≡ suc v) (ends : Ends p k v y) (best : s.be v ≡ k) (branch : s.mark v k ≢ 1) where
+module _ {p : Network} {z n : ℕ} {s : ProtocolState} (i : Inv p s) (h : Paid p z s n) {v k y : ℕ} (oo : s.oo ≡ suc v) (ends : Edge p k v y) (best : s.be v ≡ k) (branch : s.mark v k ≢ 1) where
   rooting : RootOk p s.fr s.gl s.lev s.ib s.ub s.bw s.mark v
   rooting = i.D3.d3 v (i.D3.f5r v oo)
 
@@ -154,7 +154,7 @@ module _ {p : Network} {z n : ℕ} {s : State} (i : Inv p s) (h : Paid p z s n) 
   outer =
       let t = i.B1.b1 v inf (rooting .d3w) in
       ⊎-elim (λ o. ((λ e. t .4 (ap s.fr (sym (o .1)) ∙ e)), omega (arith, t .5, ap s.lev (o .1))))
-      (λ o. absurd (t .4 (ap s.fr (sym (o .0))))) (ends-two ends (subst (λ x. Ends p x (t .0) (t .1)) weight (t .2)))
+      (λ o. absurd (t .4 (ap s.fr (sym (o .0))))) (ends-two ends (subst (λ x. Edge p x (t .0) (t .1)) weight (t .2)))
 
   root-sends : Paid p z (halved s v k (s.lev v)) (n + 1)
   root-sends =
@@ -163,7 +163,7 @@ module _ {p : Network} {z n : ℕ} {s : State} (i : Inv p s) (h : Paid p z s n) 
       (λ a f x m. no-initiate i k y v a f x (flip ends) inf m) (λ o. outer .0 (sym (i.M1.m1 k v y ends o .0)))
 
   pub paid-root-half : Paid p z (set-oo (halved s v k (s.lev v)) 0) (n + 1)
-  paid-root-half = let h′ = root-sends in keep h′ (set-oo (halved s v k (s.lev v)) 0) (h′.H) (h′.D) (h′.T) (h′.L)
+  paid-root-half = let h′ = root-sends in paid-keep h′ (set-oo (halved s v k (s.lev v)) 0) (h′.H) (h′.D) (h′.T) (h′.L)
 
   pub paid-root-merge : s.mark y k ≡ 1 → Paid p z (set-oo (merged (halved s v k (s.lev v)) v y k) 0) (n + 1)
   unfolding root-sends paid-half
@@ -171,4 +171,4 @@ module _ {p : Network} {z n : ℕ} {s : State} (i : Inv p s) (h : Paid p z s n) 
       let o = i.D1.d1 k y v (flip ends) (i.D1.m2 k y v (flip ends) m branch) in
       let a : GL s y ≡ GL s v = omega (arith, o.d1g, o.d1l, inf .1, outer .1) in
       let h′ = paid-merge {s = halved s v k (s.lev v)} root-sends {v = v} {y = y} k (tb-le i (h.H)) a in
-      keep h′ (set-oo (merged (halved s v k (s.lev v)) v y k) 0) (h′.H) (h′.D) (h′.T) (h′.L)
+      paid-keep h′ (set-oo (merged (halved s v k (s.lev v)) v y k) 0) (h′.H) (h′.D) (h′.T) (h′.L)

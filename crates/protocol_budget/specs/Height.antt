@@ -1,14 +1,14 @@
 -- The level that a node will have; channels after a message was taken or sent that is no Initiate.
 use Rattle.protocol.specs.Prelude.{ℕ, _≤_, _<_, arith, _≡_, refl, sym, ap, subst, _∙_, _⊎_, ⊎-elim, by-eq}
-use Rattle.protocol.specs.Prelude.{List, _∷_, upd, upd-elim, upd-same, upd-other, upd2, Msg, none, initiate, Network, Ends, flip, State, isI, isT, isY, top, In, snoc}
+use Rattle.protocol.specs.Prelude.{List, _∷_, upd, upd-elim, upd-same, upd-other, upd2, Msg, none, initiate, Network, Edge, flip, ProtocolState, isI, isT, isY, top, In, snoc}
 use Rattle.protocol.specs.Prelude.{top-none, top-in, top-max, pop-top, snoc-top, pop-sum, snoc-sum, GL, Inf, Inv, no-initiate}
 use Rattle.protocol_budget.specs.Paid.{Heights, Dues, Tries, Links, Paid, heights-same, links-same}
 
 -- ---- the same tables, in another state
 
-pub keep : {p : Network} {z n : ℕ} {s : State} (h : Paid p z s n) (s′ : State) → Heights p s′.lev s′.ub s′.ch (h.tb) → Dues s′.lev s′.fr s′.gl s′.due s′.dk s′.dn s′.dep (h.tb) (h.rp) (h.rt)
+pub paid-keep : {p : Network} {z n : ℕ} {s : ProtocolState} (h : Paid p z s n) (s′ : ProtocolState) → Heights p s′.lev s′.ub s′.ch (h.tb) → Dues s′.lev s′.fr s′.gl s′.due s′.dk s′.dn s′.dep (h.tb) (h.rp) (h.rt)
     → Tries z s′.lev s′.fr s′.gl s′.due (h.tb) (h.ts) s′.ot → Links p z s′.lev s′.te s′.mark s′.ch s′.ot (h.ts) (h.lk) → Paid p z s′ n
-keep h s′ a b c d = record { tb = h.tb; rp = h.rp; ts = h.ts; rt = h.rt; lk = h.lk; H = a; D = b; T = c; L = d; bal = h.bal }
+paid-keep h s′ a b c d = record { tb = h.tb; rp = h.rp; ts = h.ts; rt = h.rt; lk = h.lk; H = a; D = b; T = c; L = d; bal = h.bal }
 
 -- ---- a message that is no Initiate, nor Test, nor Accept
 
@@ -35,9 +35,9 @@ links-send ch v k m n l = links-same (snoc ch v k m) (snoc-sum ch v k m isT (n.n
 
 -- ---- the level that a node will have
 
-module _ {p : Network} {s : State} (i : Inv p s) {tb : ℕ → ℕ} (h : Heights p s.lev s.ub s.ch tb) where
+module _ {p : Network} {s : ProtocolState} (i : Inv p s) {tb : ℕ → ℕ} (h : Heights p s.lev s.ub s.ch tb) where
   -- with no Initiate on its way: the level that it has
-  pub tb-none : (v : ℕ) → ((k u l f x : ℕ) → Ends p k u v → s.ub v ≡ k → ¬ In (initiate l f x) (s.ch u k)) → tb v ≡ s.lev v
+  pub tb-none : (v : ℕ) → ((k u l f x : ℕ) → Edge p k u v → s.ub v ≡ k → ¬ In (initiate l f x) (s.ch u k)) → tb v ≡ s.lev v
   tb-none v n = by-eq (s.ub v) none (λ z. h.tb0 v z)
       (λ d. let e = i.U1.u1o v d in h.tb1 (s.ub v) (e .0) v (flip (e .1)) refl ∙ top-none (s.lev v) (s.ch (e .0) (s.ub v)) (λ l f x. n (s.ub v) (e .0) l f x (flip (e .1)) refl))
 
@@ -58,11 +58,8 @@ module _ {p : Network} {s : State} (i : Inv p s) {tb : ℕ → ℕ} (h : Heights
   pub tb-le : (v : ℕ) → tb v ≤ GL s v
   tb-le v = bounds v .1
 
-  pub tb-lev : (v : ℕ) → s.lev v ≤ tb v
-  tb-lev v = bounds v .0
-
   -- an Initiate on its way
-  pub tb-init : (k u v l f x : ℕ) → Ends p k u v → In (initiate l f x) (s.ch u k) → l ≤ tb v
+  pub tb-init : (k u v l f x : ℕ) → Edge p k u v → In (initiate l f x) (s.ch u k) → l ≤ tb v
   tb-init k u v l f x e n =
       omega (arith, h.tb1 k u v e (i.I1.i1 k u v l f x e n .i1u), top-max (s.lev v) (s.ch u k) (λ a b o. i.Q1.q1 k u v a b e o) l f x n)
 

@@ -2,7 +2,7 @@
 -- A node that is about to reach a level brings 5: its Initiate, its Report, a Test with its Accept, and a Change-root or Connect.
 use Rattle.protocol.specs.Prelude.{ℕ, suc, _+_, _*_, _≤_, _<_, arith, _≡_, sym, ap, _∙_, _≢_, _⊎_}
 use Rattle.protocol.specs.Prelude.{List, [], _∷_, eqb, eqb-same, eqb-diff, bit, by-eq, sum, sumL, Msg, none, connect, initiate, test, accept, reject, report, change}
-use Rattle.protocol.specs.Prelude.{Network, Ends, State, isT, isA, isY, top, Awaits}
+use Rattle.protocol.specs.Prelude.{Network, Edge, ProtocolState, isT, isA, isY, top, Awaits}
 
 -- the Tests of level z from w over k
 abbrev pub LT : ℕ → (ℕ → ℕ) → (ℕ → ℕ → List Msg) → ℕ → ℕ → ℕ
@@ -11,7 +11,7 @@ LT z lev ch w k = sumL isT (ch w k) * bit (eqb (lev w) z)
 -- tb: the level that a node has, or will have once it has served the Initiates on their way to it
 pub record Heights (p : Network) (lev ub : ℕ → ℕ) (ch : ℕ → ℕ → List Msg) (tb : ℕ → ℕ) : Type 0 where
   pub tb0 : (v : ℕ) → ub v ≡ none → tb v ≡ lev v
-  pub tb1 : (k u v : ℕ) → Ends p k u v → ub v ≡ k → tb v ≡ top (lev v) (ch u k)
+  pub tb1 : (k u v : ℕ) → Edge p k u v → ub v ≡ k → tb v ≡ top (lev v) (ch u k)
 
 -- rp: for the Report; rt: for the Change-root or Connect. Of those who have or will have their fragment's level
 pub record Dues (lev fr gl due dk dn dep tb rp rt : ℕ → ℕ) : Type 0 where
@@ -32,13 +32,13 @@ pub record Tries (z : ℕ) (lev fr gl due tb ts : ℕ → ℕ) (ot : ℕ) : Type
 -- lk: for a Test and its Reject over an edge
 pub record Links (p : Network) (z : ℕ) (lev te : ℕ → ℕ) (mark : ℕ → ℕ → ℕ) (ch : ℕ → ℕ → List Msg) (ot : ℕ) (ts lk : ℕ → ℕ) : Type 0 where
   -- a node that waits below the last level: its Test is paid, and one more for the Accept
-  pub ts3 : (k v u : ℕ) → Ends p k v u → Awaits te ot v k → lev v ≢ z → 2 ≤ ts v + sumL isT (ch v k) + 2 * sumL isY (ch u k)
+  pub ts3 : (k v u : ℕ) → Edge p k v u → Awaits te ot v k → lev v ≢ z → 2 ≤ ts v + sumL isT (ch v k) + 2 * sumL isY (ch u k)
   -- an edge that may be rejected; a Test at the last level is paid by its edge
-  pub lk1 : (k x y : ℕ) → Ends p k x y → mark x k ≡ 0 → mark y k ≢ 2 → 2 ≤ lk k + LT z lev ch x k + LT z lev ch y k
-  pub lk2 : (k x y : ℕ) → Ends p k x y → Awaits te ot x k → 1 ≤ sumL isT (ch x k) → 2 ≤ lk k + LT z lev ch x k + LT z lev ch y k
+  pub lk1 : (k x y : ℕ) → Edge p k x y → mark x k ≡ 0 → mark y k ≢ 2 → 2 ≤ lk k + LT z lev ch x k + LT z lev ch y k
+  pub lk2 : (k x y : ℕ) → Edge p k x y → Awaits te ot x k → 1 ≤ sumL isT (ch x k) → 2 ≤ lk k + LT z lev ch x k + LT z lev ch y k
 
 -- n messages have been sent
-pub record Paid (p : Network) (z : ℕ) (s : State) (n : ℕ) : Type 0 where
+pub record Paid (p : Network) (z : ℕ) (s : ProtocolState) (n : ℕ) : Type 0 where
   pub tb : ℕ → ℕ
   pub rp : ℕ → ℕ
   pub ts : ℕ → ℕ

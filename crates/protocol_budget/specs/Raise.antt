@@ -1,14 +1,14 @@
 -- An Initiate in answer to a Connect: its receiver u will have a higher level, which pays for the Initiate and for all that u may send at that level.
 use Rattle.protocol.specs.Prelude.{ℕ, _+_, _*_, _≤_, _<_, arith, _≡_, refl, sym, ap, subst, _∙_, _≢_, _⊎_, inl, inr, ⊎-elim, by-eq}
 use Rattle.protocol.specs.Prelude.{List, [], _∷_, _++_, sumL, upd, upd-elim, upd-same, upd-other, upd2, sum-upd, Msg, connect, initiate}
-use Rattle.protocol.specs.Prelude.{Network, Ends, end-lt, flip, ends-same, other-end, edge-some, State}
+use Rattle.protocol.specs.Prelude.{Network, Edge, end-lt, flip, ends-same, other-end, edge-some, ProtocolState}
 use Rattle.protocol.specs.Prelude.{isT, isY, top, top-app, pop-top, In, snoc, snoc-sum, snoc-else, snoc-elim, pop-head, pop-sum, at2, GL, GC, Jn, Inv}
 use Rattle.protocol_budget.specs.Paid.{Heights, Links, Paid, links-same}
 use Rattle.protocol_budget.specs.Height.{tb-none}
-use Rattle.protocol.specs.Prelude.{send, pop, in-sum, isC}
+use Rattle.protocol.specs.Prelude.{sendOver, pop, in-sum, isC}
 
 -- what is known of the new tables
-pub record Raised (p : Network) (z : ℕ) (s : State) (n u : ℕ) (tb : ℕ → ℕ) : Type 0 where
+pub record Raised (p : Network) (z : ℕ) (s : ProtocolState) (n u : ℕ) (tb : ℕ → ℕ) : Type 0 where
   pub paid : Paid p z s n
   pub one-rp : 1 ≤ paid.rp u
   pub two-ts : 2 ≤ paid.ts u
@@ -16,7 +16,7 @@ pub record Raised (p : Network) (z : ℕ) (s : State) (n u : ℕ) (tb : ℕ → 
   pub else-tb : (w : ℕ) → u ≢ w → paid.tb w ≡ tb w
 
 -- Connect from u at v over k is answered by Initiate (b, f, x), which is above the level that u was to have
-module _ {p : Network} {z n : ℕ} {s : State} (i : Inv p s) (h : Paid p z s n) {u v k l : ℕ} {r : List Msg} (b f x : ℕ) (ends : Ends p k u v) (q : s.ch u k ≡ connect l ∷ r)
+module _ {p : Network} {z n : ℕ} {s : ProtocolState} (i : Inv p s) (h : Paid p z s n) {u v k l : ℕ} {r : List Msg} (b f x : ℕ) (ends : Edge p k u v) (q : s.ch u k ≡ connect l ∷ r)
     (inbound : s.ub u ≡ k) (above : h.tb u < b) where
   abbrev c₁ : ℕ → ℕ → List Msg
   c₁ = upd2 s.ch u k r
@@ -46,11 +46,11 @@ module _ {p : Network} {z n : ℕ} {s : State} (i : Inv p s) (h : Paid p z s n) 
       new = snoc-elim c₁ v k m (λ a. a ≡ c₁ v k ++ (m ∷ [])) v k (λ a b. refl) (λ d. absurd (⊎-elim (λ g. g refl) (λ g. g refl) d))
 
       -- the channel to another than u
-      apart : (j y w : ℕ) → Ends p j y w → u ≢ w → (v ≢ y) ⊎ (k ≢ j)
+      apart : (j y w : ℕ) → Edge p j y w → u ≢ w → (v ≢ y) ⊎ (k ≢ j)
       apart j y w e d = by-eq k j
           (λ g. inl (λ a. d (other-end (flip ends) e a g))) (λ g. inr g)
 
-  pub raise : Raised p z (send (pop s u k r) v k m) (n + 1) u (h.tb)
+  pub raise : Raised p z (sendOver (pop s u k r) v k m) (n + 1) u (h.tb)
   raise = record {
     paid = record {
       tb = upd (h.tb) u b;
@@ -92,7 +92,7 @@ module _ {p : Network} {z n : ℕ} {s : State} (i : Inv p s) (h : Paid p z s n) 
 
 -- ---- over the core
 
-module _ {p : Network} {z n : ℕ} {s : State} (i : Inv p s) (h : Paid p z s n) {u v k l : ℕ} {r : List Msg} (ends : Ends p k u v) (q : s.ch u k ≡ connect l ∷ r) where
+module _ {p : Network} {z n : ℕ} {s : ProtocolState} (i : Inv p s) (h : Paid p z s n) {u v k l : ℕ} {r : List Msg} (ends : Edge p k u v) (q : s.ch u k ≡ connect l ∷ r) where
   head : In (connect l) (s.ch u k)
   head = pop-head s.ch u k q
 
@@ -102,7 +102,7 @@ module _ {p : Network} {z n : ℕ} {s : State} (i : Inv p s) (h : Paid p z s n) 
   counts : 1 ≤ sumL isC (s.ch u k)
   counts = in-sum isC head
 
-  pub paid-core-reply : s.mark v k ≢ 0 → Paid p z (send (pop s u k r) v k (initiate (s.lev v + 1) k 1)) (n + 1)
+  pub paid-core-reply : s.mark v k ≢ 0 → Paid p z (sendOver (pop s u k r) v k (initiate (s.lev v + 1) k 1)) (n + 1)
   paid-core-reply m =
       let o : s.mark v k ≡ 1 = omega (arith, i.W0.mark-le v k, no2) in
       let j : Jn s k u v = (branch, o) in
@@ -114,8 +114,8 @@ module _ {p : Network} {z n : ℕ} {s : State} (i : Inv p s) (h : Paid p z s n) 
       raise i h (s.lev v + 1) k 1 ends q (y.t4b) (omega (arith, e, y.t4l, c .1, c .2)) .paid
     where
       -- the channel by which Initiates come to u
-      moved : (a b d f g : ℕ) → Ends p a b u → k ≡ a → In (initiate d f g) (s.ch b a) → In (initiate d f g) (s.ch v k)
-      moved a b d f g w e o = subst (λ c. In (initiate d f g) c) (sym (at2 s.ch (ends-same ends (subst (λ c. Ends p c u b) (sym e) (flip w))) e)) o
+      moved : (a b d f g : ℕ) → Edge p a b u → k ≡ a → In (initiate d f g) (s.ch b a) → In (initiate d f g) (s.ch v k)
+      moved a b d f g w e o = subst (λ c. In (initiate d f g) c) (sym (at2 s.ch (ends-same ends (subst (λ c. Edge p c u b) (sym e) (flip w))) e)) o
 
       no2 : s.mark v k ≢ 2
       no2 e = i.M1.m1 k v u (flip ends) e .1 branch

@@ -1,14 +1,14 @@
 -- A Report is paid from rp, a Change-root from rt.
 use Rattle.protocol.specs.Prelude.{ℕ, suc, _+_, _≤_, _<_, arith, _≡_, refl, sym, ap, subst, _∙_, _≢_, _⊎_, ⊎-elim, by-eq}
 use Rattle.protocol.specs.Prelude.{upd, upd-elim, upd-same, upd-other, sum-upd, none, report, change}
-use Rattle.protocol.specs.Prelude.{Network, Ends, end-lt, State}
+use Rattle.protocol.specs.Prelude.{Network, Edge, end-lt, ProtocolState}
 use Rattle.protocol.specs.Prelude.{snoc, top, top-none, GL, Inf, Inv}
 use Rattle.protocol_budget.specs.Paid.{Heights, Paid}
 use Rattle.protocol_budget.specs.Height.{heights-send, links-send, tb-inf}
-use Rattle.protocol.specs.Prelude.{set-ub, set-oo, send, decided, reported, no-initiate}
+use Rattle.protocol.specs.Prelude.{set-ub, set-oo, sendOver, decided, reportSent, no-initiate}
 
-module _ {p : Network} {z n : ℕ} {s : State} (i : Inv p s) (h : Paid p z s n) where
-  pub paid-report-now : {v k u : ℕ} → s.op ≡ suc v → Ends p k v u → Paid p z (reported s v k) (n + 1)
+module _ {p : Network} {z n : ℕ} {s : ProtocolState} (i : Inv p s) (h : Paid p z s n) where
+  pub paid-report-now : {v k u : ℕ} → s.op ≡ suc v → Edge p k v u → Paid p z (reportSent s v k) (n + 1)
   paid-report-now {v} {k} {u} op ends =
       let f = i.F1.f1 v (i.F2.f5p v op) in
       let one = h.D .rp1 v (tb-inf i (h.H) v (f.f1i)) in
@@ -40,7 +40,7 @@ module _ {p : Network} {z n : ℕ} {s : State} (i : Inv p s) (h : Paid p z s n) 
       }
 
   -- the token goes from v to a child: those below keep theirs
-  pub paid-root-branch : {v k c : ℕ} → s.oo ≡ suc v → Ends p k v c → Paid p z (set-oo (decided (set-ub (send s v k change) (upd s.ub v k)) v 2 v k) 0) (n + 1)
+  pub paid-root-branch : {v k c : ℕ} → s.oo ≡ suc v → Edge p k v c → Paid p z (set-oo (decided (set-ub (sendOver s v k change) (upd s.ub v k)) v 2 v k) 0) (n + 1)
   paid-root-branch {v} {k} {c} oo ends =
       let t = i.D3.f5r v oo in
       let o = i.D3.d3 v t in
@@ -88,7 +88,7 @@ module _ {p : Network} {z n : ℕ} {s : State} (i : Inv p s) (h : Paid p z s n) 
       irr v w q l = omega (arith, ap s.dep q)
 
       -- the inbound edge turns, and no Initiate is on its way to v
-      turned : (v k c : ℕ) → Ends p k v c → Inf s v → Heights p s.lev (upd s.ub v k) (snoc s.ch v k change) (h.tb)
+      turned : (v k c : ℕ) → Edge p k v c → Inf s v → Heights p s.lev (upd s.ub v k) (snoc s.ch v k change) (h.tb)
       turned v k c ends f = heights-send s.ch v k change refl (record {
         tb0 = λ w. upd-elim (λ y. y ≡ none → h.tb w ≡ s.lev w) s.ub v k w
             (λ e b. ap (h.tb) (sym e) ∙ tb-inf i (h.H) v f ∙ sym (f .1) ∙ ap s.lev e) (λ d b. h.H .tb0 w b);

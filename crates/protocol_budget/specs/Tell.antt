@@ -1,20 +1,20 @@
 -- An Initiate at v: each child that gets a copy will have a higher level, which pays for the copy and for all that the child may send at that level.
 use Rattle.protocol.specs.Prelude.{ℕ, _+_, _*_, eqb, bit, cond, Bool, true, false, _≤_, _<_, arith, _≡_, refl, sym, ap, subst, _∙_, _≢_, inl, inr, ⊎-elim, by-eq, bool-cases}
 use Rattle.protocol.specs.Prelude.{List, [], _∷_, _++_, sum, sum-le, sum-add, sumL, upd-same, upd-other, upd2, Msg, initiate}
-use Rattle.protocol.specs.Prelude.{Network, Ends, end-lt, flip, ends-same, other-end, ends-two, ends-irr, edge-some, State, Idle, Mode, Place, pop, informed}
+use Rattle.protocol.specs.Prelude.{Network, Edge, end-lt, flip, ends-same, other-end, ends-two, ends-irr, edge-some, ProtocolState, Idle, Mode, Place, pop, initiated}
 use Rattle.protocol.specs.Prelude.{isT, isY, top, top-app, In, fan, fan-elim, fan-sum, fan-else, copy, copy-yes, pop-head, pop-sum, else-same, here-new, at2, no-tests, GL, DK, Waits, Inv, no-root, low-find, changing-of}
 use Rattle.protocol.specs.Traffic.{InitOk}
 use Rattle.protocol_budget.specs.Paid.{LT, Heights, Dues, Tries, Links, Paid, lt-none, lt-same}
 use Rattle.protocol_budget.specs.Height.{tb-le, tb-init}
 use Rattle.protocol_budget.specs.Pick.{sum-map, sum-times}
 
-module _ {p : Network} {z n : ℕ} {s : State} (i : Inv p s) (h : Paid p z s n) {u v k l f x a b d e : ℕ} {r : List Msg} (idle : Idle s) (ends : Ends p k u v)
+module _ {p : Network} {z n : ℕ} {s : ProtocolState} (i : Inv p s) (h : Paid p z s n) {u v k l f x a b d e : ℕ} {r : List Msg} (idle : Idle s) (ends : Edge p k u v)
     (q : s.ch u k ≡ initiate l f x ∷ r) (mode : Mode v x a b) (place : Place s u v k d e) where
-  abbrev s₁ : State
+  abbrev s₁ : ProtocolState
   s₁ = pop s u k r
 
-  abbrev S′ : State
-  S′ = informed p s₁ v k l f x a d e b
+  abbrev S′ : ProtocolState
+  S′ = initiated p s₁ v k l f x a d e b
 
   abbrev m : Msg
   m = initiate l f x
@@ -32,10 +32,10 @@ module _ {p : Network} {z n : ℕ} {s : State} (i : Inv p s) (h : Paid p z s n) 
   below : s.lev v < GL s v
   below = omega (arith, said .i1l, said .i1g)
 
-  no-test : (j y : ℕ) → Ends p j v y → sumL isT (s.ch v j) ≡ 0
+  no-test : (j y : ℕ) → Edge p j v y → sumL isT (s.ch v j) ≡ 0
   no-test j y g = no-tests (s.ch v j) (λ c w o. omega (arith, below, i.E1.e1 j v y c w g o .2 .1))
 
-  not-waiting : (j y : ℕ) → Ends p j v y → s.te v ≢ j
+  not-waiting : (j y : ℕ) → Edge p j v y → s.te v ≢ j
   not-waiting j y g o = edge-some p g (sym o ∙ i.F2.f3t v (low-find i v below))
 
   -- ---- who gets a copy: its inbound edge is one of those
@@ -44,7 +44,7 @@ module _ {p : Network} {z n : ℕ} {s : State} (i : Inv p s) (h : Paid p z s n) 
   kid w = copy s₁ v k (s.ub w)
 
   -- over such an edge: joined, and inbound for the other end, whose level is to be that of v
-  child : (j y : ℕ) → Ends p j v y → copy s₁ v k j ≡ true → (s.ub y ≡ j) × (h.tb y ≡ s.lev v)
+  child : (j y : ℕ) → Edge p j v y → copy s₁ v k j ≡ true → (s.ub y ≡ j) × (h.tb y ≡ s.lev v)
   child j y g c =
       let t = copy-yes s₁ v k j c in
       let o : s.mark y j ≡ 1 = by-eq (s.mark y j) 1 (λ w. w) (λ w. absurd (omega (arith, below, i.D1.d1 j v y g (i.D1.m2 j v y g (t .1) w) .d1l))) in
@@ -53,12 +53,12 @@ module _ {p : Network} {z n : ℕ} {s : State} (i : Inv p s) (h : Paid p z s n) 
       (up, h.H .tb1 j v y g up ∙ sym (i.T4.u2 j v y g (t .1, o) far))
 
   -- a kid is the other end of its inbound edge
-  kid-of : (w : ℕ) → kid w ≡ true → Ends p (s.ub w) v w
+  kid-of : (w : ℕ) → kid w ≡ true → Edge p (s.ub w) v w
   kid-of w c =
       let t = copy-yes s₁ v k (s.ub w) c in
       let y = i.M1.own v (s.ub w) (λ o. omega (arith, t .1)) in
       let g = i.U1.u1o w (λ o. edge-some p (y .1) o) in
-      ⊎-elim (λ o. absurd (t .0 (ap s.ub (sym (o .0)) ∙ said .i1u))) (λ o. subst (λ c. Ends p (s.ub w) v c) (o .1) (y .1)) (ends-two (y .1) (g .1))
+      ⊎-elim (λ o. absurd (t .0 (ap s.ub (sym (o .0)) ∙ said .i1u))) (λ o. subst (λ c. Edge p (s.ub w) v c) (o .1) (y .1)) (ends-two (y .1) (g .1))
 
   kid-v : kid v ≡ false
   kid-v = bool-cases (copy s₁ v k (s.ub v)) (λ c. absurd (copy-yes s₁ v k (s.ub v) c .0 (said .i1u))) (λ c. c)
@@ -102,7 +102,7 @@ module _ {p : Network} {z n : ℕ} {s : State} (i : Inv p s) (h : Paid p z s n) 
     tb1 = λ j y w g o. by-eq v w (λ t. at-v j y w g o t) (λ t. bool-cases (kid w) (λ c. at-kid j y w g o t c) (λ c. at-else j y w g o t c));
   }
     where
-      at-v : (j y w : ℕ) → Ends p j y w → s.ub w ≡ j → v ≡ w → tb′ w ≡ top (S′.lev w) (c′ y j)
+      at-v : (j y w : ℕ) → Edge p j y w → s.ub w ≡ j → v ≡ w → tb′ w ≡ top (S′.lev w) (c′ y j)
       at-v j y w g o t =
           let c : k ≡ j = sym (said .i1u) ∙ ap s.ub t ∙ o in
           let d : u ≡ y = other-end (flip ends) (flip g) t c in
@@ -112,13 +112,13 @@ module _ {p : Network} {z n : ℕ} {s : State} (i : Inv p s) (h : Paid p z s n) 
           ∙ ap (λ a. top a r) (ap S′.lev (sym t) ∙ upd-same s.lev v l))
 
       -- the channel from another than u, or over another edge
-      apart : (j y w : ℕ) → Ends p j y w → v ≢ w → c₁ y j ≡ s.ch y j
+      apart : (j y w : ℕ) → Edge p j y w → v ≢ w → c₁ y j ≡ s.ch y j
       apart j y w g t = else-same s.ch u k r y j (by-eq k j
           (λ c. inl (λ a. t (other-end ends g a c))) (λ c. inr c))
 
-      at-kid : (j y w : ℕ) → Ends p j y w → s.ub w ≡ j → v ≢ w → kid w ≡ true → tb′ w ≡ top (S′.lev w) (c′ y j)
+      at-kid : (j y w : ℕ) → Edge p j y w → s.ub w ≡ j → v ≢ w → kid w ≡ true → tb′ w ≡ top (S′.lev w) (c′ y j)
       at-kid j y w g o t c =
-          let e = subst (λ a. Ends p a v w) o (kid-of w c) in
+          let e = subst (λ a. Edge p a v w) o (kid-of w c) in
           let d : v ≡ y = ends-same (flip e) (flip g) in
           tb-yes w c ∙ sym (ap (top (S′.lev w)) (sent j y d (on j w o c)) ∙ top-app (S′.lev w) l f x (c₁ y j))
         where
@@ -129,7 +129,7 @@ module _ {p : Network} {z n : ℕ} {s : State} (i : Inv p s) (h : Paid p z s n) 
           sent j y d c = fan-elim (λ a. a ≡ c₁ y j ++ (m ∷ [])) c₁ v (copy s₁ v k) m y j (λ a b. refl)
               (λ n. absurd (⊎-elim (λ a. a d) (λ a. let z : _≡_ {A = ℕ} 1 0 = ap bit (sym c ∙ a) in omega arith) n))
 
-      at-else : (j y w : ℕ) → Ends p j y w → s.ub w ≡ j → v ≢ w → kid w ≡ false → tb′ w ≡ top (S′.lev w) (c′ y j)
+      at-else : (j y w : ℕ) → Edge p j y w → s.ub w ≡ j → v ≢ w → kid w ≡ false → tb′ w ≡ top (S′.lev w) (c′ y j)
       at-else j y w g o t c =
           tb-no w c ∙ h.H .tb1 j y w g o
           ∙ sym (ap (top (S′.lev w)) (fan-else c₁ v (copy s₁ v k) m y j (inr (on j w o c)) ∙ apart j y w g t) ∙ ap (λ a. top a (s.ch y j)) (upd-other s.lev v l w t))
@@ -193,14 +193,14 @@ module _ {p : Network} {z n : ℕ} {s : State} (i : Inv p s) (h : Paid p z s n) 
           let t : h.tb v ≡ GL s v = omega (arith, o, tb-le i (h.H) v, tb-init i (h.H) k u v l f x ends head) in
           omega (arith, h.T .ts1 v t below (sym (said .i1d o) ∙ y), ap (h.ts) g)
 
-  lt : (w j y : ℕ) → Ends p j w y → LT z S′.lev c′ w j ≡ LT z s.lev s.ch w j
+  lt : (w j y : ℕ) → Edge p j w y → LT z S′.lev c′ w j ≡ LT z s.lev s.ch w j
   lt w j y g = by-eq v w
-      (λ t. let o : sumL isT (s.ch w j) ≡ 0 = ap (λ c. sumL isT (s.ch c j)) (sym t) ∙ no-test j y (subst (λ c. Ends p j c y) (sym t) g) in
+      (λ t. let o : sumL isT (s.ch w j) ≡ 0 = ap (λ c. sumL isT (s.ch c j)) (sym t) ∙ no-test j y (subst (λ c. Edge p j c y) (sym t) g) in
       lt-none z S′.lev c′ w j (tests w j ∙ o) ∙ sym (lt-none z s.lev s.ch w j o))
       (λ t. ap (λ c. sumL isT (c′ w j) * bit (eqb c z)) (upd-other s.lev v l w t) ∙ lt-same z s.lev s.ch w j c′ (tests w j))
 
-  waited : (j w y : ℕ) → Ends p j w y → Waits S′ w j → (v ≢ w) × Waits s w j
-  waited j w y g t = ((λ o. not-waiting j y (subst (λ c. Ends p j c y) (sym o) g) (ap s.te o ∙ t .0)), (t .0, λ o. omega (arith, idle .0)))
+  waited : (j w y : ℕ) → Edge p j w y → Waits S′ w j → (v ≢ w) × Waits s w j
+  waited j w y g t = ((λ o. not-waiting j y (subst (λ c. Edge p j c y) (sym o) g) (ap s.te o ∙ t .0)), (t .0, λ o. omega (arith, idle .0)))
 
   L′ : Links p z S′.lev s.te s.mark c′ b ts′ (h.lk)
   unfolding ts′

@@ -1,31 +1,31 @@
 -- Procedure test sends a Test: v pays, or at the last level the edge.
 use Rattle.protocol.specs.Prelude.{ℕ, suc, _+_, _-_, _≤_, arith, _≡_, refl, sym, ap, subst, _∙_, _≢_, _⊎_, inl, inr, ⊎-elim, by-eq}
 use Rattle.protocol.specs.Prelude.{List, sumL, upd, upd-same, upd-other, sum-upd, Msg, test}
-use Rattle.protocol.specs.Prelude.{Network, Ends, end-lt, joins-lt, flip, other-end, same-edge, ends-irr, State, FirstBasic}
+use Rattle.protocol.specs.Prelude.{Network, Edge, end-lt, joins-lt, flip, other-end, same-edge, ends-irr, ProtocolState, FirstBasic}
 use Rattle.protocol.specs.Prelude.{isT, isY, snoc, snoc-sum, snoc-here, snoc-else, GL, Inf, Waits, Inv}
 use Rattle.protocol_budget.specs.Paid.{LT, Paid, lt-last, lt-else, lt-none, lt-le, lt-same}
 use Rattle.protocol_budget.specs.Height.{heights-send}
-use Rattle.protocol.specs.Prelude.{set-te, set-ot, send}
-use Rattle.protocol_search.specs.TestNext as N
+use Rattle.protocol.specs.Prelude.{set-te, set-ot, sendOver}
+use Rattle.protocol_search.specs.TestNext.{find, own-test, their-test, waits-next}
 
-module _ {p : Network} {z n : ℕ} {s : State} (i : Inv p s) (h : Paid p z s n) {v k u : ℕ} (ot : s.ot ≡ suc v) (op : s.op ≡ 0) (oo : s.oo ≡ 0) (ends : Ends p k v u) (first : FirstBasic p s v k) where
+module _ {p : Network} {z n : ℕ} {s : ProtocolState} (i : Inv p s) (h : Paid p z s n) {v k u : ℕ} (ot : s.ot ≡ suc v) (op : s.op ≡ 0) (oo : s.oo ≡ 0) (ends : Edge p k v u) (first : FirstBasic p s v k) where
   abbrev m : Msg
   m = test (s.lev v) (s.id v)
 
   abbrev c′ : ℕ → ℕ → List Msg
   c′ = snoc s.ch v k m
 
-  abbrev S′ : State
-  S′ = set-ot (set-te (send s v k m) (upd s.te v k)) 0
+  abbrev S′ : ProtocolState
+  S′ = set-ot (set-te (sendOver s v k m) (upd s.te v k)) 0
 
   inf : Inf s v
-  inf = i.F1.f1 v (N.find i ot op oo ends first) .f1i
+  inf = i.F1.f1 v (find i ot op oo ends first) .f1i
 
   own : sumL isT (s.ch v k) ≡ 0
-  own = N.own-test i ot op oo ends first
+  own = own-test i ot op oo ends first
 
   waits {κ} : {C : Type κ} (j w : ℕ) → Waits S′ w j → (v ≡ w → k ≡ j → C) → (v ≢ w → Waits s w j → C) → C
-  waits j w a y d = N.waits i ot op oo ends first j w a y d
+  waits j w a y d = waits-next i ot op oo ends first j w a y d
 
   -- the other end is not Rejected
   fair : s.mark u k ≢ 2
@@ -107,7 +107,7 @@ module _ {p : Network} {z n : ℕ} {s : State} (i : Inv p s) (h : Paid p z s n) 
       theirs : LT z s.lev s.ch u k ≤ 1
       theirs = by-eq (s.te u) k
           (λ e. omega (arith, lt-le z s.lev s.ch u k, i.E1.e2c k u v (flip ends) (e, λ o. v≢u (omega arith)) (inr ot)))
-          (λ e. omega (arith, lt-le z s.lev s.ch u k, N.their-test i ot op oo ends first e))
+          (λ e. omega (arith, lt-le z s.lev s.ch u k, their-test i ot op oo ends first e))
         where
           v≢u : v ≢ u
           v≢u = ends-irr p ends
@@ -118,7 +118,7 @@ module _ {p : Network} {z n : ℕ} {s : State} (i : Inv p s) (h : Paid p z s n) 
       full : 2 ≤ upd (h.lk) k (h.lk k - 1) k + LT z s.lev c′ v k + LT z s.lev c′ u k
       full = omega (arith, upd-same (h.lk) k (h.lk k - 1), have, some, lt-none z s.lev s.ch v k own, lt-last z s.lev c′ v k b, sent, lt u k (inl (ends-irr p ends)))
 
-      on-k : (j w x : ℕ) → Ends p j w x → k ≡ j → 2 ≤ upd (h.lk) k (h.lk k - 1) j + LT z s.lev c′ w j + LT z s.lev c′ x j
+      on-k : (j w x : ℕ) → Edge p j w x → k ≡ j → 2 ≤ upd (h.lk) k (h.lk k - 1) j + LT z s.lev c′ w j + LT z s.lev c′ x j
       on-k j w x e y = subst (λ d. 2 ≤ upd (h.lk) k (h.lk k - 1) d + LT z s.lev c′ w d + LT z s.lev c′ x d) y
           (⊎-elim
           (λ o. subst (λ d. 2 ≤ upd (h.lk) k (h.lk k - 1) k + LT z s.lev c′ w k + LT z s.lev c′ d k) (o .1)

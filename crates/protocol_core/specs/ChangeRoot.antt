@@ -1,13 +1,13 @@
 -- Change-root from u at v over k: v is to execute procedure change-root.
 use Rattle.protocol.specs.Prelude.{ℕ, arith, _≡_, refl, sym, ap, subst, _∙_, _≢_}
-use Rattle.protocol.specs.Prelude.{List, _∷_, upd2, sumL, Msg, change, Network, Ends, State, Idle, pop, rooted}
+use Rattle.protocol.specs.Prelude.{List, _∷_, upd2, sumL, Msg, change, Network, Edge, ProtocolState, Idle, pop, rooted}
 use Rattle.protocol.specs.Prelude.{isR, isK, In, at2, here-new, pop-head, pop-in, pop-le, none-in, no-reports, rest-none}
 use Rattle.protocol.specs.Prelude.{DK, Changing, Inv, decided-find, decided-report}
 use Rattle.protocol.specs.Decisions.{ChangingOk}
 use Rattle.protocol_core.specs.Late.{late-change}
-use Rattle.protocol_core.specs.Rooted.{Ready, inv-rooted}
+use Rattle.protocol_core.specs.Rooted.{RootReady, inv-rooted}
 
-module _ {p : Network} {s : State} (i : Inv p s) {u v k : ℕ} {r : List Msg} (idle : Idle s) (ends : Ends p k u v) (q : s.ch u k ≡ change ∷ r) where
+module _ {p : Network} {s : ProtocolState} (i : Inv p s) {u v k : ℕ} {r : List Msg} (idle : Idle s) (ends : Edge p k u v) (q : s.ch u k ≡ change ∷ r) where
   -- it is the fragment's decision
   pub changing : Changing s u k
   changing = i.Dc.k1 k u v ends (pop-head s.ch u k q)
@@ -15,7 +15,7 @@ module _ {p : Network} {s : State} (i : Inv p s) {u v k : ℕ} {r : List Msg} (i
   pub changing-ok : ChangingOk p s.fr s.gl s.gc s.lev s.ib s.ub s.bw s.mark k u v
   changing-ok = i.D2.d2 k u v ends changing
 
-  pub inside : s.fr u ≡ s.fr v
+  inside : s.fr u ≡ s.fr v
   inside = i.M1.m3 k u v ends (changing-ok .d2j)
 
   pub dk : DK s v ≡ 2
@@ -30,14 +30,14 @@ module _ {p : Network} {s : State} (i : Inv p s) {u v k : ℕ} {r : List Msg} (i
       changing-ok .d2g (ap s.gc inside ∙ sym (i.G2.g2i v (changing-ok .d2x)) ∙ t .1))
 
   -- it was the only Change-root of the fragment
-  no-token : (j x y : ℕ) → Ends p j x y → s.fr x ≡ s.fr v → ¬ In change (upd2 s.ch u k r x j)
+  no-token : (j x y : ℕ) → Edge p j x y → s.fr x ≡ s.fr v → ¬ In change (upd2 s.ch u k r x j)
   no-token j x y e f o =
       let t = i.Dc.k1 j x y e (pop-in s.ch u k q x j o) in
       let a : x ≡ u = sym (t .1) ∙ ap s.dn (f ∙ sym inside) ∙ changing .1 in
       let b : j ≡ k = sym (t .2) ∙ ap s.de (f ∙ sym inside) ∙ changing .2 in
       omega (arith, none-in isK (rest-none i isK ends q (λ n z. z)) (subst (λ l. In change l) (at2 (upd2 s.ch u k r) a b ∙ here-new s.ch u k r) o))
 
-  ready : Ready p s u v k r
+  ready : RootReady p s u v k r
   ready = record {
     ends = ends;
     inside = inside;

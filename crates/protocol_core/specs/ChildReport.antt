@@ -2,36 +2,36 @@
 use Rattle.protocol.specs.Prelude.{ℕ, suc, _-_, _≤_, arith, _≡_, refl, sym, ap, subst, _∙_, _≢_, _⊎_, inl, inr, ⊎-elim, by-eq}
 use Rattle.protocol.specs.Prelude.{List, _∷_, upd, upd-elim, upd-other, upd2, upd2-elim, sumL, sum, sum-row, row-else}
 use Rattle.protocol.specs.Prelude.{Msg, none, report}
-use Rattle.protocol.specs.Prelude.{Network, Ends, key, rank, joins-lt, flip, ends-two, other-end}
-use Rattle.protocol.specs.Prelude.{State, Idle, Better, pop, bested, set-ch, set-fc, set-owe, set-op}
+use Rattle.protocol.specs.Prelude.{Network, Edge, key, rank, joins-lt, flip, other-end}
+use Rattle.protocol.specs.Prelude.{ProtocolState, Idle, Better, pop, bested, set-ch, set-fc, set-owe, set-op}
 use Rattle.protocol.specs.Prelude.{isR, kinds, In, else-same, pop-in, in-pop, pop-le, pop-all}
-use Rattle.protocol.specs.Prelude.{GL, GC, Inf, Jn, Outst, Live, Covered, Child, Inv, no-root, reports-same, reports-best, take-alike, outst-ch, live-ch, last}
-use Rattle.protocol.specs.Search.{Pending, Counts}
+use Rattle.protocol.specs.Prelude.{GL, GC, Inf, Jn, Outst, Counting, Covered, Child, Inv, no-root, reports-same, reports-best, take-alike, outst-ch, counting-ch, last-case}
+use Rattle.protocol.specs.Search.{Pending, FindCounts}
 use Rattle.protocol.specs.Traffic.{Tokens, Reports, Owing, Bests}
 use Rattle.protocol.specs.Weigh as W
-use Rattle.protocol.specs.Weigh.{Leaves}
-use Rattle.protocol_core.specs.Late.{Kept, late-report, kept}
+use Rattle.protocol.specs.Weigh.{LeavesFragment}
+use Rattle.protocol_core.specs.Late.{Kept, late-report, late-kept}
 use Rattle.protocol_core.specs.Core as C
 
-module _ {p : Network} {s : State} (i : Inv p s) {u v k w b e : ℕ} {r : List Msg} (idle : Idle s) (ends : Ends p k u v) (q : s.ch u k ≡ report w ∷ r)
+module _ {p : Network} {s : ProtocolState} (i : Inv p s) {u v k w b e : ℕ} {r : List Msg} (idle : Idle s) (ends : Edge p k u v) (q : s.ch u k ≡ report w ∷ r)
     (away : s.ib v ≢ k) (better : Better p s v w k b e) where
-  abbrev S′ : State
+  abbrev S′ : ProtocolState
   S′ = set-op (set-owe (set-fc (bested (pop s u k r) v b e) (upd s.fc v (s.fc v - 1))) (upd2 s.owe v k 0)) (suc v)
 
   abbrev c′ : ℕ → ℕ → List Msg
   c′ = upd2 s.ch u k r
 
   others : Kept p S′
-  others = kept i q (late-report w) S′.bw S′.be S′.fc s.halt s.dk s.dn S′.owe (suc v) s.oo
+  others = late-kept i q (late-report w) S′.bw S′.be S′.fc s.halt s.dk s.dn S′.owe (suc v) s.oo
 
   -- it is a child's, and is counted
-  pub child : Child s u v k w
+  child : Child s u v k w
   child = C.child i ends q away
 
   pub owed : s.owe v k ≡ 1
   owed = C.owed i ends q away
 
-  pub inf-u : Inf s u
+  inf-u : Inf s u
   inf-u = child .0
 
   pub found-u : s.st u ≡ 2
@@ -40,38 +40,28 @@ module _ {p : Network} {s : State} (i : Inv p s) {u v k w b e : ℕ} {r : List M
   pub best-u : s.bw u ≡ w
   best-u = child .4
 
-  pub inf-v : Inf s v
-  inf-v = child .5
-
-  pub find : s.st v ≡ 1
+  find : s.st v ≡ 1
   find = child .6
 
-  pub joined : Jn s k v u
-  joined = let t = C.joined i ends q in (t .1, t .0)
+  joined : Jn s k v u
+  joined = let t = C.report-joined i ends q in (t .1, t .0)
 
   -- ---- v's best
 
   -- w leaves the fragment, from u's side, which is v's
-  pub leaves : w ≢ none → Leaves p s v w
+  leaves : w ≢ none → LeavesFragment p s v w
   leaves n =
       let t = i.B1.b1 u inf-u (λ z. n (sym best-u ∙ z)) in
-      let f = C.inside i ends q in (
+      let f = C.report-inside i ends q in (
         t .0,
         t .1,
-        subst (λ a. Ends p a (t .0) (t .1)) best-u (t .2),
+        subst (λ a. Edge p a (t .0) (t .1)) best-u (t .2),
         t .3 ∙ f,
         λ z. t .4 (z ∙ sym f),
         omega (arith, t .5, ap s.gl f),
         t .6,
         t .7 ∙ i.T1.t1p k u v ends inf-u (child .1) (child .2) .2,
       )
-
-  -- so it is not k, which is joined
-  k-inner : w ≢ none → k ≢ w
-  k-inner n z =
-      let t = leaves n in
-      let f = C.inside i ends q in
-      ⊎-elim (λ o. t .4 (ap s.fr (sym (o .1)))) (λ o. t .4 (ap s.fr (sym (o .0)) ∙ f)) (ends-two ends (subst (λ j. Ends p j (t .0) (t .1)) (sym z) (t .2)))
 
   F2′ : Pending s.st s.te S′.fc s.ot (suc v)
   F2′ = record {
@@ -84,13 +74,13 @@ module _ {p : Network} {s : State} (i : Inv p s) {u v k w b e : ℕ} {r : List M
     f5p = λ x h. subst (λ a. s.st a ≡ 1) (omega arith) find;
   }
 
-  F4′ : Counts p S′.fc S′.owe
+  F4′ : FindCounts p S′.fc S′.owe
   F4′ = record {
     f4 = λ x. upd-elim (λ a. a ≡ sum p.g.L (S′.owe x)) s.fc v (s.fc v - 1) x
         (λ z. subst (λ a. s.fc v - 1 ≡ sum p.g.L (S′.owe a)) z (omega (arith, sum-row p.g.L v k 0 s.owe (joins-lt ends), i.F4.f4 v, owed)))
         (λ n. subst (λ a. s.fc x ≡ sum p.g.L a) (sym (row-else v k 0 s.owe x n)) (i.F4.f4 x));
     f4l = λ x j. upd2-elim (λ a. a ≤ 1) s.owe v k 0 x j (λ a c. omega arith) (λ n. i.F4.f4l x j);
-    f4o = λ x j. upd2-elim (λ a. a ≢ 0 → (c : ℕ) × Ends p j x c) s.owe v k 0 x j (λ a c n. absurd (n refl)) (λ d n. i.F4.f4o x j n);
+    f4o = λ x j. upd2-elim (λ a. a ≢ 0 → (c : ℕ) × Edge p j x c) s.owe v k 0 x j (λ a c n. absurd (n refl)) (λ d n. i.F4.f4o x j n);
   }
 
   Dc′ : Tokens p S′
@@ -114,11 +104,11 @@ module _ {p : Network} {s : State} (i : Inv p s) {u v k w b e : ℕ} {r : List M
   }
     where
       -- the other end of the core is in the fragment
-      core-other : (j x y : ℕ) → Ends p j x y → GC s x ≡ j → 1 ≤ GL s x → GC s y ≡ j
-      core-other j x y f g l = ap s.gc (i.G5.g5 x y x l (subst (λ a. Ends p a y x) (sym g) (flip f)) .1) ∙ g
+      core-other : (j x y : ℕ) → Edge p j x y → GC s x ≡ j → 1 ≤ GL s x → GC s y ≡ j
+      core-other j x y f g l = ap s.gc (i.G5.g5 x y x l (subst (λ a. Edge p a y x) (sym g) (flip f)) .1) ∙ g
 
       -- k is no core
-      core-off : (j x y : ℕ) → Ends p j x y → GC s x ≡ j → c′ x j ≡ s.ch x j
+      core-off : (j x y : ℕ) → Edge p j x y → GC s x ≡ j → c′ x j ≡ s.ch x j
       core-off j x y f g = else-same s.ch u k r x j (by-eq k j (λ z. inl (λ a. child .2 (ap (λ a. GC s a) a ∙ g ∙ sym z))) (λ n. inr n))
 
   R1′ : Reports p S′
@@ -144,7 +134,7 @@ module _ {p : Network} {s : State} (i : Inv p s) {u v k w b e : ℕ} {r : List M
       outst-from : (c j : ℕ) → Outst S′ c j → Outst s c j
       outst-from c j = outst-ch S′ s.ch c j (λ l. omega (arith, pop-le s.ch u k q isR c j))
 
-      outst-to : (j x c : ℕ) → Ends p j x c → (v ≢ x) ⊎ (k ≢ j) → Outst s c j → Outst S′ c j
+      outst-to : (j x c : ℕ) → Edge p j x c → (v ≢ x) ⊎ (k ≢ j) → Outst s c j → Outst S′ c j
       outst-to j x c f d o =
           let y : c′ c j ≡ s.ch c j = else-same s.ch u k r c j (by-eq k j
           (λ z. inl (λ a. ⊎-elim (λ n. n (other-end ends (flip f) a z)) (λ n. n z) d)) (λ n. inr n)) in
@@ -154,16 +144,16 @@ module _ {p : Network} {s : State} (i : Inv p s) {u v k w b e : ℕ} {r : List M
   B2′ = record {
     b1e = W.best-edge i (idle .2) find (flip ends) better leaves c′ (pop-le s.ch u k q isR)
         (λ n d. (u, flip ends, joined, away, inf-u, child .1, W.bw-found i (idle .2) find (flip ends) better leaves u found-u ∙ best-u, found-u, C.silent i ends q));
-    b2 = λ j x y f m d g. last (cover x (rank p j)) (i.B2.b2 j x y f m d g);
+    b2 = λ j x y f m d g. last-case (cover x (rank p j)) (i.B2.b2 j x y f m d g);
   }
     where
-      live : (x : ℕ) → u ≢ x → Live s x → Live S′ x
-      live x n = live-ch s c′ x (λ l. inr (inr (subst (λ a. 1 ≤ sumL isR a) (sym (else-same s.ch u k r x (s.ib x) (inl n))) l)))
+      live : (x : ℕ) → u ≢ x → Counting s x → Counting S′ x
+      live x n = counting-ch s c′ x (λ l. inr (inr (subst (λ a. 1 ≤ sumL isR a) (sym (else-same s.ch u k r x (s.ib x) (inl n))) l)))
 
       -- the best of u, whose Report is gone, is weighed
       cover : (x n : ℕ) → Covered p s x n → Covered p S′ x n
       cover x n t = W.cover i (idle .2) find (flip ends) better leaves c′ (pop-le s.ch u k q isR) x n t (λ d. by-eq u (t .0)
-          (λ z. inl (sym (C.inside i ends q) ∙ ap s.fr z ∙ t .1, omega (arith, W.best-w i (idle .2) find (flip ends) better leaves, ap (key p) (sym (ap s.bw z) ∙ best-u))))
+          (λ z. inl (sym (C.report-inside i ends q) ∙ ap s.fr z ∙ t .1, omega (arith, W.best-w i (idle .2) find (flip ends) better leaves, ap (key p) (sym (ap s.bw z) ∙ best-u))))
           (λ a. inr (live (t .0) a (t .4))))
 
   pub inv-child-report : Inv p S′

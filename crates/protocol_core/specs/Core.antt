@@ -2,22 +2,22 @@
 -- if v is not Find, the fragment is quiet, and only the best weights of the two ends still count.
 use Rattle.protocol.specs.Prelude.{ℕ, _≤_, _<_, arith, _≡_, refl, sym, ap, subst, _∙_, _≢_, _⊎_, inl, inr, ⊎-elim, by-eq}
 use Rattle.protocol.specs.Prelude.{List, _∷_, sumL, Msg, none, initiate, report}
-use Rattle.protocol.specs.Prelude.{Network, Ends, key, rank, flip, same-edge, State, Idle, key-none, key-edge, rank-lt}
+use Rattle.protocol.specs.Prelude.{Network, Edge, key, rank, flip, same-edge, ProtocolState, Idle, key-none, key-edge, rank-lt}
 use Rattle.protocol.specs.Prelude.{isCI, isR, kinds, In, in-sum, le-sum, joins-lt, Bef, bef-before, in-cons, heads, upd2, at2, here-new, pop-head, pop-in, none-in, no-calls, some-report, set-dk}
-use Rattle.protocol.specs.Prelude.{GL, GC, DK, Inf, Jn, Live, Child, CoreEnds, Spent, Inv, inf-found, te-find, up-other, no-find, no-due, rest-none, no-connect, no-initiate}
+use Rattle.protocol.specs.Prelude.{GL, GC, DK, Inf, Jn, Counting, Child, CoreEnds, Spent, Inv, inf-found, te-find, up-other, no-find, no-due, rest-none, no-connect, no-initiate}
 
-module _ {p : Network} {s : State} (i : Inv p s) {u v k w : ℕ} {r : List Msg} (ends : Ends p k u v) (q : s.ch u k ≡ report w ∷ r) where
-  pub head : In (report w) (s.ch u k)
-  head = pop-head s.ch u k q
+module _ {p : Network} {s : ProtocolState} (i : Inv p s) {u v k w : ℕ} {r : List Msg} (ends : Edge p k u v) (q : s.ch u k ≡ report w ∷ r) where
+  pub report-in : In (report w) (s.ch u k)
+  report-in = pop-head s.ch u k q
 
-  pub joined : Jn s k u v
-  joined = i.R1.r1j k u v w ends head
+  pub report-joined : Jn s k u v
+  report-joined = i.R1.r1j k u v w ends report-in
 
-  pub inside : s.fr u ≡ s.fr v
-  inside = i.M1.m3 k u v ends joined
+  pub report-inside : s.fr u ≡ s.fr v
+  report-inside = i.M1.m3 k u v ends report-joined
 
   -- the receiver of a core end's Report is informed: its Initiate would stand ahead
-  pub core-inf : CoreEnds s u v k w → Inf s v
+  core-inf : CoreEnds s u v k w → Inf s v
   core-inf c = ⊎-elim (λ t. t .0) (λ t. absurd (behind (t .1))) (c .6)
     where
       behind : ¬ In (initiate (GL s v) k 1) (s.ch u k)
@@ -31,19 +31,19 @@ module _ {p : Network} {s : State} (i : Inv p s) {u v k w : ℕ} {r : List Msg} 
 
   -- v is not Find: it is no child's
   pub core-or-spent : s.st v ≢ 1 → CoreEnds s u v k w ⊎ Spent p s u v k w
-  core-or-spent n = ⊎-elim (λ t. absurd (n (t .6))) (λ t. t) (i.R1.r1 k u v w ends head)
+  core-or-spent n = ⊎-elim (λ t. absurd (n (t .6))) (λ t. t) (i.R1.r1 k u v w ends report-in)
 
   -- over another edge than v's in-branch it is a child's, and is counted
   module _ (away : s.ib v ≢ k) where
     pub child : Child s u v k w
     child = ⊎-elim (λ t. t)
         (⊎-elim
-        (λ t. absurd (away (i.T1.t1e k v u (flip ends) (core-inf t) (sym (ap s.gc inside) ∙ t .0))))
+        (λ t. absurd (away (i.T1.t1e k v u (flip ends) (core-inf t) (sym (ap s.gc report-inside) ∙ t .0))))
         (λ t. absurd (away (t .0))))
-        (i.R1.r1 k u v w ends head)
+        (i.R1.r1 k u v w ends report-in)
 
     pub owed : s.owe v k ≡ 1
-    owed = i.F4c.f4n k v u (flip ends) (child .5) (joined .1, joined .0) away (inl (child .0, inr (in-sum isR head)))
+    owed = i.F4c.f4n k v u (flip ends) (child .5) (report-joined .1, report-joined .0) away (inl (child .0, inr (in-sum isR report-in)))
 
     pub count : 1 ≤ s.fc v
     count = omega (arith, owed, i.F4.f4 v, le-sum p.g.L k (s.owe v) (joins-lt ends))
@@ -51,7 +51,7 @@ module _ {p : Network} {s : State} (i : Inv p s) {u v k w : ℕ} {r : List Msg} 
   -- a weight that is no edge is the latest
   pub weight-le : key p w ≤ p.g.L
   weight-le = by-eq w none (λ z. omega (arith, ap (key p) z, key-none p))
-      (λ n. let l = i.R1.r1r k u v w ends head n in omega (arith, key-edge p w l, rank-lt p w l))
+      (λ n. let l = i.R1.r1r k u v w ends report-in n in omega (arith, key-edge p w l, rank-lt p w l))
 
   module _ (idle : Idle s) (found : s.st v ≢ 1) (core : CoreEnds s u v k w) where
     pub inf-u : Inf s u
@@ -73,10 +73,10 @@ module _ {p : Network} {s : State} (i : Inv p s) {u v k w : ℕ} {r : List Msg} 
     core-u = core .0
 
     pub core-v : GC s v ≡ k
-    core-v = sym (ap s.gc inside) ∙ core-u
+    core-v = sym (ap s.gc report-inside) ∙ core-u
 
     pub undec : DK s v ≡ 0
-    undec = sym (ap s.dk inside) ∙ core .1
+    undec = sym (ap s.dk report-inside) ∙ core .1
 
     pub ib-u : s.ib u ≡ k
     ib-u = i.T1.t1e k u v ends inf-u core-u
@@ -98,7 +98,7 @@ module _ {p : Network} {s : State} (i : Inv p s) {u v k w : ℕ} {r : List Msg} 
     none-due x e = let n = no-due i (flip ends) core-v inf-v inf-u found (λ z. omega (arith, found-u)) x e in omega (arith, i.W0.due-le x)
 
     -- a Report within the fragment: between the two ends, or spent
-    pub report-core : (j a b n : ℕ) → Ends p j a b → s.fr a ≡ s.fr v → In (report n) (s.ch a j)
+    report-core : (j a b n : ℕ) → Edge p j a b → s.fr a ≡ s.fr v → In (report n) (s.ch a j)
         → ((((a ≡ u) × (b ≡ v)) ⊎ ((a ≡ v) × (b ≡ u))) × (j ≡ k) × (s.bw a ≡ n)) ⊎ Spent p s a b j n
     report-core j a b n e f o = ⊎-elim
         (λ t. absurd (none-find b (sym (i.M1.m3 j a b e (i.R1.r1j j a b n e o)) ∙ f) (t .6)))
@@ -108,7 +108,7 @@ module _ {p : Network} {s : State} (i : Inv p s) {u v k w : ℕ} {r : List Msg} 
         (i.R1.r1 j a b n e o)
 
     -- once this one is taken: v's own, or spent
-    pub report-left : (j a b n : ℕ) → Ends p j a b → s.fr a ≡ s.fr v → In (report n) (upd2 s.ch u k r a j)
+    pub report-left : (j a b n : ℕ) → Edge p j a b → s.fr a ≡ s.fr v → In (report n) (upd2 s.ch u k r a j)
         → ((a ≡ v) × (b ≡ u) × (j ≡ k) × (s.bw v ≡ n)) ⊎ Spent p s a b j n
     report-left j a b n e f o = ⊎-elim
         (λ t. ⊎-elim
@@ -123,14 +123,14 @@ module _ {p : Network} {s : State} (i : Inv p s) {u v k w : ℕ} {r : List Msg} 
     own-spent dk n l = (ib-u, i.G2.g2i u inf-u ∙ core-u, ub-u, found-u, λ m b. none-in isCI calls (bef-before b), l)
       where
         calls : sumL isCI (s.ch v k) ≡ 0
-        calls = no-calls (s.ch v k) (λ l. no-connect i k v u l (flip ends) (joined .1, joined .0) inf-v) (λ l f x. no-initiate i k v u l f x (flip ends) inf-u)
+        calls = no-calls (s.ch v k) (λ l. no-connect i k v u l (flip ends) (report-joined .1, report-joined .0) inf-v) (λ l f x. no-initiate i k v u l f x (flip ends) inf-u)
 
     -- whose best weight counts is a core end
-    live-end : (x : ℕ) → s.fr x ≡ s.fr v → Inf s x → Live s x → (x ≡ u) ⊎ (x ≡ v)
+    live-end : (x : ℕ) → s.fr x ≡ s.fr v → Inf s x → Counting s x → (x ≡ u) ⊎ (x ≡ v)
     live-end x f h (inl t) = absurd (none-find x f t)
     live-end x f h (inr t) = at-core (by-eq (s.ib x) (GC s x) (λ z. z) (λ n. absurd (⊎-elim n (sent n) t)))
       where
-        up-edge : (y : ℕ) × Ends p (s.ib x) x y
+        up-edge : (y : ℕ) × Edge p (s.ib x) x y
         up-edge = i.U1.u1r x (i.T1.t1 x h)
 
         at-core : s.ib x ≡ GC s x → (x ≡ u) ⊎ (x ≡ v)
@@ -146,7 +146,7 @@ module _ {p : Network} {s : State} (i : Inv p s) {u v k w : ℕ} {r : List Msg} 
             (report-core (s.ib x) x (up-edge .0) (o .0) (up-edge .1) f (o .1))
 
     -- an edge that is Basic in the fragment is not earlier than the best weight of one of the ends
-    pub bound : (a j b : ℕ) → s.fr a ≡ s.fr v → Ends p j a b → s.mark a j ≡ 0
+    pub bound : (a j b : ℕ) → s.fr a ≡ s.fr v → Edge p j a b → s.mark a j ≡ 0
         → (x : ℕ) × ((x ≡ u) ⊎ (x ≡ v)) × (s.bw x ≢ none) × (key p (s.bw x) ≤ rank p j)
     bound a j b f e m = ⊎-elim
         (λ t. absurd (omega (arith, t .1, none-due a f)))

@@ -1,7 +1,7 @@
 -- Report none from u at v over v's in-branch k, v not Find with best none: v halts, and the fragment is finished.
 use Rattle.protocol.specs.Prelude.{ℕ, _≤_, arith, _≡_, refl, sym, ap, subst, _∙_, _≢_, inl, inr, ⊎-elim, by-eq}
 use Rattle.protocol.specs.Prelude.{List, _∷_, upd, upd-elim, upd-same, upd-other, upd2, Msg, none, report}
-use Rattle.protocol.specs.Prelude.{Network, Ends, key, flip, same-edge, ends-irr, State, Idle, pop, set-halt, set-dk}
+use Rattle.protocol.specs.Prelude.{Network, Edge, key, flip, same-edge, ends-irr, ProtocolState, Idle, pop, set-halt, set-dk}
 use Rattle.protocol.specs.Prelude.{isR, In, else-same, pop-in, pop-bef, none-in, some-report}
 use Rattle.protocol.specs.Prelude.{GL, GC, DK, Inf, CoreEnds, Spent, Inv, joined-level, decided-find, decided-report, no-root}
 use Rattle.protocol_core.specs.Late.{late-report}
@@ -9,38 +9,38 @@ use Rattle.protocol_core.specs.Core as C
 use Rattle.protocol_core.specs.Rule.{Done, Ruling, inv-rule}
 
 -- the fragment of the core end v is finished, or about to be; u is the other end, c′ are the channels, S′ the state afterwards
-record Ending (p : Network) (s : State) (u v k : ℕ) (c′ : ℕ → ℕ → List Msg) (S′ : State) : Type 0 where
+record Ending (p : Network) (s : ProtocolState) (u v k : ℕ) (c′ : ℕ → ℕ → List Msg) (S′ : ProtocolState) : Type 0 where
   core : GC s v ≡ k
   fresh : DK s v ≢ 3
   changing : DK s v ≢ 2
   -- nobody is Find or due, nothing is Basic, both ends are informed and found nothing
   no-find : (x : ℕ) → s.fr x ≡ s.fr v → s.st x ≢ 1
   no-due : (x : ℕ) → s.fr x ≡ s.fr v → s.due x ≡ 0
-  tight : (j x y : ℕ) → Ends p j x y → s.fr x ≡ s.fr v → s.mark x j ≢ 0
+  tight : (j x y : ℕ) → Edge p j x y → s.fr x ≡ s.fr v → s.mark x j ≢ 0
   end-u : Inf s u × (s.bw u ≡ none)
   end-v : Inf s v × (s.bw v ≡ none)
   -- u has halted, or v's Report of none waits, and not both
   halt-no : s.halt u ≢ 0 → ¬ In (report none) (s.ch v k)
   halt-yes : s.halt u ≡ 0 → In (report none) (s.ch v k)
   -- every Report that is left is spent
-  spent : (j a b n : ℕ) → Ends p j a b → s.fr a ≡ s.fr v → In (report n) (c′ a j) → Spent p S′ a b j n
+  spent : (j a b n : ℕ) → Edge p j a b → s.fr a ≡ s.fr v → In (report n) (c′ a j) → Spent p S′ a b j n
 
-module _ {p : Network} {s : State} (i : Inv p s) {u v k w : ℕ} {r : List Msg} (idle : Idle s) (ends : Ends p k u v) (q : s.ch u k ≡ report w ∷ r)
+module _ {p : Network} {s : ProtocolState} (i : Inv p s) {u v k w : ℕ} {r : List Msg} (idle : Idle s) (ends : Edge p k u v) (q : s.ch u k ≡ report w ∷ r)
     (ib : s.ib v ≡ k) (found : s.st v ≢ 1) (wn : w ≡ none) (bn : s.bw v ≡ none) where
-  abbrev S′ : State
+  abbrev S′ : ProtocolState
   S′ = set-halt (set-dk (pop s u k r) (upd s.dk (s.fr v) 4)) (upd s.halt v 1)
 
   abbrev c′ : ℕ → ℕ → List Msg
   c′ = upd2 s.ch u k r
 
-  pub inside : s.fr u ≡ s.fr v
-  inside = C.inside i ends q
+  inside : s.fr u ≡ s.fr v
+  inside = C.report-inside i ends q
 
   dk-in : (x : ℕ) → s.fr x ≡ s.fr v → DK S′ x ≡ 4
   dk-in x e = ap S′.dk e ∙ upd-same s.dk (s.fr v) 4
 
   -- what is spent already stays so
-  still : (j a b n : ℕ) → Ends p j a b → s.fr a ≡ s.fr v → In (report n) (c′ a j) → Spent p s a b j n → Spent p S′ a b j n
+  still : (j a b n : ℕ) → Edge p j a b → s.fr a ≡ s.fr v → In (report n) (c′ a j) → Spent p s a b j n → Spent p S′ a b j n
   still j a b n e f o t = (
     t .0,
     t .1,
@@ -110,7 +110,7 @@ module _ {p : Network} {s : State} (i : Inv p s) {u v k w : ℕ} {r : List Msg} 
       dk-of x e z = omega (arith, ap s.dk e, over .0)
 
       level-u : 1 ≤ GL s u
-      level-u = joined-level i k u v ends (C.joined i ends q)
+      level-u = joined-level i k u v ends (C.report-joined i ends q)
 
   ending : Ending p s u v k c′ S′
   ending = ⊎-elim ending-core ending-spent (C.core-or-spent i ends q found)
@@ -120,7 +120,7 @@ module _ {p : Network} {s : State} (i : Inv p s) {u v k w : ℕ} {r : List Msg} 
   halt-off x n = upd-other s.halt v 1 x n
 
   -- a core end of the fragment is u or v
-  at-end : (P : ℕ → ℕ → ℕ → Type 0) (j x y : ℕ) → Ends p j x y → s.fr x ≡ s.fr v → GC s x ≡ j → P k u v → P k v u → P j x y
+  at-end : (P : ℕ → ℕ → ℕ → Type 0) (j x y : ℕ) → Edge p j x y → s.fr x ≡ s.fr v → GC s x ≡ j → P k u v → P k v u → P j x y
   at-end P j x y e f g a b =
       let z : j ≡ k = sym g ∙ ap s.gc f ∙ ending .core in
       subst (λ n. P n x y) (sym z) (⊎-elim
@@ -138,8 +138,8 @@ module _ {p : Network} {s : State} (i : Inv p s) {u v k w : ℕ} {r : List Msg} 
   done = record {
     tight = ending .tight;
     nothing = λ j x y e f g. at-end (λ j x y. Inf s x × (s.bw x ≡ none)) j x y e f g (ending .end-u) (ending .end-v);
-    halted = λ j x y e f. upd-elim (λ a. a ≢ 0 → (z : ℕ) × Ends p (GC s x) x z) s.halt v 1 x
-        (λ z n. (u, subst (λ a. Ends p (GC s a) a u) z (subst (λ a. Ends p a v u) (sym (ending .core)) (flip ends))))
+    halted = λ j x y e f. upd-elim (λ a. a ≢ 0 → (z : ℕ) × Edge p (GC s x) x z) s.halt v 1 x
+        (λ z n. (u, subst (λ a. Edge p (GC s a) a u) z (subst (λ a. Edge p a v u) (sym (ending .core)) (flip ends))))
         (λ d n. i.D4.d6c j x y e n);
     halt-no = λ j x y e f g. at-end (λ j x y. S′.halt x ≢ 0 → ¬ In (report none) (c′ y j)) j x y e f g
         (λ n o. ending .halt-no (λ z. n (halt-off u v≢u ∙ z)) (subst (λ l. In (report none) l) own-off o))

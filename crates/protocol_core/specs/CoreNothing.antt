@@ -1,23 +1,23 @@
 -- Report w from u at v over v's in-branch k, v not Find, w not later than v's best: nothing but the Report goes.
 use Rattle.protocol.specs.Prelude.{ℕ, _≤_, _<_, arith, _≡_, refl, sym, ap, subst, _∙_, _≢_, _⊎_, inl, inr, ⊎-elim, by-eq}
 use Rattle.protocol.specs.Prelude.{List, _∷_, upd2, sumL, Msg, none, report}
-use Rattle.protocol.specs.Prelude.{Network, Ends, key, flip, ends-two, other-end, ends-irr, key-none, key-edge, rank-lt, rank-inj, State, Idle, pop}
+use Rattle.protocol.specs.Prelude.{Network, Edge, key, flip, ends-two, other-end, ends-irr, key-none, key-edge, rank-lt, rank-inj, ProtocolState, Idle, pop}
 use Rattle.protocol.specs.Prelude.{isR, arg1, kinds, In, else-same, pop-in, in-pop, pop-le, pop-all}
-use Rattle.protocol.specs.Prelude.{GC, DK, Inf, Jn, Outst, Live, CoreEnds, Inv, inf-cases, joined-level, up-other, reports-same, take-alike, inv-passing, outst-ch, live-ch, last}
+use Rattle.protocol.specs.Prelude.{GC, DK, Inf, Jn, Outst, Counting, CoreEnds, Inv, inf-cases, joined-level, up-other, reports-same, take-alike, inv-passing, outst-ch, counting-ch, last-case}
 use Rattle.protocol.specs.Traffic.{Tokens, Owing, Bests}
-use Rattle.protocol_core.specs.Late.{Kept, late-report, kept}
+use Rattle.protocol_core.specs.Late.{Kept, late-report, late-kept}
 use Rattle.protocol_core.specs.Core as C
 
-module _ {p : Network} {s : State} (i : Inv p s) {u v k w : ℕ} {r : List Msg} (idle : Idle s) (ends : Ends p k u v) (q : s.ch u k ≡ report w ∷ r)
+module _ {p : Network} {s : ProtocolState} (i : Inv p s) {u v k w : ℕ} {r : List Msg} (idle : Idle s) (ends : Edge p k u v) (q : s.ch u k ≡ report w ∷ r)
     (ib : s.ib v ≡ k) (found : s.st v ≢ 1) (le : key p w ≤ key p (s.bw v)) (some : (w ≢ none) ⊎ (s.bw v ≢ none)) where
-  abbrev S′ : State
+  abbrev S′ : ProtocolState
   S′ = pop s u k r
 
   abbrev c′ : ℕ → ℕ → List Msg
   c′ = upd2 s.ch u k r
 
   others : Kept p S′
-  others = kept i q (late-report w) s.bw s.be s.fc s.halt s.dk s.dn s.owe s.op s.oo
+  others = late-kept i q (late-report w) s.bw s.be s.fc s.halt s.dk s.dn s.owe s.op s.oo
 
   -- w is an edge
   pub w-some : w ≢ none
@@ -38,28 +38,28 @@ module _ {p : Network} {s : State} (i : Inv p s) {u v k w : ℕ} {r : List Msg} 
 
       equal : key p w ≡ key p (s.bw v) → ⊥
       equal z =
-          let lw = i.R1.r1r k u v w ends (C.head i ends q) w-some in
+          let lw = i.R1.r1r k u v w ends (C.report-in i ends q) w-some in
           let n : s.bw v ≢ none = λ o. omega (arith, ap (key p) o, key-none p, key-edge p w lw, rank-lt p w lw) in
           let lv = i.W1.w1w v n in
           let e : w ≡ s.bw v = rank-inj p w (s.bw v) lw lv (omega (arith, key-edge p w lw, key-edge p (s.bw v) lv)) in
           let a = i.B1.b1 u iu (λ o. w-some (sym bu ∙ o)) in
           let b = i.B1.b1 v iv n in
-          let x : a .0 ≡ b .0 = inner (s.bw u) (a .0) (a .1) (b .0) (b .1) (a .2) (subst (λ j. Ends p j (b .0) (b .1)) (sym (bu ∙ e)) (b .2)) (a .3) (b .4) in
+          let x : a .0 ≡ b .0 = inner (s.bw u) (a .0) (a .1) (b .0) (b .1) (a .2) (subst (λ j. Edge p j (b .0) (b .1)) (sym (bu ∙ e)) (b .2)) (a .3) (b .4) in
           ends-irr p ends (sym (i.T1.t1d u iu (C.ib-u i ends q idle found c ∙ sym (C.core-u i ends q idle found c)) .1)
           ∙ sym (a .7) ∙ ap s.side x ∙ b .7 ∙ i.T1.t1d v iv (C.ib-v i ends q idle found c ∙ sym (C.core-v i ends q idle found c)) .1)
         where
-          inner : (j x y x′ y′ : ℕ) → Ends p j x y → Ends p j x′ y′ → s.fr x ≡ s.fr u → s.fr y′ ≢ s.fr v → x ≡ x′
-          inner j x y x′ y′ e f g h = ⊎-elim (λ t. t .0) (λ t. absurd (h (ap s.fr (sym (t .0)) ∙ g ∙ C.inside i ends q))) (ends-two e f)
+          inner : (j x y x′ y′ : ℕ) → Edge p j x y → Edge p j x′ y′ → s.fr x ≡ s.fr u → s.fr y′ ≢ s.fr v → x ≡ x′
+          inner j x y x′ y′ e f g h = ⊎-elim (λ t. t .0) (λ t. absurd (h (ap s.fr (sym (t .0)) ∙ g ∙ C.report-inside i ends q))) (ends-two e f)
 
   -- at an undecided core it is a core end's
   pub at-core : GC s v ≡ k → DK s v ≡ 0 → CoreEnds s u v k w
   at-core g d = inf-cases i v
-      (λ h. i.R1.r1c k u v w ends (C.head i ends q) h d g)
+      (λ h. i.R1.r1c k u v w ends (C.report-in i ends q) h d g)
       (λ l. absurd (i.T2.t4u k v u (flip ends) jn g l .t4i ib))
       (λ z. absurd (omega (arith, joined-level i k v u (flip ends) jn)))
     where
       jn : Jn s k v u
-      jn = let t = C.joined i ends q in (t .1, t .0)
+      jn = let t = C.report-joined i ends q in (t .1, t .0)
 
   -- v's own Report waits then
   pub own-waits : CoreEnds s u v k w → 1 ≤ sumL isR (s.ch v k)
@@ -93,9 +93,9 @@ module _ {p : Network} {s : State} (i : Inv p s) {u v k w : ℕ} {r : List Msg} 
   }
     where
       -- x is u: the other end's own Report waits
-      from-u : (j x y : ℕ) → Ends p j x y → u ≡ x → k ≡ j → GC s x ≡ j → DK s x ≡ 0 → Inf s y × (s.st y ≡ 2) × (key p (s.bw x) < key p (s.bw y)) × (1 ≤ sumL isR (c′ y j))
+      from-u : (j x y : ℕ) → Edge p j x y → u ≡ x → k ≡ j → GC s x ≡ j → DK s x ≡ 0 → Inf s y × (s.st y ≡ 2) × (key p (s.bw x) < key p (s.bw y)) × (1 ≤ sumL isR (c′ y j))
       from-u j x y e a b g d =
-          let f = C.inside i ends q in
+          let f = C.report-inside i ends q in
           let c = at-core (sym (ap s.gc f) ∙ ap (λ z. GC s z) a ∙ g ∙ sym b) (sym (ap s.dk f) ∙ ap (λ z. DK s z) a ∙ d) in
           subst (λ y. Inf s y × (s.st y ≡ 2) × (key p (s.bw x) < key p (s.bw y)) × (1 ≤ sumL isR (c′ y j))) (other-end ends e a b) (
             C.inf-v i ends q idle found c,
@@ -105,7 +105,7 @@ module _ {p : Network} {s : State} (i : Inv p s) {u v k w : ℕ} {r : List Msg} 
           )
 
       -- y is u: its best is not the later one
-      to-v : (j x y : ℕ) → Ends p j x y → u ≡ y → k ≡ j → GC s x ≡ j → DK s x ≡ 0 → key p (s.bw x) < key p (s.bw y) → ⊥
+      to-v : (j x y : ℕ) → Edge p j x y → u ≡ y → k ≡ j → GC s x ≡ j → DK s x ≡ 0 → key p (s.bw x) < key p (s.bw y) → ⊥
       to-v j x y e a b g d l =
           let z = other-end ends (flip e) a b in
           let c = at-core (ap (λ n. GC s n) z ∙ g ∙ sym b) (ap (λ n. DK s n) z ∙ d) in
@@ -118,7 +118,7 @@ module _ {p : Network} {s : State} (i : Inv p s) {u v k w : ℕ} {r : List Msg} 
   }
     where
       -- nobody is counted over the in-branch
-      outst : (j a c : ℕ) → Ends p j a c → s.ib a ≢ j → Outst s c j → Outst S′ c j
+      outst : (j a c : ℕ) → Edge p j a c → s.ib a ≢ j → Outst s c j → Outst S′ c j
       outst j a c e n o = split c j
           (λ x y. absurd (n (sym (ap s.ib (other-end ends (flip e) x y)) ∙ ib ∙ y)))
           (λ z. outst-ch s c′ c j (λ r. subst (λ l. 1 ≤ sumL isR l) (sym z) r) o)
@@ -127,14 +127,14 @@ module _ {p : Network} {s : State} (i : Inv p s) {u v k w : ℕ} {r : List Msg} 
   B2′ = record {
     b1e = λ a h n d. let t = i.B2.b1e a h n d in
         (t .0, t .1, t .2, t .3, t .4, t .5, t .6, t .7, omega (arith, pop-le s.ch u k q isR (t .0) (s.be a), t .8));
-    b2 = λ j a b e m d g. last (λ t. (t .0, t .1, t .2, t .3, live (t .0) (t .2) (t .4), t .5)) (i.B2.b2 j a b e m d g);
+    b2 = λ j a b e m d g. last-case (λ t. (t .0, t .1, t .2, t .3, live (t .0) (t .2) (t .4), t .5)) (i.B2.b2 j a b e m d g);
   }
     where
       -- a core end counts without its Report
-      live : (x : ℕ) → Inf s x → Live s x → Live S′ x
-      live x h = live-ch s c′ x (λ l. split x (s.ib x)
+      live : (x : ℕ) → Inf s x → Counting s x → Counting S′ x
+      live x h = counting-ch s c′ x (λ l. split x (s.ib x)
           (λ a b. by-eq (s.ib x) (GC s x) (λ g. inr (inl g))
-          (λ n. let e = subst (λ j. Ends p j x v) b (subst (λ z. Ends p k z v) a ends) in absurd (up-other i (s.ib x) x v e h refl (λ g. n (sym g)) (ib ∙ b))))
+          (λ n. let e = subst (λ j. Edge p j x v) b (subst (λ z. Edge p k z v) a ends) in absurd (up-other i (s.ib x) x v e h refl (λ g. n (sym g)) (ib ∙ b))))
           (λ z. inr (inr (subst (λ l. 1 ≤ sumL isR l) (sym z) l))))
 
   pub inv-core-nothing : Inv p S′

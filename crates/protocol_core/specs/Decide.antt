@@ -1,16 +1,16 @@
 -- Report w from u at v over v's in-branch k, v not Find, w later than v's best: v is to execute procedure change-root.
 use Rattle.protocol.specs.Prelude.{ℕ, _<_, arith, _≡_, sym, ap, subst, _≢_, inl, ⊎-elim}
 use Rattle.protocol.specs.Prelude.{List, _∷_, upd2, Msg, none, report}
-use Rattle.protocol.specs.Prelude.{Network, Ends, key, key-none, State, Idle, pop, rooted, In, pop-in}
+use Rattle.protocol.specs.Prelude.{Network, Edge, key, key-none, ProtocolState, Idle, pop, rooted, In, pop-in}
 use Rattle.protocol.specs.Prelude.{Bounds, CoreEnds, Spent, Inv}
 use Rattle.protocol_core.specs.Late.{late-report}
 use Rattle.protocol_core.specs.Core as C
-use Rattle.protocol_core.specs.Rooted.{Ready, inv-rooted}
+use Rattle.protocol_core.specs.Rooted.{RootReady, inv-rooted}
 
-module _ {p : Network} {s : State} (i : Inv p s) {u v k w : ℕ} {r : List Msg} (idle : Idle s) (ends : Ends p k u v) (q : s.ch u k ≡ report w ∷ r)
+module _ {p : Network} {s : ProtocolState} (i : Inv p s) {u v k w : ℕ} {r : List Msg} (idle : Idle s) (ends : Edge p k u v) (q : s.ch u k ≡ report w ∷ r)
     (ib : s.ib v ≡ k) (found : s.st v ≢ 1) (later : key p (s.bw v) < key p w) where
   -- it is a core end's: a spent one is earlier than v's best
-  pub core : CoreEnds s u v k w
+  core : CoreEnds s u v k w
   core = ⊎-elim (λ t. t)
       (λ t. absurd (⊎-elim (λ l. omega arith) (λ l. omega (arith, ap (key p) (l .0), ap (key p) (l .1))) (t .5)))
       (C.core-or-spent i ends q found)
@@ -27,7 +27,7 @@ module _ {p : Network} {s : State} (i : Inv p s) {u v k w : ℕ} {r : List Msg} 
       (λ z. omega (arith, t .3, ap (λ x. key p (s.bw x)) z))
       (t .1)
 
-  spent : (j a b n : ℕ) → Ends p j a b → s.fr a ≡ s.fr v → In (report n) (upd2 s.ch u k r a j) → Spent p s a b j n
+  spent : (j a b n : ℕ) → Edge p j a b → s.fr a ≡ s.fr v → In (report n) (upd2 s.ch u k r a j) → Spent p s a b j n
   spent j a b n e f o = ⊎-elim
       (λ t. subst (λ x. Spent p s x b j n) (sym (t .0)) (subst (λ x. Spent p s v x j n) (sym (t .1)) (subst (λ x. Spent p s v u x n) (sym (t .2)) (own n (t .3)))))
       (λ t. t)
@@ -37,10 +37,10 @@ module _ {p : Network} {s : State} (i : Inv p s) {u v k w : ℕ} {r : List Msg} 
       own : (n : ℕ) → s.bw v ≡ n → Spent p s v u k n
       own n z = C.own-spent i ends q idle found core s.dk n (inl (omega (arith, ap (key p) z, ap (key p) (C.best-u i ends q idle found core))))
 
-  ready : Ready p s u v k r
+  ready : RootReady p s u v k r
   ready = record {
     ends = ends;
-    inside = C.inside i ends q;
+    inside = C.report-inside i ends q;
     inf = C.inf-v i ends q idle found core;
     ib = ib;
     ub-v = C.ub-v i ends q idle found core;

@@ -1,6 +1,6 @@
 -- A Report or a Change-root m, the head of the channel from u over k, is taken: the clauses on other messages stay,
 -- whatever becomes of the tables that they do not read.
-use Rattle.protocol.specs.Prelude.{ℕ, _≡_, refl, List, _∷_, upd2, Msg, report, change, Network, State, pop}
+use Rattle.protocol.specs.Prelude.{ℕ, _≡_, refl, List, _∷_, upd2, Msg, report, change, Network, ProtocolState, pop}
 use Rattle.protocol.specs.Prelude.{set-bw, set-be, set-fc, set-halt, set-dk, set-dn, set-owe, set-op, set-oo, isCI, isT, isA, pop-in, pop-sum}
 use Rattle.protocol.specs.Prelude.{Inv, take-hush, take-connects, take-initiates, take-telling, take-ordered, testing-same}
 use Rattle.protocol.specs.Traffic.{Hush, Connects, Initiates, Telling, Testing, Answers, Ordered}
@@ -18,7 +18,7 @@ pub late-change : Late change
 late-change = record { no-call = refl; no-test = refl; no-ans = refl }
 
 -- the clauses that read neither Reports nor Change-roots
-pub record Kept (p : Network) (s : State) : Type 0 where
+pub record Kept (p : Network) (s : ProtocolState) : Type 0 where
   pub G6c : Hush p s
   pub C1 : Connects p s
   pub I1 : Initiates p s
@@ -27,14 +27,14 @@ pub record Kept (p : Network) (s : State) : Type 0 where
   pub A1 : Answers p s
   pub Q1 : Ordered p s
 
-module _ {p : Network} {s : State} (i : Inv p s) {u k : ℕ} {m : Msg} {r : List Msg} (q : s.ch u k ≡ m ∷ r) (h : Late m) where
+module _ {p : Network} {s : ProtocolState} (i : Inv p s) {u k : ℕ} {m : Msg} {r : List Msg} (q : s.ch u k ≡ m ∷ r) (h : Late m) where
   -- the new values of the tables
   module _ (bw be fc halt dk dn : ℕ → ℕ) (owe : ℕ → ℕ → ℕ) (op oo : ℕ) where
-    abbrev after : State
+    abbrev after : ProtocolState
     after = set-oo (set-op (set-owe (set-dn (set-dk (set-halt (set-fc (set-be (set-bw (pop s u k r) bw) be) fc) halt) dk) dn) owe) op) oo
 
-    pub kept : Kept p after
-    kept =
+    pub late-kept : Kept p after
+    late-kept =
         let g = take-hush p s u k q i.G6c in
         let c = take-connects p s u k q i.C1 in
         let n = take-initiates p s u k q i.I1 in

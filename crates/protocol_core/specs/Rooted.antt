@@ -1,14 +1,14 @@
 -- A Report or a Change-root, the head of the channel from u over k, makes v execute procedure change-root.
 use Rattle.protocol.specs.Prelude.{ℕ, suc, arith, _≡_, refl, sym, ap, subst, _∙_, _≢_, inl, ⊎-elim, by-eq}
 use Rattle.protocol.specs.Prelude.{List, _∷_, upd, upd-same, upd-other, upd2, sumL, Msg, none, report, change}
-use Rattle.protocol.specs.Prelude.{Network, Ends, key, flip, other-end, State, Idle, pop, rooted, isR, In, pop-in, pop-bef}
+use Rattle.protocol.specs.Prelude.{Network, Edge, key, flip, other-end, ProtocolState, Idle, pop, rooted, isR, In, pop-in, pop-bef}
 use Rattle.protocol.specs.Prelude.{DK, Inf, Bounds, Rooting, Spent, Inv, no-root}
 use Rattle.protocol.specs.Decisions.{RootOk, Rootings}
 use Rattle.protocol_core.specs.Late.{Late}
 use Rattle.protocol_core.specs.Rule.{Ruling, inv-rule}
 
-pub record Ready (p : Network) (s : State) (u v k : ℕ) (r : List Msg) : Type 0 where
-  pub ends : Ends p k u v
+pub record RootReady (p : Network) (s : ProtocolState) (u v k : ℕ) (r : List Msg) : Type 0 where
+  pub ends : Edge p k u v
   pub inside : s.fr u ≡ s.fr v
   -- v is informed, k is its in-branch and inbound for both ends
   pub inf : Inf s v
@@ -25,10 +25,10 @@ pub record Ready (p : Network) (s : State) (u v k : ℕ) (r : List Msg) : Type 0
   pub no-due : (x : ℕ) → s.fr x ≡ s.fr v → s.due x ≡ 0
   -- no Report is left on the way to v, no Change-root in the fragment, and every Report in it is spent
   pub silent : sumL isR (upd2 s.ch u k r u k) ≡ 0
-  pub no-token : (j x y : ℕ) → Ends p j x y → s.fr x ≡ s.fr v → ¬ In change (upd2 s.ch u k r x j)
-  pub spent : (j a b n : ℕ) → Ends p j a b → s.fr a ≡ s.fr v → In (report n) (upd2 s.ch u k r a j) → Spent p s a b j n
+  pub no-token : (j x y : ℕ) → Edge p j x y → s.fr x ≡ s.fr v → ¬ In change (upd2 s.ch u k r x j)
+  pub spent : (j a b n : ℕ) → Edge p j a b → s.fr a ≡ s.fr v → In (report n) (upd2 s.ch u k r a j) → Spent p s a b j n
 
-module _ {p : Network} {s : State} (i : Inv p s) {u v k : ℕ} {m : Msg} {r : List Msg} (idle : Idle s) (q : s.ch u k ≡ m ∷ r) (late : Late m) (h : Ready p s u v k r) where
+module _ {p : Network} {s : ProtocolState} (i : Inv p s) {u v k : ℕ} {m : Msg} {r : List Msg} (idle : Idle s) (q : s.ch u k ≡ m ∷ r) (late : Late m) (h : RootReady p s u v k r) where
   abbrev dk′ : ℕ → ℕ
   dk′ = upd s.dk (s.fr v) 1
 
@@ -94,7 +94,7 @@ module _ {p : Network} {s : State} (i : Inv p s) {u v k : ℕ} {m : Msg} {r : Li
     );
   }
     where
-      within : (j a b n : ℕ) → Ends p j a b → s.fr a ≡ s.fr v → In (report n) (upd2 s.ch u k r a j) → s.fr v ≡ s.fr b
+      within : (j a b n : ℕ) → Edge p j a b → s.fr a ≡ s.fr v → In (report n) (upd2 s.ch u k r a j) → s.fr v ≡ s.fr b
       within j a b n e f o = sym f ∙ i.M1.m3 j a b e (i.R1.r1j j a b n e (pop-in s.ch u k q a j o))
 
   pub inv-rooted : Inv p (rooted (pop s u k r) v)

@@ -2,30 +2,30 @@
 -- 1, v is to execute procedure change-root; 4, the fragment is finished. What differs between the two is in `Ruling`.
 use Rattle.protocol.specs.Prelude.{ℕ, _≤_, arith, _≡_, sym, ap, subst, _∙_, _≢_, _⊎_, inl, inr, ⊎-elim, by-eq}
 use Rattle.protocol.specs.Prelude.{List, _∷_, upd, upd-elim, upd-same, upd-other, upd2, sumL, Msg, none, connect, report, change}
-use Rattle.protocol.specs.Prelude.{Network, Ends, flip, State, pop, set-ch, set-halt, set-dk, set-dn, set-oo}
+use Rattle.protocol.specs.Prelude.{Network, Edge, flip, ProtocolState, pop, set-ch, set-halt, set-dk, set-dn, set-oo}
 use Rattle.protocol.specs.Prelude.{isR, All, Only, le-sum, joins-lt, In, else-same, pop-in, pop-le}
-use Rattle.protocol.specs.Prelude.{Decision, GL, GC, DK, Inf, Outst, Live, Root, Child, CoreEnds, Spent, Inv, fc-find, outst-ch, live-ch, last, reports-same, take-alike}
+use Rattle.protocol.specs.Prelude.{Decision, GL, GC, DK, Inf, Outst, Counting, Root, Child, CoreEnds, Spent, Inv, fc-find, outst-ch, counting-ch, last-case, reports-same, take-alike}
 use Rattle.protocol.specs.Fragments.{Ranges, Sleepers}
 use Rattle.protocol.specs.Decisions.{Halves, ChangeRoots, Rootings, Finishes}
 use Rattle.protocol.specs.Search.{Parents, Finds}
 use Rattle.protocol.specs.Traffic.{Tokens, Reports, Owing, Bests}
-use Rattle.protocol_core.specs.Late.{Late, Kept, kept}
+use Rattle.protocol_core.specs.Late.{Late, Kept, late-kept}
 
 -- the state afterwards
-abbrev pub ruled : State → ℕ → ℕ → ℕ → List Msg → ℕ → (ℕ → ℕ) → (ℕ → ℕ) → ℕ → State
+abbrev pub ruled : ProtocolState → ℕ → ℕ → ℕ → List Msg → ℕ → (ℕ → ℕ) → (ℕ → ℕ) → ℕ → ProtocolState
 ruled s u v k r d dn halt oo = set-oo (set-halt (set-dn (set-dk (pop s u k r) (upd s.dk (s.fr v) d)) dn) halt) oo
 
 -- v's fragment is finished; c′ are the channels
-pub record Done (p : Network) (s : State) (v : ℕ) (halt : ℕ → ℕ) (c′ : ℕ → ℕ → List Msg) : Type 0 where
+pub record Done (p : Network) (s : ProtocolState) (v : ℕ) (halt : ℕ → ℕ) (c′ : ℕ → ℕ → List Msg) : Type 0 where
   -- nothing is Basic in it, its core ends found nothing
-  pub tight : (j x y : ℕ) → Ends p j x y → s.fr x ≡ s.fr v → s.mark x j ≢ 0
-  pub nothing : (j x y : ℕ) → Ends p j x y → s.fr x ≡ s.fr v → GC s x ≡ j → Inf s x × (s.bw x ≡ none)
+  pub tight : (j x y : ℕ) → Edge p j x y → s.fr x ≡ s.fr v → s.mark x j ≢ 0
+  pub nothing : (j x y : ℕ) → Edge p j x y → s.fr x ≡ s.fr v → GC s x ≡ j → Inf s x × (s.bw x ≡ none)
   -- who has halted is a core end; a core end has halted, or its partner's Report waits, and not both
-  pub halted : (j x y : ℕ) → Ends p j x y → s.fr x ≡ s.fr v → halt x ≢ 0 → (z : ℕ) × Ends p (GC s x) x z
-  pub halt-no : (j x y : ℕ) → Ends p j x y → s.fr x ≡ s.fr v → GC s x ≡ j → halt x ≢ 0 → ¬ In (report none) (c′ y j)
-  pub halt-yes : (j x y : ℕ) → Ends p j x y → s.fr x ≡ s.fr v → GC s x ≡ j → halt x ≡ 0 → In (report none) (c′ y j)
+  pub halted : (j x y : ℕ) → Edge p j x y → s.fr x ≡ s.fr v → halt x ≢ 0 → (z : ℕ) × Edge p (GC s x) x z
+  pub halt-no : (j x y : ℕ) → Edge p j x y → s.fr x ≡ s.fr v → GC s x ≡ j → halt x ≢ 0 → ¬ In (report none) (c′ y j)
+  pub halt-yes : (j x y : ℕ) → Edge p j x y → s.fr x ≡ s.fr v → GC s x ≡ j → halt x ≡ 0 → In (report none) (c′ y j)
 
-pub record Ruling (p : Network) (s : State) (u v k : ℕ) (r : List Msg) (d : ℕ) (dn halt : ℕ → ℕ) (oo : ℕ) : Type 0 where
+pub record Ruling (p : Network) (s : ProtocolState) (u v k : ℕ) (r : List Msg) (d : ℕ) (dn halt : ℕ → ℕ) (oo : ℕ) : Type 0 where
   pub inside : s.fr u ≡ s.fr v
   pub level : 1 ≤ GL s v
   pub fresh : DK s v ≢ 3
@@ -39,21 +39,21 @@ pub record Ruling (p : Network) (s : State) (u v k : ℕ) (r : List Msg) (d : �
   -- the new decision
   pub verdict : ((d ≡ 1) × ((x : ℕ) → s.fr x ≡ s.fr v → halt x ≡ 0)) ⊎ ((d ≡ 4) × Done p s v halt (upd2 s.ch u k r))
   pub rootings : Rootings p (upd s.dk (s.fr v) d) dn s.fr s.gl s.lev s.ib s.ub s.bw s.mark oo
-  pub no-report : (j x y : ℕ) → Ends p j x y → Root (ruled s u v k r d dn halt oo) x → s.ib x ≡ j → sumL isR (upd2 s.ch u k r y j) ≡ 0
+  pub no-report : (j x y : ℕ) → Edge p j x y → Root (ruled s u v k r d dn halt oo) x → s.ib x ≡ j → sumL isR (upd2 s.ch u k r y j) ≡ 0
   -- no Change-root is left in it, and every Report in it is spent
-  pub no-token : (j x y : ℕ) → Ends p j x y → s.fr x ≡ s.fr v → ¬ In change (upd2 s.ch u k r x j)
-  pub spent : (j a b n : ℕ) → Ends p j a b → s.fr a ≡ s.fr v → In (report n) (upd2 s.ch u k r a j) → Spent p (ruled s u v k r d dn halt oo) a b j n
+  pub no-token : (j x y : ℕ) → Edge p j x y → s.fr x ≡ s.fr v → ¬ In change (upd2 s.ch u k r x j)
+  pub spent : (j a b n : ℕ) → Edge p j a b → s.fr a ≡ s.fr v → In (report n) (upd2 s.ch u k r a j) → Spent p (ruled s u v k r d dn halt oo) a b j n
 
-module _ {p : Network} {s : State} (i : Inv p s) {u v k d : ℕ} {m : Msg} {r : List Msg} {dn halt : ℕ → ℕ} {oo : ℕ} (q : s.ch u k ≡ m ∷ r) (late : Late m)
+module _ {p : Network} {s : ProtocolState} (i : Inv p s) {u v k d : ℕ} {m : Msg} {r : List Msg} {dn halt : ℕ → ℕ} {oo : ℕ} (q : s.ch u k ≡ m ∷ r) (late : Late m)
     (h : Ruling p s u v k r d dn halt oo) where
-  abbrev S′ : State
+  abbrev S′ : ProtocolState
   S′ = ruled s u v k r d dn halt oo
 
   abbrev c′ : ℕ → ℕ → List Msg
   c′ = upd2 s.ch u k r
 
   others : Kept p S′
-  others = kept i q late s.bw s.be s.fc halt S′.dk dn s.owe s.op oo
+  others = late-kept i q late s.bw s.be s.fc halt S′.dk dn s.owe s.op oo
 
   d-kind : (d ≡ 1) ⊎ (d ≡ 4)
   d-kind = ⊎-elim (λ t. inl (t .0)) (λ t. inr (t .0)) (h.verdict)
@@ -121,14 +121,14 @@ module _ {p : Network} {s : State} (i : Inv p s) {u v k d : ℕ} {m : Msg} {r : 
   D1′ = record {
     m2 = λ j x y e a b. let t = i.D1.m2 j x y e a b in decision-new 3 x j (λ z. h.fresh (ap s.dk z ∙ t .0)) t;
     d1f = λ x z. let o = dk-old 3 x not3 z in ap s.fr (h.dn-off x (o .0)) ∙ i.D1.d1f x (o .1);
-    d1e = λ x z. let o = dk-old 3 x not3 z in subst (λ n. (y : ℕ) × Ends p (s.de (s.fr x)) n y) (sym (h.dn-off x (o .0))) (i.D1.d1e x (o .1));
+    d1e = λ x z. let o = dk-old 3 x not3 z in subst (λ n. (y : ℕ) × Edge p (s.de (s.fr x)) n y) (sym (h.dn-off x (o .0))) (i.D1.d1e x (o .1));
     d1 = λ j z y e a. i.D1.d1 j z y e (decision-old 3 z j not3 a .1);
   }
 
   D2′ : ChangeRoots p S′.dk dn s.de s.fr s.gl s.gc s.lev s.ib s.ub s.bw s.mark
   D2′ = record {
     d2f = λ x z. let o = dk-old 2 x not2 z in ap s.fr (h.dn-off x (o .0)) ∙ i.D2.d2f x (o .1);
-    d2e = λ x z. let o = dk-old 2 x not2 z in subst (λ n. (y : ℕ) × Ends p (s.de (s.fr x)) n y) (sym (h.dn-off x (o .0))) (i.D2.d2e x (o .1));
+    d2e = λ x z. let o = dk-old 2 x not2 z in subst (λ n. (y : ℕ) × Edge p (s.de (s.fr x)) n y) (sym (h.dn-off x (o .0))) (i.D2.d2e x (o .1));
     d2 = λ j a x e t. i.D2.d2 j a x e (decision-old 2 a j not2 t .1);
   }
 
@@ -165,8 +165,8 @@ module _ {p : Network} {s : State} (i : Inv p s) {u v k d : ℕ} {m : Msg} {r : 
   -- ---- channels
 
   -- the other end of a core is in its fragment
-  core-off : (j x y : ℕ) → Ends p j x y → GC s x ≡ j → 1 ≤ GL s x → s.fr v ≢ s.fr x → c′ y j ≡ s.ch y j
-  core-off j x y e g l n = off y j (λ z. n (z ∙ i.G5.g5 x y x l (subst (λ a. Ends p a y x) (sym g) (flip e)) .1))
+  core-off : (j x y : ℕ) → Edge p j x y → GC s x ≡ j → 1 ≤ GL s x → s.fr v ≢ s.fr x → c′ y j ≡ s.ch y j
+  core-off j x y e g l n = off y j (λ z. n (z ∙ i.G5.g5 x y x l (subst (λ a. Edge p a y x) (sym g) (flip e)) .1))
 
   Dc′ : Tokens p S′
   Dc′ = record {
@@ -200,7 +200,7 @@ module _ {p : Network} {s : State} (i : Inv p s) {u v k d : ℕ} {m : Msg} {r : 
       core : (j a b n : ℕ) → s.fr v ≢ s.fr a → CoreEnds (set-ch s c′) a b j n → CoreEnds S′ a b j n
       core j a b n z t = (t .0, dk-off a z ∙ t .1, t .2, t .3, t .4, t .5, t .6)
 
-      kind : (j a b n : ℕ) → Ends p j a b → s.fr v ≢ s.fr a → In (report n) (c′ a j) → Child S′ a b j n ⊎ (CoreEnds S′ a b j n ⊎ Spent p S′ a b j n)
+      kind : (j a b n : ℕ) → Edge p j a b → s.fr v ≢ s.fr a → In (report n) (c′ a j) → Child S′ a b j n ⊎ (CoreEnds S′ a b j n ⊎ Spent p S′ a b j n)
       kind j a b n e z m = ⊎-elim (λ t. inl t)
           (⊎-elim (λ t. inr (inl (core j a b n z t)))
           (λ t. inr (inr (t .0, t .1, t .2, t .3, t .4, ⊎-elim (λ l. inl l) (λ l. inr (l .0, l .1, dk-off b (λ x. z (x ∙ sym (i.M1.m3 j a b e (o.r1j j a b n e m)))) ∙ l .2, l .3)) (t .5)))))
@@ -213,7 +213,7 @@ module _ {p : Network} {s : State} (i : Inv p s) {u v k d : ℕ} {m : Msg} {r : 
   }
     where
       -- who waits for a Report is Find, so of another fragment
-      owing : (j x c : ℕ) → Ends p j x c → s.owe x j ≢ 0 → s.fr v ≢ s.fr x
+      owing : (j x c : ℕ) → Edge p j x c → s.owe x j ≢ 0 → s.fr v ≢ s.fr x
       owing j x c e n z = h.no-find x (sym z) (fc-find i x (λ o. omega (arith, i.F4.f4 x, le-sum p.g.L j (s.owe x) (joins-lt e))))
 
       outst : (j x c : ℕ) → s.fr v ≢ s.fr c → Outst s c j → Outst S′ c j
@@ -223,11 +223,11 @@ module _ {p : Network} {s : State} (i : Inv p s) {u v k d : ℕ} {m : Msg} {r : 
   B2′ = record {
     b1e = λ x f n m. let t = i.B2.b1e x f n m in (t .0, t .1, t .2, t .3, t .4, t .5, t .6, t .7, omega (arith, pop-le s.ch u k q isR (t .0) (s.be x), t .8));
     b2 = λ j x y e m z l. let o = dk-old 0 x not0 z in
-        last (λ t. (t .0, t .1, t .2, t .3, live (t .0) (λ a. o .0 (a ∙ t .1)) (t .4), t .5)) (i.B2.b2 j x y e m (o .1) l);
+        last-case (λ t. (t .0, t .1, t .2, t .3, live (t .0) (λ a. o .0 (a ∙ t .1)) (t .4), t .5)) (i.B2.b2 j x y e m (o .1) l);
   }
     where
-      live : (x : ℕ) → s.fr v ≢ s.fr x → Live s x → Live S′ x
-      live x n = live-ch s c′ x (λ l. inr (inr (subst (λ a. 1 ≤ sumL isR a) (sym (off x (s.ib x) n)) l)))
+      live : (x : ℕ) → s.fr v ≢ s.fr x → Counting s x → Counting S′ x
+      live x n = counting-ch s c′ x (λ l. inr (inr (subst (λ a. 1 ≤ sumL isR a) (sym (off x (s.ib x) n)) l)))
 
   pub inv-rule : Inv p S′
   inv-rule = record {

@@ -1,34 +1,34 @@
 -- Why a field that was set up and then only stepped is never refused by 31 or 32: the values and messages that the invariant allows,
 -- and what holds where a response could be refused.
 use Rattle.protocol.specs.Prelude.{ℕ, suc, _+_, _≤_, _<_, arith, _≡_, ap, _≢_, by-eq, Bool, true, bit}
-use Rattle.protocol.specs.Prelude.{List, _∷_, sum, sum-le, Msg, connect, initiate, test, report, Network, Ends, end-lt, flip, State}
+use Rattle.protocol.specs.Prelude.{List, _∷_, sum, sum-le, Msg, connect, initiate, test, report, Network, Edge, end-lt, flip, ProtocolState}
 use Rattle.protocol.specs.Prelude.{Rouse, In, all-in, GL, Inv}
 use Rattle.base.specs.Log.{log2}
-use Rattle.protocol_budget.specs.Ceiling.{level}
+use Rattle.protocol_budget.specs.Ceiling.{level-log}
 use Rattle.protocol_core.specs.Core.{count}
 
-module _ {p : Network} {s : State} (i : Inv p s) where
+module _ {p : Network} {s : ProtocolState} (i : Inv p s) where
   -- ---- 31: levels are at most ⌊log2 N⌋
 
   pub lev-le : (v : ℕ) → v < p.N → s.lev v ≤ log2 p.N
-  lev-le v l = omega (arith, i.G2.g2 v, level i v l)
+  lev-le v l = omega (arith, i.G2.g2 v, level-log i v l)
 
-  pub connect-le : (k u v l : ℕ) → Ends p k u v → In (connect l) (s.ch u k) → l ≤ log2 p.N
+  pub connect-le : (k u v l : ℕ) → Edge p k u v → In (connect l) (s.ch u k) → l ≤ log2 p.N
   connect-le k u v l e n =
-      let b = level i u (end-lt p e) in
+      let b = level-log i u (end-lt p e) in
       by-eq (s.mark v k) 1 (λ m. omega (arith, b, i.C1.c1 k u v l e n m .1))
       (λ m. omega (arith, b, all-in (i.Dc.d1a k u v e (i.D1.m2 k u v e (i.C1.c1m k u v l e n) m)) n))
 
-  pub initiate-ok : (k u v l f x : ℕ) → Ends p k u v → In (initiate l f x) (s.ch u k) → (1 ≤ l) × (l ≤ log2 p.N) × (f < p.g.L) × (x ≤ 1)
+  pub initiate-ok : (k u v l f x : ℕ) → Edge p k u v → In (initiate l f x) (s.ch u k) → (1 ≤ l) × (l ≤ log2 p.N) × (f < p.g.L) × (x ≤ 1)
   initiate-ok k u v l f x e n =
       let t = i.I1.i1 k u v l f x e n in (
         omega (arith, t.i1l),
-        omega (arith, t.i1g, level i v (end-lt p (flip e))),
+        omega (arith, t.i1g, level-log i v (end-lt p (flip e))),
         t.i1f,
         by-eq l (GL s v) (λ q. omega (arith, t.i1d q, i.W0.due-le v)) (λ q. omega (arith, t.i1z (omega (arith, t.i1g)))),
       )
 
-  pub test-ok : (k u v l f : ℕ) → Ends p k u v → In (test l f) (s.ch u k) → (1 ≤ l) × (l ≤ log2 p.N) × (f < p.g.L)
+  pub test-ok : (k u v l f : ℕ) → Edge p k u v → In (test l f) (s.ch u k) → (1 ≤ l) × (l ≤ log2 p.N) × (f < p.g.L)
   test-ok k u v l f e n =
       let t = i.E1.e1 k u v l f e n in (
         omega (arith, t .0, t .2 .0, t .2 .1),
@@ -37,7 +37,7 @@ module _ {p : Network} {s : State} (i : Inv p s) where
       )
 
   -- a find-count is at most the number of own edges, for any test that finds them all
-  pub count-le : (v : ℕ) (own : ℕ → Bool) → ((k u : ℕ) → Ends p k v u → own k ≡ true) → s.fc v ≤ sum p.g.L (λ k. bit (own k))
+  pub count-le : (v : ℕ) (own : ℕ → Bool) → ((k u : ℕ) → Edge p k v u → own k ≡ true) → s.fc v ≤ sum p.g.L (λ k. bit (own k))
   count-le v own h = omega (arith, i.F4.f4 v, sum-le p.g.L (s.owe v) (λ k. bit (own k)) each)
     where
       each : (k : ℕ) → k < p.g.L → s.owe v k ≤ bit (own k)
@@ -47,27 +47,27 @@ module _ {p : Network} {s : State} (i : Inv p s) where
   -- ---- 32
 
   -- only Connect and Test are on their way to a sleeper
-  pub to-sleeper : (k u v : ℕ) (m : Msg) → Ends p k u v → In m (s.ch u k) → s.st v ≡ 0 → Rouse m
+  pub to-sleeper : (k u v : ℕ) (m : Msg) → Edge p k u v → In m (s.ch u k) → s.st v ≡ 0 → Rouse m
   to-sleeper k u v m e n z = all-in (i.G6c.g6i k u v e z) n
 
   -- the Initiate that answers a Connect over the core
-  pub reply-le : (k u v l : ℕ) → Ends p k u v → In (connect l) (s.ch u k) → s.mark v k ≢ 0 → s.lev v + 1 ≤ log2 p.N
+  pub reply-le : (k u v l : ℕ) → Edge p k u v → In (connect l) (s.ch u k) → s.mark v k ≢ 0 → s.lev v + 1 ≤ log2 p.N
   reply-le k u v l e n m =
       let b = i.C1.c1m k u v l e n in
       let o : s.mark v k ≡ 1 = by-eq (s.mark v k) 1 (λ q. q) (λ q. absurd (i.M1.m1 k v u (flip e) (omega (arith, i.W0.mark-le v k)) .1 b)) in
       let t = i.C1.c1 k u v l e n o in
-      omega (arith, t .1, t .2, level i u (end-lt p e))
+      omega (arith, t .1, t .2, level-log i u (end-lt p e))
 
   -- a Report of a child is counted
-  pub child-count : (k u v w : ℕ) {r : List Msg} → Ends p k u v → s.ch u k ≡ report w ∷ r → s.ib v ≢ k → s.fc v ≢ 0
+  pub child-count : (k u v w : ℕ) {r : List Msg} → Edge p k u v → s.ch u k ≡ report w ∷ r → s.ib v ≢ k → s.fc v ≢ 0
   child-count k u v w e q n z = omega (arith, count i e q n)
 
   -- procedures test, report and change-root find what they need
   pub test-level : (v : ℕ) → s.ot ≡ suc v → 1 ≤ s.lev v
   test-level v o = let f = i.F1.f1 v (i.F2.f5t v o) .f1i in omega (arith, f .0, f .1)
 
-  pub report-branch : (v : ℕ) → s.op ≡ suc v → (u : ℕ) × Ends p (s.ib v) v u
+  pub report-branch : (v : ℕ) → s.op ≡ suc v → (u : ℕ) × Edge p (s.ib v) v u
   report-branch v o = i.U1.u1r v (i.T1.t1 v (i.F1.f1 v (i.F2.f5p v o) .f1i))
 
-  pub root-edge : (v : ℕ) → s.oo ≡ suc v → (u : ℕ) × Ends p (s.be v) v u
+  pub root-edge : (v : ℕ) → s.oo ≡ suc v → (u : ℕ) × Edge p (s.be v) v u
   root-edge v o = let t = i.D3.d3 v (i.D3.f5r v o) in i.W1.w1e v (λ z. t.d3w (i.B1.b1m v (t.d3i) z))

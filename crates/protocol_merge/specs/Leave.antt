@@ -2,22 +2,22 @@
 use Rattle.protocol.specs.Prelude.{ℕ, suc, _≤_, arith, _≡_, refl, sym, ap, subst, _∙_, _≢_, inr, ⊎-elim, by-eq}
 use Rattle.protocol.specs.Prelude.{true, false, eqb, eqb-cases, eqb-same, eqb-diff, cut-rank}
 use Rattle.protocol.specs.Prelude.{Msg, connect, initiate, test, accept, reject, report, change}
-use Rattle.protocol.specs.Prelude.{Network, Ends, Tree, key, rank, flip, ends-two, ends-irr, ends-key, State, First}
+use Rattle.protocol.specs.Prelude.{Network, Edge, Tree, key, rank, flip, ends-two, ends-irr, ends-key, ProtocolState, FirstOwn}
 use Rattle.protocol.specs.Prelude.{isCI, Only, fits-connect, In, Bounds, GL, Inv, no-waits}
 use Rattle.protocol_merge.specs.Turn.{Turn, root-ok}
 use Rattle.protocol_merge.specs.Move.{Move}
 
-pub record Leave (p : Network) (s : State) (v k y : ℕ) : Type 0 where
-  pub ends : Ends p k v y
+pub record Leave (p : Network) (s : ProtocolState) (v k y : ℕ) : Type 0 where
+  pub ends : Edge p k v y
   pub basic : s.mark v k ≡ 0
   -- it leaves the fragment, to a node of no lower level
   pub out : s.fr y ≢ s.fr v
   pub level : GL s v ≤ s.lev y
   pub bound : Bounds p s (rank p k) v
 
-module _ {p : Network} {s : State} (i : Inv p s) {v k y : ℕ} where
+module _ {p : Network} {s : ProtocolState} (i : Inv p s) {v k y : ℕ} where
   -- the earliest edge of a sleeper
-  pub leave-sleeper : Ends p k v y → s.st v ≡ 0 → First p v k → Leave p s v k y
+  pub leave-sleeper : Edge p k v y → s.st v ≡ 0 → FirstOwn p v k → Leave p s v k y
   leave-sleeper e z least =
       let g = i.G6.g6 v z .g6g in
       record {
@@ -25,17 +25,17 @@ module _ {p : Network} {s : State} (i : Inv p s) {v k y : ℕ} where
         basic = i.G6.g6m v k z;
         out = λ q. ends-irr p e (sym (i.G4.g4s v y g q));
         level = omega arith;
-        bound = λ u j w q f m. least j w (subst (λ x. Ends p j x w) (i.G4.g4s v u g q) f);
+        bound = λ u j w q f m. least j w (subst (λ x. Edge p j x w) (i.G4.g4s v u g q) f);
       }
 
   -- the best edge of the root, where it is no branch
-  pub leave-root : s.oo ≡ suc v → Ends p k v y → s.be v ≡ k → s.mark v k ≢ 1 → Leave p s v k y
+  pub leave-root : s.oo ≡ suc v → Edge p k v y → s.be v ≡ k → s.mark v k ≢ 1 → Leave p s v k y
   leave-root oo e b n =
       let r = root-ok i oo in
       let w : s.bw v ≡ k = by-eq (s.be v) (s.bw v) (λ q. sym q ∙ b)
       (λ q. absurd (n (subst (λ x. s.mark v x ≡ 1) b (i.B2.b1e v (r.d3i) (r.d3w) q .2 .0)))) in
       let x = i.B1.b1 v (r.d3i) (r.d3w) in
-      let at : y ≡ x .1 = ⊎-elim (λ q. q .1) (λ q. absurd (x .4 (ap s.fr (sym (q .0))))) (ends-two e (subst (λ j. Ends p j (x .0) (x .1)) w (x .2))) in
+      let at : y ≡ x .1 = ⊎-elim (λ q. q .1) (λ q. absurd (x .4 (ap s.fr (sym (q .0))))) (ends-two e (subst (λ j. Edge p j (x .0) (x .1)) w (x .2))) in
       let out : s.fr y ≢ s.fr v = λ q. x .4 (sym (ap s.fr at) ∙ q) in
       record {
         ends = e;
@@ -45,9 +45,9 @@ module _ {p : Network} {s : State} (i : Inv p s) {v k y : ℕ} where
         bound = λ u j c q f m. omega (arith, r.d3b u j c q f m, ap (key p) w, ends-key p e);
       }
 
-module _ {p : Network} {s : State} (i : Inv p s) {v k y : ℕ} (t : Turn p s v) (h : Leave p s v k y) where
+module _ {p : Network} {s : ProtocolState} (i : Inv p s) {v k y : ℕ} (t : Turn p s v) (h : Leave p s v k y) where
   -- an edge that leaves the fragment is Basic there, so not earlier
-  earliest : (j a b : ℕ) → Ends p j a b → s.fr a ≡ s.fr v → s.fr b ≢ s.fr v → rank p k ≤ rank p j
+  earliest : (j a b : ℕ) → Edge p j a b → s.fr a ≡ s.fr v → s.fr b ≢ s.fr v → rank p k ≤ rank p j
   earliest j a b e q n = by-eq (s.mark a j) 0 (λ z. h.bound a j b q e z)
       (λ z. by-eq (s.mark a j) 2 (λ m. absurd (n (sym (i.M1.m1 j a b e m .0) ∙ q)))
       (λ m. let one : s.mark a j ≡ 1 = omega (arith, i.W0.mark-le a j) in

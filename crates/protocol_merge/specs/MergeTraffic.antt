@@ -2,33 +2,33 @@
 use Rattle.protocol.specs.Prelude.{ℕ, _+_, _≤_, arith, _≡_, refl, sym, ap, subst, _∙_, _≢_, inl, inr, ⊎-elim}
 use Rattle.protocol.specs.Prelude.{upd-other, All, sumL, at2}
 use Rattle.protocol.specs.Prelude.{Msg, connect, initiate, report}
-use Rattle.protocol.specs.Prelude.{Network, Ends, rank, flip, State, isC, isI, isT, isA, isR, isK, arg1, Only}
+use Rattle.protocol.specs.Prelude.{Network, Edge, rank, flip, ProtocolState, isC, isI, isT, isA, isR, isK, arg1, Only}
 use Rattle.protocol.specs.Prelude.{In, all-in, in-sum, snoc-in, snoc-all, snoc-here}
-use Rattle.protocol.specs.Prelude.{GL, GC, DK, Jn, Outst, Live, Covered, Child, CoreEnds, Spent}
+use Rattle.protocol.specs.Prelude.{GL, GC, DK, Jn, Outst, Counting, Covered, Child, CoreEnds, Spent}
 use Rattle.protocol.specs.Prelude.{joined-level, no-connect-decided, decided-initiate, decided-report, decided-test, waits-find, parent-find}
 use Rattle.protocol.specs.Traffic.{Tokens, Connects, Initiates, Telling, Testing, Answers, Reports, Owing, Bests}
 use Rattle.protocol_merge.specs.Leave.{leave-only}
 use Rattle.protocol_merge.specs.Move as M
 use Rattle.protocol_merge.specs.Unite as U
-use Rattle.protocol_merge.specs.Unite.{Ready}
-use Rattle.protocol_merge.specs.MergeTables.{old-decision, new-decision, no-root}
+use Rattle.protocol_merge.specs.Unite.{MergeReady}
+use Rattle.protocol_merge.specs.MergeTables.{old-decision, new-decision, no-root-merge}
 
-module _ {p : Network} {s : State} {v k y l : ℕ} (r : Ready p s v k y l) where
-  abbrev S′ : State
+module _ {p : Network} {s : ProtocolState} {v k y l : ℕ} (r : MergeReady p s v k y l) where
+  abbrev S′ : ProtocolState
   S′ = U.S′ r
 
   -- there and back
   was : {x : Msg} (f : Msg → ℕ) → f (connect l) ≡ 0 → 1 ≤ f x → (w j : ℕ) → In x (S′.ch w j) → In x (s.ch w j)
-  was f z o w j n = M.old (r.inv) (r.turn) (U.mv r) f z o w j n
+  was f z o w j n = M.old-move (r.inv) (r.turn) (U.mv r) f z o w j n
 
   still : {x : Msg} (w j : ℕ) → In x (s.ch w j) → In x (S′.ch w j)
   still w j n = M.new (r.inv) (r.turn) (U.mv r) w j n
 
   same : (f : Msg → ℕ) → f (connect l) ≡ 0 → (w j : ℕ) → sumL f (S′.ch w j) ≡ sumL f (s.ch w j)
-  same f z w j = M.same (r.inv) (r.turn) (U.mv r) f z w j
+  same f z w j = M.same-move (r.inv) (r.turn) (U.mv r) f z w j
 
   -- on a joined edge inside the fragment was decided
-  in-joined : (j a b : ℕ) → Ends p j a b → Jn s j a b → U.Inside r a → DK s a ≢ 0
+  in-joined : (j a b : ℕ) → Edge p j a b → Jn s j a b → U.InEither r a → DK s a ≢ 0
   in-joined j a b e x n = U.in-decided r a n (joined-level (r.inv) j a b e x)
 
   -- the channels of k: from y the Connect, and answers; from v answers
@@ -38,8 +38,8 @@ module _ {p : Network} {s : State} {v k y l : ℕ} (r : Ready p s v k y l) where
   v-only : (j a : ℕ) (x : Msg) → v ≡ a → k ≡ j → In x (s.ch a j) → Only (GL s v) x
   v-only j a x q z n = leave-only (r.inv) (r.turn) (r.leave) (GL s v) x (subst (λ c. In x c) (sym (at2 s.ch q z)) n)
 
-  pub Dc′ : Tokens p S′
-  Dc′ = record {
+  pub Dc-merge : Tokens p S′
+  Dc-merge = record {
     d1c = λ j z x e a. let o = U.dk-old r 3 z (λ q. omega arith) (a .0) .0 in
         subst (λ n. In (connect n) (S′.ch z j)) (sym (U.gl-out r z o)) (still z j (r.inv.Dc.d1c j z x e (old-decision r 3 z j o a)));
     d1a = λ j z x e a. let o = U.dk-old r 3 z (λ q. omega arith) (a .0) .0 in
@@ -47,31 +47,31 @@ module _ {p : Network} {s : State} {v k y l : ℕ} (r : Ready p s v k y l) where
         (snoc-all s.ch v k (connect l) z j (λ q c. absurd (U.out-v r z o q)) (r.inv.Dc.d1a j z x e (old-decision r 3 z j o a)));
     d2c = λ j u x e a. let o = U.dk-old r 2 u (λ q. omega arith) (a .0) .0 in still u j (r.inv.Dc.d2c j u x e (old-decision r 2 u j o a));
     k1 = λ j u x e n. let a = r.inv.Dc.k1 j u x e (was isK refl (omega arith) u j n) in new-decision r 2 u j (U.dk-other r u (omega (arith, a .0)) (λ z. omega (arith, a .0))) a;
-    d3r = λ j a b e z. absurd (no-root r a (z .0));
+    d3r = λ j a b e z. absurd (no-root-merge r a (z .0));
     d4h = λ j a b e g z n f q. let o = U.dk-old r 4 a (λ q. omega arith) z in
         r.inv.Dc.d4h j a b e (sym (U.gc-out r a (o .0)) ∙ g) (o .1) (omega (arith, U.gl-out r a (o .0))) f (was isR refl (omega arith) b j q);
     d4r = λ j a b e g z n f. let o = U.dk-old r 4 a (λ q. omega arith) z in
         still b j (r.inv.Dc.d4r j a b e (sym (U.gc-out r a (o .0)) ∙ g) (o .1) (omega (arith, U.gl-out r a (o .0))) f);
     d7 = λ j a b e g z f q.
-        let o = U.inf-out r a f in
+        let o = U.inf-out-merge r a f in
         let c = sym (U.gc-out r a o) ∙ g in
-        let d = U.like r a b o (r.inv.G5.g5 a b a (U.inf-old r a f .0) (subst (λ n. Ends p n b a) (sym c) (flip e)) .1) in
+        let d = U.like r a b o (r.inv.G5.g5 a b a (U.inf-old-merge r a f .0) (subst (λ n. Edge p n b a) (sym c) (flip e)) .1) in
         ⊎-elim (λ x. inl (omega (arith, same isR refl a j)))
-        (λ x. inr (U.inf-new r b d (x .0), M.st-two (r.inv) (r.turn) (U.mv r) b (x .1), x .2, omega (arith, x .3, same isR refl b j)))
-        (r.inv.Dc.d7 j a b e c (sym (U.dk-out r a o) ∙ z) (U.inf-old r a f) (sym (upd-other s.st v 2 a (U.out-v r a o)) ∙ q));
+        (λ x. inr (U.inf-new-merge r b d (x .0), M.st-two (r.inv) (r.turn) (U.mv r) b (x .1), x .2, omega (arith, x .3, same isR refl b j)))
+        (r.inv.Dc.d7 j a b e c (sym (U.dk-out-merge r a o) ∙ z) (U.inf-old-merge r a f) (sym (upd-other s.st v 2 a (U.out-v r a o)) ∙ q));
   }
 
-  pub C1′ : Connects p S′
-  C1′ = record {
+  pub C1-merge : Connects p S′
+  C1-merge = record {
     c1m = M.caller (r.inv) (r.turn) (U.mv r);
     c1 = λ j w u n e a z. ⊎-elim
-        (λ b. M.dn1 (r.inv) (r.turn) (U.mv r) u j z
+        (λ b. M.dn1-move (r.inv) (r.turn) (U.mv r) u j z
         (λ q c. let f = M.far-end (r.inv) (r.turn) (U.mv r) j u w (flip e) q c in
-        let in-w : U.Inside r w = inr (ap s.fr (sym f)) in
+        let in-w : U.InEither r w = inr (ap s.fr (sym f)) in
         let g : n ≡ GL s y = y-only j w (connect n) f c b in
         (U.gc-in r w in-w ∙ c, omega (arith, U.gl-in r w in-w, U.even-y r), omega (arith, ap s.lev q, r.turn.even, U.even-y r)))
         (λ m. old j w u n e b m))
-        (λ b. let in-w : U.Inside r w = inl (ap s.fr (sym (b .0))) in
+        (λ b. let in-w : U.InEither r w = inl (ap s.fr (sym (b .0))) in
         let f = M.far-end (r.inv) (r.turn) (U.mv r) j w u e (b .0) (b .1) in (
           U.gc-in r w in-w ∙ b .1,
           omega (arith, U.gl-in r w in-w, r.level, ap arg1 (b .2)),
@@ -81,15 +81,15 @@ module _ {p : Network} {s : State} {v k y l : ℕ} (r : Ready p s v k y l) where
   }
     where
       -- one that was on a joined edge is outside
-      old : (j w u n : ℕ) → Ends p j w u → In (connect n) (s.ch w j) → s.mark u j ≡ 1 → (GC S′ w ≡ j) × (n + 1 ≡ GL S′ w) × (s.lev u ≡ n)
+      old : (j w u n : ℕ) → Edge p j w u → In (connect n) (s.ch w j) → s.mark u j ≡ 1 → (GC S′ w ≡ j) × (n + 1 ≡ GL S′ w) × (s.lev u ≡ n)
       old j w u n e b m =
           let x = r.inv.C1.c1 j w u n e b m in
           let f : Jn s j w u = (r.inv.C1.c1m j w u n e b, m) in
           let o : U.Outside r w = U.sort r w (λ c. absurd (no-connect-decided (r.inv) j w u n e f (in-joined j w u e f c) b)) (λ o. o) in
           (U.gc-out r w o ∙ x .0, x .1 ∙ sym (U.gl-out r w o), x .2)
 
-  pub I1′ : Initiates p S′
-  I1′ = record {
+  pub I1-merge : Initiates p S′
+  I1-merge = record {
     i1 = λ j w u n f x e a.
         let b = was isI refl (omega arith) w j a in
         let q = r.inv.I1.i1 j w u n f x e b in
@@ -104,7 +104,7 @@ module _ {p : Network} {s : State} {v k y l : ℕ} (r : Ready p s v k y l) where
           i1l = q.i1l;
           i1g = omega (arith, q.i1g);
           i1f = q.i1f;
-          i1i = λ a b e. U.keep r a u (q.i1i a b e);
+          i1i = λ a b e. U.keep-merge r a u (q.i1i a b e);
           i1c = λ z. absurd (omega (arith, q.i1g));
           i1d = λ z. absurd (omega (arith, q.i1g));
           i1s = λ z. absurd (omega (arith, q.i1g));
@@ -117,29 +117,29 @@ module _ {p : Network} {s : State} {v k y l : ℕ} (r : Ready p s v k y l) where
           i1l = q.i1l;
           i1g = omega (arith, q.i1g);
           i1f = q.i1f;
-          i1i = λ a b e. U.keep r a u (q.i1i a b e);
+          i1i = λ a b e. U.keep-merge r a u (q.i1i a b e);
           i1c = λ z. q.i1c (z ∙ g) ∙ sym (U.gc-out r u o);
-          i1d = λ z. q.i1d (z ∙ g) ∙ sym (U.due-out r u o);
-          i1s = λ z n. U.inf-new r w (U.like r u w o (r.inv.M1.m3 j w u e (q.i1j))) (q.i1s (z ∙ g) (λ c. n (U.gc-out r u o ∙ c)));
+          i1d = λ z. q.i1d (z ∙ g) ∙ sym (U.due-out-merge r u o);
+          i1s = λ z n. U.inf-new-merge r w (U.like r u w o (r.inv.M1.m3 j w u e (q.i1j))) (q.i1s (z ∙ g) (λ c. n (U.gc-out r u o ∙ c)));
           i1z = λ z. q.i1z (omega arith);
         });
   }
 
-  pub T4′ : Telling p S′
-  T4′ = record {
-    u2 = λ j w c e b n. U.joined r j w c e b
+  pub T4-merge : Telling p S′
+  T4-merge = record {
+    u2 = λ j w c e b n. U.joined-merge r j w c e b
         (λ q d z. absurd (n (ap S′.ub (sym q) ∙ M.ub-new (r.inv) (r.turn) (U.mv r) ∙ z)))
         (λ q d z. absurd (n (ap S′.ub (sym q) ∙ M.ub-off (r.inv) (r.turn) (U.mv r) y (M.y≢v (r.inv) (r.turn) (U.mv r)) ∙ U.ok-y r .d1u ∙ z)))
         (λ f. M.joined-top (r.inv) (r.turn) (U.mv r) j w c e f n);
     t2i = λ j w c e b f n g.
-        let o = U.inf-out r w f in
+        let o = U.inf-out-merge r w f in
         let x = U.joined-out r j w c e o b in
-        let q = U.beyond r j w c e o x in
-        let a = r.inv.T4.t2i j w c e x (U.inf-old r w f) n (omega (arith, U.gl-out r c q)) in
+        let q = U.beyond-merge r j w c e o x in
+        let a = r.inv.T4.t2i j w c e x (U.inf-old-merge r w f) n (omega (arith, U.gl-out r c q)) in
         still w j (subst (λ n. In (initiate n (GC S′ w) (S′.due c)) (s.ch w j)) (sym (U.gl-out r w o))
         (subst (λ n. In (initiate (GL s w) n (S′.due c)) (s.ch w j)) (sym (U.gc-out r w o))
-        (subst (λ n. In (initiate (GL s w) (GC s w) n) (s.ch w j)) (sym (U.due-out r c q)) a)));
-    t4 = λ j a c e b g. U.joined r j a c e b
+        (subst (λ n. In (initiate (GL s w) (GC s w) n) (s.ch w j)) (sym (U.due-out-merge r c q)) a)));
+    t4 = λ j a c e b g. U.joined-merge r j a c e b
         (λ q d z. inl (omega (arith, ap (sumL isC) (at2 S′.ch q z), snoc-here s.ch v k (connect l) isC)))
         (λ q d z. inl (omega (
           arith,
@@ -149,9 +149,9 @@ module _ {p : Network} {s : State} {v k y l : ℕ} (r : Ready p s v k y l) where
         )))
         (λ x. let o = core-out j a c e x g in
         ⊎-elim (λ n. inl (omega (arith, M.grow (r.inv) (r.turn) (U.mv r) isC a j)))
-        (⊎-elim (λ n. inr (inl (still c j (subst (λ m. In (initiate m j 1) (s.ch c j)) (sym (U.gl-out r a o)) n)))) (λ n. inr (inr (U.inf-new r a o n))))
+        (⊎-elim (λ n. inr (inl (still c j (subst (λ m. In (initiate m j 1) (s.ch c j)) (sym (U.gl-out r a o)) n)))) (λ n. inr (inr (U.inf-new-merge r a o n))))
         (r.inv.T4.t4 j a c e x (sym (U.gc-out r a o) ∙ g)));
-    t4n = λ j a c e b g n. U.joined r j a c e b
+    t4n = λ j a c e b g n. U.joined-merge r j a c e b
         (λ q d z. (U.low-in r a (inl (ap s.fr (sym q))), λ x. y-only j c (initiate (GL S′ a) j 1) d z (was isI refl (omega arith) c j x)))
         (λ q d z. (U.low-in r a (inr (ap s.fr (sym q))), λ x. v-only j c (initiate (GL S′ a) j 1) d z (was isI refl (omega arith) c j x)))
         (λ x. let o = core-out j a c e x g in
@@ -160,63 +160,63 @@ module _ {p : Network} {s : State} {v k y l : ℕ} (r : Ready p s v k y l) where
   }
     where
       -- a core that was joined is another fragment's
-      core-out : (j a c : ℕ) → Ends p j a c → Jn s j a c → GC S′ a ≡ j → U.Outside r a
+      core-out : (j a c : ℕ) → Edge p j a c → Jn s j a c → GC S′ a ≡ j → U.Outside r a
       core-out j a c e x g = U.sort r a (λ f. absurd (U.not-k r j a c e x (sym (U.gc-in r a f) ∙ g))) (λ o. o)
 
-  pub E1′ : Testing p S′
-  E1′ = record {
+  pub E1-merge : Testing p S′
+  E1-merge = record {
     e1 = λ j w u n f e a.
         let b = was isT refl (omega arith) w j a in
         let x = r.inv.E1.e1 j w u n f e b in
         let o : U.Outside r w = U.sort r w (λ c. absurd (decided-test (r.inv) j w u n f e (U.in-decided r w c (x .2 .0)) b)) (λ o. o) in
-        (x .0, x .1, U.inf-new r w o (x .2));
-    e1w = λ j w u n f e a. ⊎-elim (λ x. inl x) (λ x. inr (x .0, x .1, x .2, U.keep r w u (x .3)))
+        (x .0, x .1, U.inf-new-merge r w o (x .2));
+    e1w = λ j w u n f e a. ⊎-elim (λ x. inl x) (λ x. inr (x .0, x .1, x .2, U.keep-merge r w u (x .3)))
         (M.asks (r.inv) (r.turn) (U.mv r) j w u n f e (was isT refl (omega arith) w j a));
     e2w = M.waits-two (r.inv) (r.turn) (U.mv r);
     e2c = M.waits-one (r.inv) (r.turn) (U.mv r);
-    m6t = M.served (r.inv) (r.turn) (U.mv r);
+    m6t = M.served-move (r.inv) (r.turn) (U.mv r);
   }
 
-  pub A1′ : Answers p S′
-  A1′ = record {
+  pub A1-merge : Answers p S′
+  A1-merge = record {
     a1 = λ j w u e n. let x = r.inv.A1.a1 j w u e (was isA refl (omega arith) w j n) in
         record {
           a1w = x.a1w;
           a1m = M.mark-wait (r.inv) (r.turn) (U.mv r) j u w (flip e) (x.a1w) ∙ x.a1m;
-          a1f = λ q. x.a1f (U.apart r u w (U.find-out r u (waits-find (r.inv) j u w (flip e) (x.a1w))) q);
+          a1f = λ q. x.a1f (U.apart-merge r u w (U.find-out-merge r u (waits-find (r.inv) j u w (flip e) (x.a1w))) q);
           a1l = x.a1l;
         };
     j1 = λ j w u e n. let x = r.inv.A1.j1 j w u e (was isA refl (omega arith) w j n) in
-        record { j1w = x.j1w; j1f = U.keep r w u (x.j1f); j1m = λ z. M.up2 (r.inv) (r.turn) (U.mv r) w j (x.j1m (M.dn0 (r.inv) (r.turn) (U.mv r) u j z)) };
+        record { j1w = x.j1w; j1f = U.keep-merge r w u (x.j1f); j1m = λ z. M.up2-move (r.inv) (r.turn) (U.mv r) w j (x.j1m (M.dn0-move (r.inv) (r.turn) (U.mv r) u j z)) };
   }
 
   -- ---- Reports, owed Reports, best weights
 
-  core : (j w u n : ℕ) → Ends p j w u → Jn s j w u → U.Outside r u → CoreEnds s w u j n → CoreEnds S′ w u j n
+  core : (j w u n : ℕ) → Edge p j w u → Jn s j w u → U.Outside r u → CoreEnds s w u j n → CoreEnds S′ w u j n
   core j w u n e b o x =
       let q = U.like r u w o (r.inv.M1.m3 j w u e b) in (
         U.gc-out r w q ∙ x .0,
-        U.dk-out r w q ∙ x .1,
-        U.inf-new r w q (x .2),
+        U.dk-out-merge r w q ∙ x .1,
+        U.inf-new-merge r w q (x .2),
         M.st-two (r.inv) (r.turn) (U.mv r) w (x .3),
         x .4,
-        λ a f. ⊎-elim (λ g. x .5 a g) (λ z. z) (M.behind (r.inv) (r.turn) (U.mv r) w j u n a b f),
-        ⊎-elim (λ c. inl (U.inf-new r u o (c .0), M.call-same (r.inv) (r.turn) (U.mv r) w j u b ∙ c .1))
+        λ a f. ⊎-elim (λ g. x .5 a g) (λ z. z) (M.behind-move (r.inv) (r.turn) (U.mv r) w j u n a b f),
+        ⊎-elim (λ c. inl (U.inf-new-merge r u o (c .0), M.call-same (r.inv) (r.turn) (U.mv r) w j u b ∙ c .1))
             (λ c. inr (omega (arith, U.gl-out r u o, c .0), still w j (subst (λ m. In (initiate m j 1) (s.ch w j)) (sym (U.gl-out r u o)) (c .1)))) (x .6),
       )
 
-  spent : (j w u n : ℕ) → Ends p j w u → In (report n) (s.ch w j) → Spent p s w u j n → Spent p S′ w u j n
+  spent : (j w u n : ℕ) → Edge p j w u → In (report n) (s.ch w j) → Spent p s w u j n → Spent p S′ w u j n
   spent j w u n e b x = (
     x .0,
     x .1,
     M.ub-off (r.inv) (r.turn) (U.mv r) u (M.spent-off (r.inv) (r.turn) (U.mv r) j w u n e b (x .0)) ∙ x .2,
     M.st-two (r.inv) (r.turn) (U.mv r) u (x .3),
-    λ a f. x .4 a (M.ahead (r.inv) (r.turn) (U.mv r) w j n a f),
-    ⊎-elim (λ c. inl c) (λ c. let o = U.dk-other r u (omega (arith, c .2)) (λ z. omega (arith, c .2)) in inr (c .0, c .1, U.dk-out r u o ∙ c .2, U.gc-out r u o ∙ c .3)) (x .5),
+    λ a f. x .4 a (M.ahead-move (r.inv) (r.turn) (U.mv r) w j n a f),
+    ⊎-elim (λ c. inl c) (λ c. let o = U.dk-other r u (omega (arith, c .2)) (λ z. omega (arith, c .2)) in inr (c .0, c .1, U.dk-out-merge r u o ∙ c .2, U.gc-out r u o ∙ c .3)) (x .5),
   )
 
-  pub R1′ : Reports p S′
-  R1′ = record {
+  pub R1-merge : Reports p S′
+  R1-merge = record {
     r1r = λ j w u n e a. r.inv.R1.r1r j w u n e (was isR refl (omega arith) w j a);
     r1j = λ j w u n e a. M.both-up (r.inv) (r.turn) (U.mv r) j w u (r.inv.R1.r1j j w u n e (was isR refl (omega arith) w j a));
     r1 = λ j w u n e a.
@@ -226,68 +226,68 @@ module _ {p : Network} {s : State} {v k y l : ℕ} (r : Ready p s v k y l) where
         (λ o. ⊎-elim (λ x. inl (child j w u n e f o x)) (⊎-elim (λ x. inr (inl (core j w u n e f o x))) (λ x. inr (inr (spent j w u n e b x)))) (r.inv.R1.r1 j w u n e b));
     r1c = λ j w u n e a f z g.
         let b = was isR refl (omega arith) w j a in
-        let o = U.inf-out r u f in
-        core j w u n e (r.inv.R1.r1j j w u n e b) o (r.inv.R1.r1c j w u n e b (U.inf-old r u f) (sym (U.dk-out r u o) ∙ z) (sym (U.gc-out r u o) ∙ g));
+        let o = U.inf-out-merge r u f in
+        core j w u n e (r.inv.R1.r1j j w u n e b) o (r.inv.R1.r1c j w u n e b (U.inf-old-merge r u f) (sym (U.dk-out-merge r u o) ∙ z) (sym (U.gc-out r u o) ∙ g));
   }
     where
-      child : (j w u n : ℕ) → Ends p j w u → Jn s j w u → U.Outside r u → Child s w u j n → Child S′ w u j n
+      child : (j w u n : ℕ) → Edge p j w u → Jn s j w u → U.Outside r u → Child s w u j n → Child S′ w u j n
       child j w u n e b o x =
           let q = U.like r u w o (r.inv.M1.m3 j w u e b) in (
-            U.inf-new r w q (x .0),
+            U.inf-new-merge r w q (x .0),
             x .1,
             λ z. x .2 (sym (U.gc-out r w q) ∙ z),
             M.st-two (r.inv) (r.turn) (U.mv r) w (x .3),
             x .4,
-            U.inf-new r u o (x .5),
+            U.inf-new-merge r u o (x .5),
             M.st-new (r.inv) (r.turn) (U.mv r) u (x .6),
             M.call-same (r.inv) (r.turn) (U.mv r) w j u b ∙ x .7,
           )
 
   outst-new : (c j : ℕ) → U.Outside r c → Outst s c j → Outst S′ c j
-  outst-new c j o (inl x) = inl (U.inf-new r c o (x .0), ⊎-elim (λ f. inl (M.st-new (r.inv) (r.turn) (U.mv r) c f)) (λ f. inr (omega (arith, same isR refl c j))) (x .1))
-  outst-new c j o (inr x) = inr (omega (arith, U.gl-out r c o, x .0), U.due-out r c o ∙ x .1)
+  outst-new c j o (inl x) = inl (U.inf-new-merge r c o (x .0), ⊎-elim (λ f. inl (M.st-new (r.inv) (r.turn) (U.mv r) c f)) (λ f. inr (omega (arith, same isR refl c j))) (x .1))
+  outst-new c j o (inr x) = inr (omega (arith, U.gl-out r c o, x .0), U.due-out-merge r c o ∙ x .1)
 
   outst-old : (c j : ℕ) → U.Outside r c → Outst S′ c j → Outst s c j
-  outst-old c j o (inl x) = inl (U.inf-old r c (x .0), ⊎-elim (λ f. inl (M.st-old (r.inv) (r.turn) (U.mv r) c f)) (λ f. inr (omega (arith, same isR refl c j))) (x .1))
-  outst-old c j o (inr x) = inr (omega (arith, U.gl-out r c o, x .0), sym (U.due-out r c o) ∙ x .1)
+  outst-old c j o (inl x) = inl (U.inf-old-merge r c (x .0), ⊎-elim (λ f. inl (M.st-old (r.inv) (r.turn) (U.mv r) c f)) (λ f. inr (omega (arith, same isR refl c j))) (x .1))
+  outst-old c j o (inr x) = inr (omega (arith, U.gl-out r c o, x .0), sym (U.due-out-merge r c o) ∙ x .1)
 
-  pub F4c′ : Owing p S′
-  F4c′ = record {
+  pub F4c-merge : Owing p S′
+  F4c-merge = record {
     f4y = λ j w c e n.
         let x = r.inv.F4c.f4y j w c e n in
-        let o = U.find-out r w (parent-find (r.inv) j w c e (x .0) (x .1) (x .2) (x .3)) in
-        (U.inf-new r w o (x .0), M.both-up (r.inv) (r.turn) (U.mv r) j w c (x .1), x .2, outst-new c j (U.beyond r j w c e o (x .1)) (x .3));
+        let o = U.find-out-merge r w (parent-find (r.inv) j w c e (x .0) (x .1) (x .2) (x .3)) in
+        (U.inf-new-merge r w o (x .0), M.both-up (r.inv) (r.turn) (U.mv r) j w c (x .1), x .2, outst-new c j (U.beyond-merge r j w c e o (x .1)) (x .3));
     f4n = λ j w c e f b n x.
-        let o = U.inf-out r w f in
+        let o = U.inf-out-merge r w f in
         let a = U.joined-out r j w c e o b in
-        r.inv.F4c.f4n j w c e (U.inf-old r w f) a n (outst-old c j (U.beyond r j w c e o a) x);
+        r.inv.F4c.f4n j w c e (U.inf-old-merge r w f) a n (outst-old c j (U.beyond-merge r j w c e o a) x);
   }
 
-  live : (x : ℕ) → U.Outside r x → Live s x → Live S′ x
+  live : (x : ℕ) → U.Outside r x → Counting s x → Counting S′ x
   live x o (inl f) = inl (M.st-new (r.inv) (r.turn) (U.mv r) x f)
   live x o (inr (inl g)) = inr (inl (g ∙ sym (U.gc-out r x o)))
   live x o (inr (inr n)) = inr (inr (omega (arith, same isR refl x (s.ib x))))
 
-  pub B2′ : Bests p S′
-  B2′ = record {
+  pub B2-merge : Bests p S′
+  B2-merge = record {
     b1e = λ w f n a.
-        let o = U.inf-out r w f in
-        let x = r.inv.B2.b1e w (U.inf-old r w f) n a in (
+        let o = U.inf-out-merge r w f in
+        let x = r.inv.B2.b1e w (U.inf-old-merge r w f) n a in (
           x .0,
           x .1,
           M.both-up (r.inv) (r.turn) (U.mv r) (s.be w) w (x .0) (x .2),
           x .3,
-          U.inf-new r (x .0) (U.beyond r (s.be w) w (x .0) (x .1) o (x .2)) (x .4),
+          U.inf-new-merge r (x .0) (U.beyond-merge r (s.be w) w (x .0) (x .1) o (x .2)) (x .4),
           x .5,
           x .6,
           M.st-two (r.inv) (r.turn) (U.mv r) (x .0) (x .7),
           same isR refl (x .0) (s.be w) ∙ x .8,
         );
-    b2 = λ j u w e a z n. U.sort r u (λ c. inl (U.low-in r u c, U.due-in r u c))
-        (λ o. ⊎-elim (λ x. inl (omega (arith, U.gl-out r u o, x .0), U.due-out r u o ∙ x .1))
+    b2 = λ j u w e a z n. U.sort r u (λ c. inl (U.low-in r u c, U.due-in-merge r u c))
+        (λ o. ⊎-elim (λ x. inl (omega (arith, U.gl-out r u o, x .0), U.due-out-merge r u o ∙ x .1))
         (⊎-elim (λ x. inr (inl x)) (⊎-elim (λ x. inr (inr (inl x))) (λ x. inr (inr (inr (covered u (rank p j) o x))))))
-        (r.inv.B2.b2 j u w e (M.dn0 (r.inv) (r.turn) (U.mv r) u j a) (sym (U.dk-out r u o) ∙ z) (omega (arith, U.gl-out r u o))));
+        (r.inv.B2.b2 j u w e (M.dn0-move (r.inv) (r.turn) (U.mv r) u j a) (sym (U.dk-out-merge r u o) ∙ z) (omega (arith, U.gl-out r u o))));
   }
     where
       covered : (u n : ℕ) → U.Outside r u → Covered p s u n → Covered p S′ u n
-      covered u n o x = let q = U.like r u (x .0) o (x .1) in (x .0, U.keep r (x .0) u (x .1), U.inf-new r (x .0) q (x .2), x .3, live (x .0) q (x .4), x .5)
+      covered u n o x = let q = U.like r u (x .0) o (x .1) in (x .0, U.keep-merge r (x .0) u (x .1), U.inf-new-merge r (x .0) q (x .2), x .3, live (x .0) q (x .4), x .5)

@@ -1,11 +1,11 @@
 -- v's fragment takes a decision of kind d with node v and edge k, as v sends m over it: 3 for a Connect, 2 for a Change-root.
--- What differs between the two is in `Own`; the rest is proved here once.
-use Rattle.protocol.specs.Prelude.{ℕ, _≤_, arith, _≡_, refl, sym, ap, subst, _∙_, _≢_, _⊎_, inl, inr, ⊎-elim, by-eq, last, init-ok}
+-- What differs between the two is in `PassCase`; the rest is proved here once.
+use Rattle.protocol.specs.Prelude.{ℕ, _≤_, arith, _≡_, refl, sym, ap, subst, _∙_, _≢_, _⊎_, inl, inr, ⊎-elim, by-eq, last-case, init-ok}
 use Rattle.protocol.specs.Prelude.{upd, upd-elim, upd-same, upd-other, upd2, upd2-elim, All, at2}
 use Rattle.protocol.specs.Prelude.{Msg, connect, report, change}
-use Rattle.protocol.specs.Prelude.{Network, Ends, Tree, flip, State, set-st, set-oo, set-ub, send, marked, decided}
+use Rattle.protocol.specs.Prelude.{Network, Edge, Tree, flip, ProtocolState, set-st, set-oo, set-ub, sendOver, remarked, decided}
 use Rattle.protocol.specs.Prelude.{isC, isI, isT, isA, isR, isK, Only, In, snoc, snoc-in, snoc-all}
-use Rattle.protocol.specs.Prelude.{Both, Decision, GL, DK, Inf, Jn, Outst, Live, CoreEnds, Spent, Inv, joined-level}
+use Rattle.protocol.specs.Prelude.{Both, Decision, GL, DK, Inf, Jn, Outst, Counting, CoreEnds, Spent, Inv, joined-level}
 use Rattle.protocol.specs.Fragments.{Ranges, Cores, Sleepers, Marks, Inbounds}
 use Rattle.protocol.specs.Decisions.{HalfOk, Halves, ChangingOk, ChangeRoots, Rootings, Finishes}
 use Rattle.protocol.specs.Search.{Parents, Kids, Finds, Tests}
@@ -14,7 +14,7 @@ use Rattle.protocol_merge.specs.Turn.{Turn}
 use Rattle.protocol_merge.specs.Move as M
 use Rattle.protocol_merge.specs.Move.{Move}
 
-pub record Own (p : Network) (s : State) (v y k d : ℕ) (m : Msg) : Type 0 where
+pub record PassCase (p : Network) (s : ProtocolState) (v y k d : ℕ) (m : Msg) : Type 0 where
   pub low : 2 ≤ d
   pub high : d ≤ 3
   -- k is joined afterwards only if it was
@@ -29,9 +29,9 @@ pub record Own (p : Network) (s : State) (v y k d : ℕ) (m : Msg) : Type 0 wher
   pub changing-ok : d ≡ 2 → ChangingOk p s.fr s.gl s.gc s.lev s.ib (upd s.ub v k) s.bw (upd2 s.mark v k 1) k v y
   pub changing-in : d ≡ 2 → In change (snoc s.ch v k m v k)
 
-module _ {p : Network} {s : State} (i : Inv p s) {v y k d : ℕ} {m : Msg} (t : Turn p s v) (h : Move p s v y k m) (o : Own p s v y k d m) where
-  abbrev pub S′ : State
-  S′ = set-oo (set-st (decided (set-ub (marked (send s v k m) v k 1) (upd s.ub v k)) v d v k) (upd s.st v 2)) 0
+module _ {p : Network} {s : ProtocolState} (i : Inv p s) {v y k d : ℕ} {m : Msg} (t : Turn p s v) (h : Move p s v y k m) (o : PassCase p s v y k d m) where
+  abbrev pub S′ : ProtocolState
+  S′ = set-oo (set-st (decided (set-ub (remarked (sendOver s v k m) v k 1) (upd s.ub v k)) v d v k) (upd s.st v 2)) 0
 
   -- ---- the decision of v's fragment, and of the others
 
@@ -76,26 +76,26 @@ module _ {p : Network} {s : State} (i : Inv p s) {v y k d : ℕ} {m : Msg} (t : 
   decision-node : (w : ℕ) → (DK s w ≡ DK S′ w → s.fr (s.dn (s.fr w)) ≡ s.fr w) → s.fr (S′.dn (s.fr w)) ≡ s.fr w
   decision-node w f = by-eq (s.fr v) (s.fr w) (λ q. ap s.fr (dn-in w q) ∙ q) (λ n. ap s.fr (dn-off w n) ∙ f (sym (dk-off w n)))
 
-  decision-edge : (w : ℕ) → (DK s w ≡ DK S′ w → (x : ℕ) × Ends p (s.de (s.fr w)) (s.dn (s.fr w)) x) → (x : ℕ) × Ends p (S′.de (s.fr w)) (S′.dn (s.fr w)) x
+  decision-edge : (w : ℕ) → (DK s w ≡ DK S′ w → (x : ℕ) × Edge p (s.de (s.fr w)) (s.dn (s.fr w)) x) → (x : ℕ) × Edge p (S′.de (s.fr w)) (S′.dn (s.fr w)) x
   decision-edge w f = by-eq (s.fr v) (s.fr w)
       (λ q. (y, moved k v y (sym (de-in w q)) (sym (dn-in w q)) (h.ends)))
       (λ n. let x = f (sym (dk-off w n)) in (x .0, moved (s.de (s.fr w)) (s.dn (s.fr w)) (x .0) (sym (de-off w n)) (sym (dn-off w n)) (x .1)))
     where
-      moved : (j z x : ℕ) {j′ z′ : ℕ} → j ≡ j′ → z ≡ z′ → Ends p j z x → Ends p j′ z′ x
-      moved j z x {j′} a b e = subst (λ n. Ends p j′ n x) b (subst (λ n. Ends p n z x) a e)
+      moved : (j z x : ℕ) {j′ z′ : ℕ} → j ≡ j′ → z ≡ z′ → Edge p j z x → Edge p j′ z′ x
+      moved j z x {j′} a b e = subst (λ n. Edge p j′ n x) b (subst (λ n. Edge p n z x) a e)
 
   -- what holds of k, v, y holds of these
-  at-own : (P : ℕ → ℕ → ℕ → Type 0) (j z x : ℕ) → Ends p j z x → v ≡ z → k ≡ j → P k v y → P j z x
+  at-own : (P : ℕ → ℕ → ℕ → Type 0) (j z x : ℕ) → Edge p j z x → v ≡ z → k ≡ j → P k v y → P j z x
   at-own P j z x e a b f = subst (λ n. P j z n) (M.far-end i t h j z x e a b) (subst (λ n. P j n y) a (subst (λ n. P n v y) b f))
 
   -- ---- joined edges, informed nodes
 
-  joined-was : (j a b : ℕ) → Ends p j a b → Both S′.mark j a b → Jn s j a b
-  joined-was j a b e x = M.dn1 i t h a j (x .0) (λ q r. at-own (λ j a b. Both S′.mark j a b → Jn s j a b) j a b e q r here x)
-      (λ f. M.dn1 i t h b j (x .1) (λ q r. let g = at-own (λ j a b. Both S′.mark j a b → Jn s j a b) j b a (flip e) q r here (x .1, x .0) in (g .1, g .0)) (λ g. (f, g)))
+  joined-was : (j a b : ℕ) → Edge p j a b → Both S′.mark j a b → Jn s j a b
+  joined-was j a b e x = M.dn1-move i t h a j (x .0) (λ q r. at-own (λ j a b. Both S′.mark j a b → Jn s j a b) j a b e q r here x)
+      (λ f. M.dn1-move i t h b j (x .1) (λ q r. let g = at-own (λ j a b. Both S′.mark j a b → Jn s j a b) j b a (flip e) q r here (x .1, x .0) in (g .1, g .0)) (λ g. (f, g)))
     where
       here : Both S′.mark k v y → Jn s k v y
-      here x = let f = sym (M.mark-off i t h y k (M.y≢v i t h)) ∙ x .1 in ⊎-elim (λ z. (z, f)) (λ n. absurd (n f)) (o.joins)
+      here x = let f = sym (M.mark-off-move i t h y k (M.y≢v i t h)) ∙ x .1 in ⊎-elim (λ z. (z, f)) (λ n. absurd (n f)) (o.joins)
 
   away : (w : ℕ) → s.fr v ≢ s.fr w → v ≢ w
   away w n q = n (ap s.fr q)
@@ -105,17 +105,17 @@ module _ {p : Network} {s : State} (i : Inv p s) {v y k d : ℕ} {m : Msg} (t : 
   inf-off w f z q = omega (arith, t.alone (ap s.dk q ∙ z), ap s.gl q, f .0)
 
   outst-new : (c j : ℕ) → Outst s c j → Outst S′ c j
-  outst-new c j (inl x) = inl (x .0, ⊎-elim (λ f. inl (M.st-new i t h c f)) (λ r. inr (omega (arith, M.same i t h isR (h.not-r) c j))) (x .1))
+  outst-new c j (inl x) = inl (x .0, ⊎-elim (λ f. inl (M.st-new i t h c f)) (λ r. inr (omega (arith, M.same-move i t h isR (h.not-r) c j))) (x .1))
   outst-new c j (inr x) = inr x
 
   outst-old : (c j : ℕ) → Outst S′ c j → Outst s c j
-  outst-old c j (inl x) = inl (x .0, ⊎-elim (λ f. inl (M.st-old i t h c f)) (λ r. inr (omega (arith, M.same i t h isR (h.not-r) c j))) (x .1))
+  outst-old c j (inl x) = inl (x .0, ⊎-elim (λ f. inl (M.st-old i t h c f)) (λ r. inr (omega (arith, M.same-move i t h isR (h.not-r) c j))) (x .1))
   outst-old c j (inr x) = inr x
 
-  live : (x : ℕ) → Live s x → Live S′ x
+  live : (x : ℕ) → Counting s x → Counting S′ x
   live x (inl f) = inl (M.st-new i t h x f)
   live x (inr (inl g)) = inr (inl g)
-  live x (inr (inr r)) = inr (inr (omega (arith, M.same i t h isR (h.not-r) x (s.ib x))))
+  live x (inr (inr r)) = inr (inr (omega (arith, M.same-move i t h isR (h.not-r) x (s.ib x))))
 
   core : (j w u n : ℕ) → Jn s j w u → CoreEnds s w u j n → CoreEnds S′ w u j n
   core j w u n b x = (
@@ -124,17 +124,17 @@ module _ {p : Network} {s : State} (i : Inv p s) {v y k d : ℕ} {m : Msg} (t : 
     x .2,
     M.st-two i t h w (x .3),
     x .4,
-    λ a f. ⊎-elim (λ g. x .5 a g) (λ z. z) (M.behind i t h w j u n a b f),
+    λ a f. ⊎-elim (λ g. x .5 a g) (λ z. z) (M.behind-move i t h w j u n a b f),
     ⊎-elim (λ r. inl (r .0, M.call-same i t h w j u b ∙ r .1)) (λ r. inr (r .0, M.new i t h w j (r .1))) (x .6),
   )
 
-  spent : (j w u n : ℕ) → Ends p j w u → In (report n) (s.ch w j) → Spent p s w u j n → Spent p S′ w u j n
+  spent : (j w u n : ℕ) → Edge p j w u → In (report n) (s.ch w j) → Spent p s w u j n → Spent p S′ w u j n
   spent j w u n e b x = (
     x .0,
     x .1,
     M.ub-off i t h u (M.spent-off i t h j w u n e b (x .0)) ∙ x .2,
     M.st-two i t h u (x .3),
-    λ a f. x .4 a (M.ahead i t h w j n a f),
+    λ a f. x .4 a (M.ahead-move i t h w j n a f),
     ⊎-elim (λ l. inl l) (λ l. inr (l .0, l .1, dk-off u (dk-other u (omega (arith, l .2))) ∙ l .2, l .3)) (x .5),
   )
 
@@ -168,7 +168,7 @@ module _ {p : Network} {s : State} (i : Inv p s) {v y k d : ℕ} {m : Msg} (t : 
         (λ q. dk-in w q ∙ single (ap s.gl q ∙ g))
         (λ q. dk-off w q ∙ i.G6.g7 j w u e (M.st-awake i t h w (away w q) n) g);
     g7n = λ w n g e. by-eq v w
-        (λ q. absurd (e k y (subst (λ x. Ends p k x y) q (h.ends))))
+        (λ q. absurd (e k y (subst (λ x. Edge p k x y) q (h.ends))))
         (λ q. let b = i.G6.g7n w (M.st-awake i t h w q n) g e in (dk-off w (λ r. q (i.G4.g4s w v g r)) ∙ b .0, b .1));
   }
     where
@@ -179,10 +179,10 @@ module _ {p : Network} {s : State} (i : Inv p s) {v y k d : ℕ} {m : Msg} (t : 
   M1′ : Marks p s.fr S′.mark
   M1′ = record {
     own = M.own i t h;
-    m1 = M.beyond i t h;
+    m1 = M.beyond-move i t h;
     m3 = λ j w u e b. i.M1.m3 j w u e (joined-was j w u e b);
     m4 = M.wide i t h;
-    m5 = λ j w u e z. M.dn1 i t h w j z (λ q r. subst (λ n. Tree p n) r (o.tree)) (λ f. i.M1.m5 j w u e f);
+    m5 = λ j w u e z. M.dn1-move i t h w j z (λ q r. subst (λ n. Tree p n) r (o.tree)) (λ f. i.M1.m5 j w u e f);
   }
 
   U1′ : Inbounds p S′.ub s.ib S′.mark
@@ -190,26 +190,26 @@ module _ {p : Network} {s : State} (i : Inv p s) {v y k d : ℕ} {m : Msg} (t : 
 
   D1′ : Halves p S′.dk S′.dn S′.de s.fr s.gl s.lev S′.ub S′.mark
   D1′ = record {
-    m2 = λ j w u e a b. M.dn1 i t h w j a
+    m2 = λ j w u e a b. M.dn1-move i t h w j a
         (λ q r. let f = M.far-end i t h j w u e q r in
-        let z = o.half (λ z. b (M.up1 i t h u j (sym (at2 s.mark f r) ∙ z))) in
+        let z = o.half (λ z. b (M.up1-move i t h u j (sym (at2 s.mark f r) ∙ z))) in
         (dk-in w (ap s.fr q) ∙ z, dn-in w (ap s.fr q) ∙ q, de-in w (ap s.fr q) ∙ r))
-        (λ z. new-decision 3 w j (omega arith) (i.D1.m2 j w u e z (λ f. b (M.up1 i t h u j f))));
+        (λ z. new-decision 3 w j (omega arith) (i.D1.m2 j w u e z (λ f. b (M.up1-move i t h u j f))));
     d1f = λ w z. decision-node w (λ q. i.D1.d1f w (q ∙ z));
     d1e = λ w z. decision-edge w (λ q. i.D1.d1e w (q ∙ z));
     d1 = λ j z x e a. by-eq (s.fr v) (s.fr z)
         (λ q. let b = own-decision 3 z j q a in at-own (λ j z x. HalfOk p s.fr s.gl s.lev S′.ub S′.mark j z x) j z x e (b .1) (b .2) (o.half-ok (b .0)))
         (λ n. let b = i.D1.d1 j z x e (old-decision 3 z j n a) in
         record {
-          d1m = M.up1 i t h z j (b.d1m);
+          d1m = M.up1-move i t h z j (b.d1m);
           d1y = upd2-elim (λ r. r ≡ 0) s.mark v k 1 x j
-              (λ q r. let g = joined-was j x z (flip e) (sym (at2 S′.mark q r) ∙ M.mark-new i t h, M.up1 i t h z j (b.d1m)) in absurd (omega (arith, g .0, b.d1y)))
+              (λ q r. let g = joined-was j x z (flip e) (sym (at2 S′.mark q r) ∙ M.mark-new i t h, M.up1-move i t h z j (b.d1m)) in absurd (omega (arith, g .0, b.d1y)))
               (λ r. b.d1y);
           d1o = b.d1o;
           d1g = b.d1g;
           d1l = b.d1l;
           d1u = M.ub-off i t h z (away z n) ∙ b.d1u;
-          d1b = λ w f u q g r. b.d1b w f u q g (M.dn0 i t h w f r);
+          d1b = λ w f u q g r. b.d1b w f u q g (M.dn0-move i t h w f r);
         });
   }
 
@@ -229,7 +229,7 @@ module _ {p : Network} {s : State} (i : Inv p s) {v y k d : ℕ} {m : Msg} (t : 
           d2u = M.ub-off i t h u (away u n) ∙ b.d2u;
           d2v = M.ub-off i t h x (away x (λ q. n (q ∙ sym (i.M1.m3 j u x e (b.d2j))))) ∙ b.d2v;
           d2w = b.d2w;
-          d2n = λ w f c q g r. b.d2n w f c q g (M.dn0 i t h w f r);
+          d2n = λ w f c q g r. b.d2n w f c q g (M.dn0-move i t h w f r);
         });
   }
 
@@ -249,7 +249,7 @@ module _ {p : Network} {s : State} (i : Inv p s) {v y k d : ℕ} {m : Msg} (t : 
 
   D4′ : Finishes p S′.dk s.fr s.gl s.gc s.lev s.bw s.halt s.due S′.mark
   D4′ = record {
-    d4 = λ j w u e z f. i.D4.d4 j w u e (finished w z) (M.dn0 i t h w j f);
+    d4 = λ j w u e z f. i.D4.d4 j w u e (finished w z) (M.dn0-move i t h w j f);
     d4i = λ j a b e g z l. i.D4.d4i j a b e g (finished a z) l;
     d5 = λ w n. by-eq (s.fr v) (s.fr w) (λ q. t.no-due w (sym q)) (λ f. i.D4.d5 w (λ z. n (dk-off w f ∙ z)));
     d6 = λ w n. let x = i.D4.d6 w n in dk-off w (dk-other w (omega (arith, x))) ∙ x;
@@ -280,7 +280,7 @@ module _ {p : Network} {s : State} (i : Inv p s) {v y k d : ℕ} {m : Msg} (t : 
   }
 
   E2′ : Tests p s.te s.ib S′.mark s.ot
-  E2′ = M.tests i t h (λ j w u e a b. joined-was j w u e b)
+  E2′ = M.tests-move i t h (λ j w u e a b. joined-was j w u e b)
 
   Dc′ : Tokens p S′
   Dc′ = record {
@@ -297,18 +297,18 @@ module _ {p : Network} {s : State} (i : Inv p s) {v y k d : ℕ} {m : Msg} (t : 
         (λ a. let q = ap s.fr (a .0) in (dk-in u q ∙ o.changing (sym (ap isK (a .2))), dn-in u q ∙ a .0, de-in u q ∙ a .1))
         (snoc-in s.ch v k m u j n);
     d3r = λ j a b e z. absurd (no-root a (z .0));
-    d4h = λ j a b e g z l f n. i.Dc.d4h j a b e g (finished a z) l f (M.old i t h isR (h.not-r) (omega arith) b j n);
+    d4h = λ j a b e g z l f n. i.Dc.d4h j a b e g (finished a z) l f (M.old-move i t h isR (h.not-r) (omega arith) b j n);
     d4r = λ j a b e g z l f. M.new i t h b j (i.Dc.d4r j a b e g (finished a z) l f);
     d7 = λ j a b e g z f r. let x = undecided a z in
-        ⊎-elim (λ q. inl (omega (arith, M.same i t h isR (h.not-r) a j)))
-        (λ q. inr (q .0, M.st-two i t h b (q .1), q .2, omega (arith, q .3, M.same i t h isR (h.not-r) b j)))
+        ⊎-elim (λ q. inl (omega (arith, M.same-move i t h isR (h.not-r) a j)))
+        (λ q. inr (q .0, M.st-two i t h b (q .1), q .2, omega (arith, q .3, M.same-move i t h isR (h.not-r) b j)))
         (i.Dc.d7 j a b e g (x .1) f (sym (upd-other s.st v 2 a (away a (x .0))) ∙ r));
   }
 
   C1′ : Connects p S′
   C1′ = record {
     c1m = M.caller i t h;
-    c1 = λ j w u l e n z. ⊎-elim (λ a. i.C1.c1 j w u l e a (joined-was j w u e (M.up1 i t h w j (i.C1.c1m j w u l e a), z) .1))
+    c1 = λ j w u l e n z. ⊎-elim (λ a. i.C1.c1 j w u l e a (joined-was j w u e (M.up1-move i t h w j (i.C1.c1m j w u l e a), z) .1))
         (λ a. let b = joined-was j w u e (M.caller i t h j w u l e n, z) in
         absurd (⊎-elim (λ r. omega (arith, r .0, ap isC (a .2))) (λ r. omega (arith, b .0, at2 s.mark (a .0) (a .1))) (h.call)))
         (snoc-in s.ch v k m w j n);
@@ -316,7 +316,7 @@ module _ {p : Network} {s : State} (i : Inv p s) {v y k d : ℕ} {m : Msg} (t : 
 
   I1′ : Initiates p S′
   I1′ = record {
-    i1 = λ j w u l f x e n. let r = i.I1.i1 j w u l f x e (M.old i t h isI (h.not-i) (omega arith) w j n) in
+    i1 = λ j w u l f x e n. let r = i.I1.i1 j w u l f x e (M.old-move i t h isI (h.not-i) (omega arith) w j n) in
         init-ok r (M.both-up i t h j w u (r.i1j)) (M.ub-off i t h u (M.low-off i t h u (omega (arith, r.i1l, r.i1g))) ∙ r.i1u) refl;
   }
 
@@ -328,24 +328,24 @@ module _ {p : Network} {s : State} (i : Inv p s) {v y k d : ℕ} {m : Msg} (t : 
         (i.T4.t4 j a c e (joined-was j a c e b) g);
     t4n = λ j a c e b g n. let f = joined-was j a c e b in
         let x = i.T4.t4n j a c e f g (omega (arith, M.conn-same i t h a j c f)) in
-        (x .0, λ r. x .1 (M.old i t h isI (h.not-i) (omega arith) c j r));
+        (x .0, λ r. x .1 (M.old-move i t h isI (h.not-i) (omega arith) c j r));
   }
 
   E1′ : Testing p S′
   E1′ = record {
-    e1 = λ j w u l f e n. i.E1.e1 j w u l f e (M.old i t h isT (h.not-t) (omega arith) w j n);
-    e1w = λ j w u l f e n. M.asks i t h j w u l f e (M.old i t h isT (h.not-t) (omega arith) w j n);
+    e1 = λ j w u l f e n. i.E1.e1 j w u l f e (M.old-move i t h isT (h.not-t) (omega arith) w j n);
+    e1w = λ j w u l f e n. M.asks i t h j w u l f e (M.old-move i t h isT (h.not-t) (omega arith) w j n);
     e2w = M.waits-two i t h;
     e2c = M.waits-one i t h;
-    m6t = M.served i t h;
+    m6t = M.served-move i t h;
   }
 
   A1′ : Answers p S′
   A1′ = record {
-    a1 = λ j w u e n. let r = i.A1.a1 j w u e (M.old i t h isA (h.not-a) (omega arith) w j n) in
+    a1 = λ j w u e n. let r = i.A1.a1 j w u e (M.old-move i t h isA (h.not-a) (omega arith) w j n) in
         record { a1w = r.a1w; a1m = M.mark-wait i t h j u w (flip e) (r.a1w) ∙ r.a1m; a1f = r.a1f; a1l = r.a1l };
-    j1 = λ j w u e n. let r = i.A1.j1 j w u e (M.old i t h isA (h.not-a) (omega arith) w j n) in
-        record { j1w = r.j1w; j1f = r.j1f; j1m = λ z. M.up2 i t h w j (r.j1m (M.dn0 i t h u j z)) };
+    j1 = λ j w u e n. let r = i.A1.j1 j w u e (M.old-move i t h isA (h.not-a) (omega arith) w j n) in
+        record { j1w = r.j1w; j1f = r.j1f; j1m = λ z. M.up2-move i t h w j (r.j1m (M.dn0-move i t h u j z)) };
   }
 
   R1′ : Reports p S′
@@ -360,7 +360,7 @@ module _ {p : Network} {s : State} (i : Inv p s) {v y k d : ℕ} {m : Msg} (t : 
   }
     where
       was : (w j n : ℕ) → In (report n) (S′.ch w j) → In (report n) (s.ch w j)
-      was w j n a = M.old i t h isR (h.not-r) (omega arith) w j a
+      was w j n a = M.old-move i t h isR (h.not-r) (omega arith) w j a
 
   F4c′ : Owing p S′
   F4c′ = record {
@@ -371,8 +371,8 @@ module _ {p : Network} {s : State} (i : Inv p s) {v y k d : ℕ} {m : Msg} (t : 
   B2′ : Bests p S′
   B2′ = record {
     b1e = λ w f n a. let x = i.B2.b1e w f n a in
-        (x .0, x .1, M.both-up i t h (s.be w) w (x .0) (x .2), x .3, x .4, x .5, x .6, M.st-two i t h (x .0) (x .7), M.same i t h isR (h.not-r) (x .0) (s.be w) ∙ x .8);
-    b2 = λ j u w e a z l. last (λ x. (x .0, x .1, x .2, x .3, live (x .0) (x .4), x .5)) (i.B2.b2 j u w e (M.dn0 i t h u j a) (undecided u z .1) l);
+        (x .0, x .1, M.both-up i t h (s.be w) w (x .0) (x .2), x .3, x .4, x .5, x .6, M.st-two i t h (x .0) (x .7), M.same-move i t h isR (h.not-r) (x .0) (s.be w) ∙ x .8);
+    b2 = λ j u w e a z l. last-case (λ x. (x .0, x .1, x .2, x .3, live (x .0) (x .4), x .5)) (i.B2.b2 j u w e (M.dn0-move i t h u j a) (undecided u z .1) l);
   }
 
   pub inv-pass : Inv p S′
@@ -392,7 +392,7 @@ module _ {p : Network} {s : State} (i : Inv p s) {v y k d : ℕ} {m : Msg} (t : 
     T1 = T1′;
     T2 = T2′;
     F1 = F1′;
-    F2 = M.F2′ i t h;
+    F2 = M.F2-move i t h;
     F4 = i.F4;
     E2 = E2′;
     B1 = i.B1;
@@ -406,5 +406,5 @@ module _ {p : Network} {s : State} (i : Inv p s) {v y k d : ℕ} {m : Msg} (t : 
     R1 = R1′;
     F4c = F4c′;
     B2 = B2′;
-    Q1 = record { q1 = M.order i t h };
+    Q1 = record { q1 = M.order-move i t h };
   }

@@ -1,10 +1,10 @@
 -- The node v that is about to turn its inbound edge: a sleeper that wakes, or the node that executes procedure change-root.
 use Rattle.protocol.specs.Prelude.{ℕ, suc, _≤_, arith, _≡_, sym, ap, _∙_, _≢_, by-eq}
-use Rattle.protocol.specs.Prelude.{report, Network, Ends, flip, edge-some, State, isR, top, top-none, In, none-in}
+use Rattle.protocol.specs.Prelude.{report, Network, Edge, flip, edge-some, ProtocolState, isR, top, top-none, In, none-in}
 use Rattle.protocol.specs.Prelude.{GL, GC, DK, Inf, Jn, Root, Inv, sleep-lev, sleep-ib, decided-find, core-informed, no-initiate, no-root}
 use Rattle.protocol.specs.Decisions.{RootOk}
 
-pub record Turn (p : Network) (s : State) (v : ℕ) : Type 0 where
+pub record Turn (p : Network) (s : ProtocolState) (v : ℕ) : Type 0 where
   -- v has its fragment's level
   pub even : s.lev v ≡ GL s v
   -- the fragment is undecided and of level 0, or at its root; no other one is at its root
@@ -16,11 +16,11 @@ pub record Turn (p : Network) (s : State) (v : ℕ) : Type 0 where
   pub no-due : (w : ℕ) → s.fr w ≡ s.fr v → s.due w ≡ 0
   pub awake : (w : ℕ) → s.fr w ≡ s.fr v → s.st w ≡ 0 → v ≡ w
   -- a joined edge that is inbound for v is so for its other end too, and nothing is to come over it
-  pub turns : (j c : ℕ) → Ends p j v c → Jn s j v c → s.ub v ≡ j → (s.ub c ≡ j) × (s.lev v ≡ top (s.lev c) (s.ch v j))
+  pub turns : (j c : ℕ) → Edge p j v c → Jn s j v c → s.ub v ≡ j → (s.ub c ≡ j) × (s.lev v ≡ top (s.lev c) (s.ch v j))
   -- no Report is on its way to v by its in-branch
-  pub no-report : (j c n : ℕ) → Ends p j c v → s.ib v ≡ j → ¬ In (report n) (s.ch c j)
+  pub no-report : (j c n : ℕ) → Edge p j c v → s.ib v ≡ j → ¬ In (report n) (s.ch c j)
 
-module _ {p : Network} {s : State} (i : Inv p s) {v : ℕ} where
+module _ {p : Network} {s : ProtocolState} (i : Inv p s) {v : ℕ} where
   pub turn-sleeper : s.oo ≡ 0 → s.st v ≡ 0 → Turn p s v
   turn-sleeper idle z =
       let a = i.G6.g6 v z in
@@ -48,7 +48,7 @@ module _ {p : Network} {s : State} (i : Inv p s) {v : ℕ} where
     root-dk w q d = omega (arith, ap s.dk q, root .0)
 
     -- the node beyond v's in-branch is informed
-    pub root-up : (j c : ℕ) → Ends p j v c → s.ib v ≡ j → Inf s c
+    pub root-up : (j c : ℕ) → Edge p j v c → s.ib v ≡ j → Inf s c
     root-up j c e q = by-eq (GC s v) j
         (λ g. let f : s.fr v ≡ s.fr c = i.M1.m3 j v c e (i.U1.u1i j v c e q) in
         core-informed i j c v (flip e) (ap s.gc (sym f) ∙ g) (omega (arith, ap s.gl f, root-ok.d3i .0)) (root-dk c (sym f)))
@@ -70,5 +70,5 @@ module _ {p : Network} {s : State} (i : Inv p s) {v : ℕ} where
       no-report = λ j c n e q o. omega (arith, none-in isR (i.Dc.d3r j v c (flip e) root q) o);
     }
       where
-        even : (j c : ℕ) → Ends p j v c → Jn s j v c → Inf s c → s.lev v ≡ s.lev c
+        even : (j c : ℕ) → Edge p j v c → Jn s j v c → Inf s c → s.lev v ≡ s.lev c
         even j c e b h = root-ok.d3i .1 ∙ ap s.gl (i.M1.m3 j v c e b) ∙ sym (h .1)

@@ -2,43 +2,43 @@
 use Rattle.protocol.specs.Prelude.{ℕ, suc, _≤_, _<_, arith, _≡_, refl, sym, ap, subst, _∙_, _≢_, _⊎_, inl, inr, ⊎-elim}
 use Rattle.protocol.specs.Prelude.{List, upd, upd-elim, upd-same, upd-other, by-eq, sumL, le-sum}
 use Rattle.protocol.specs.Prelude.{Msg, none, connect, initiate, report}
-use Rattle.protocol.specs.Prelude.{Network, Ends, joins-lt, flip, other-end, ends-irr, State, set-ch, reported}
+use Rattle.protocol.specs.Prelude.{Network, Edge, joins-lt, flip, other-end, ends-irr, ProtocolState, set-ch, reportSent}
 use Rattle.protocol.specs.Prelude.{isC, isI, isCI, isT, isA, isR, isK, arg1, fits-report, Fits, In, Bef, bef-before, in-sum}
 use Rattle.protocol.specs.Prelude.{snoc, snoc-elim, snoc-in, snoc-old, in-snoc2, snoc-bef, snoc-sum, snoc-here, snoc-else, snoc-all}
 use Rattle.protocol.specs.Prelude.{some-connect, no-reports, no-calls, none-in, answers-same, connects-same, testing-same, init-ok, around-same, core-same, post-telling}
-use Rattle.protocol.specs.Prelude.{GL, GC, DK, Inf, Jn, Outst, Live, Child, CoreEnds, Spent, Inv}
+use Rattle.protocol.specs.Prelude.{GL, GC, DK, Inf, Jn, Outst, Counting, Child, CoreEnds, Spent, Inv}
 use Rattle.protocol.specs.Prelude.{inf-cases, fc-find, mark-awake, up-other, no-initiate, no-connect, no-root}
 use Rattle.protocol.specs.Fragments.{Ranges, Sleepers}
 use Rattle.protocol.specs.Decisions.{Finishes}
 use Rattle.protocol.specs.Search.{Kids, Finds, Pending}
 use Rattle.protocol.specs.Traffic.{Hush, Tokens, Connects, Initiates, Telling, Testing, Answers, Reports, Owing, Bests, Ordered}
 
-module _ {p : Network} {s : State} (i : Inv p s) {v k u : ℕ} (ot : s.ot ≡ 0) (op : s.op ≡ suc v) (oo : s.oo ≡ 0) (ends : Ends p k v u)
+module _ {p : Network} {s : ProtocolState} (i : Inv p s) {v k u : ℕ} (ot : s.ot ≡ 0) (op : s.op ≡ suc v) (oo : s.oo ≡ 0) (ends : Edge p k v u)
     (ib : s.ib v ≡ k) (fc : s.fc v ≡ 0) (te : s.te v ≡ none) where
   abbrev m : Msg
   m = report (s.bw v)
 
-  abbrev S′ : State
-  S′ = reported s v k
+  abbrev S′ : ProtocolState
+  S′ = reportSent s v k
 
   abbrev c′ : ℕ → ℕ → List Msg
   c′ = snoc s.ch v k m
 
   -- ---- v before the step
 
-  pub find : s.st v ≡ 1
+  find : s.st v ≡ 1
   find = i.F2.f5p v op
 
-  pub inf : Inf s v
+  inf : Inf s v
   inf = i.F1.f1 v find .f1i
 
-  pub undec : DK s v ≡ 0
+  undec : DK s v ≡ 0
   undec = i.F1.f1 v find .f1k
 
-  pub v≢u : v ≢ u
+  v≢u : v ≢ u
   v≢u = ends-irr p ends
 
-  pub jn : Jn s k v u
+  jn : Jn s k v u
   jn = i.U1.u1i k v u ends ib
 
   pub nj : Jn s k u v
@@ -48,7 +48,7 @@ module _ {p : Network} {s : State} (i : Inv p s) {v k u : ℕ} (ot : s.ot ≡ 0)
   frs = i.M1.m3 k v u ends jn
 
   -- the other end is informed, or the edge is the core
-  pub beyond : GC s v ≢ k → Inf s u
+  beyond : GC s v ≢ k → Inf s u
   beyond n = i.T1.t1p k v u ends inf ib n .0
 
   -- no Report of v is there yet
@@ -66,7 +66,7 @@ module _ {p : Network} {s : State} (i : Inv p s) {v k u : ℕ} (ot : s.ot ≡ 0)
   pub no-owe : (j : ℕ) → j < p.g.L → s.owe v j ≡ 0
   no-owe j l = omega (arith, le-sum p.g.L j (s.owe v) l, i.F4.f4 v)
 
-  pub no-child : (j a w : ℕ) → Ends p j a v → In (report w) (s.ch a j) → ¬ Child s a v j w
+  pub no-child : (j a w : ℕ) → Edge p j a v → In (report w) (s.ch a j) → ¬ Child s a v j w
   no-child j a w e h t =
       let b = up-other i j a v e (t .0) (t .1) (t .2) in
       let r = i.R1.r1j j a v w e h in
@@ -83,7 +83,7 @@ module _ {p : Network} {s : State} (i : Inv p s) {v k u : ℕ} (ot : s.ot ≡ 0)
   stay : (w : ℕ) → v ≢ w → S′.st w ≡ s.st w
   stay w n = upd-other s.st v 2 w n
 
-  pub found : (w : ℕ) → s.st w ≡ 2 → S′.st w ≡ 2
+  found : (w : ℕ) → s.st w ≡ 2 → S′.st w ≡ 2
   found w h = upd-elim (λ x. x ≡ 2) s.st v 2 w (λ q. refl) (λ n. h)
 
   other : (w : ℕ) → S′.st w ≡ 1 → v ≢ w
@@ -203,7 +203,7 @@ module _ {p : Network} {s : State} (i : Inv p s) {v k u : ℕ} (ot : s.ot ≡ 0)
         (λ t. inr (t .0, found y (t .1), t .2, omega (arith, more y j, t .3))) (i.Dc.d7 j x y e g d h (sym (stay x n) ∙ f)));
   }
     where
-      frs-at : (j x y : ℕ) → Ends p j x y → v ≡ y → k ≡ j → s.fr v ≡ s.fr x
+      frs-at : (j x y : ℕ) → Edge p j x y → v ≡ y → k ≡ j → s.fr v ≡ s.fr x
       frs-at j x y e q r = frs ∙ ap s.fr (other-end ends (flip e) q r)
 
   C1′ : Connects p S′
@@ -268,7 +268,7 @@ module _ {p : Network} {s : State} (i : Inv p s) {v k u : ℕ} (ot : s.ot ≡ 0)
           absurd (omega (arith, r .1, r .2, inf .1, ap s.gl frs)))
           (⊎-elim (λ t. t) (λ t. absurd (omega (arith, t .1)))) (i.T4.t4 k u v (flip ends) nj gu)
 
-  at-new : (C : ℕ → ℕ → ℕ → ℕ → Type 0) (j a b w : ℕ) → Ends p j a b → v ≡ a → k ≡ j → report w ≡ m → C v u k (s.bw v) → C a b j w
+  at-new : (C : ℕ → ℕ → ℕ → ℕ → Type 0) (j a b w : ℕ) → Edge p j a b → v ≡ a → k ≡ j → report w ≡ m → C v u k (s.bw v) → C a b j w
   at-new C j a b w e q r h c =
       let y = other-end ends e q r in
       subst (λ x. C x b j w) q (subst (λ x. C v x j w) y (subst (λ x. C v u x w) r (subst (λ x. C v u k x) (sym (ap arg1 h)) c)))
@@ -292,10 +292,10 @@ module _ {p : Network} {s : State} (i : Inv p s) {v k u : ℕ} (ot : s.ot ≡ 0)
         (λ t. at-new (λ a b j w. CoreEnds S′ a b j w) j a b w e (t .0) (t .1) (t .2) (to-core (at-core j a b e (t .0) (t .1) g))) (snoc-in s.ch v k m a j h);
   }
     where
-      at-core : (j a b : ℕ) → Ends p j a b → v ≡ a → k ≡ j → GC s b ≡ j → GC s v ≡ k
+      at-core : (j a b : ℕ) → Edge p j a b → v ≡ a → k ≡ j → GC s b ≡ j → GC s v ≡ k
       at-core j a b e q r g = ap s.gc (frs ∙ ap s.fr (other-end ends e q r)) ∙ g ∙ sym r
 
-      old-one : (j a b w : ℕ) → Ends p j a b → In (report w) (s.ch a j) → Child s a b j w ⊎ (CoreEnds s a b j w ⊎ Spent p s a b j w)
+      old-one : (j a b w : ℕ) → Edge p j a b → In (report w) (s.ch a j) → Child s a b j w ⊎ (CoreEnds s a b j w ⊎ Spent p s a b j w)
           → Child S′ a b j w ⊎ (CoreEnds S′ a b j w ⊎ Spent p S′ a b j w)
       old-one j a b w e h (inl t) = inl (
         t .0,
@@ -304,7 +304,7 @@ module _ {p : Network} {s : State} (i : Inv p s) {v k u : ℕ} (ot : s.ot ≡ 0)
         found a (t .3),
         t .4,
         t .5,
-        stay b (λ q. no-child j a w (subst (λ x. Ends p j a x) (sym q) e) h (subst (λ x. Child s a x j w) (sym q) t)) ∙ t .6,
+        stay b (λ q. no-child j a w (subst (λ x. Edge p j a x) (sym q) e) h (subst (λ x. Child s a x j w) (sym q) t)) ∙ t .6,
         ap (sumL isCI) (off a j (apart w a j h)) ∙ t .7,
       )
       old-one j a b w e h (inr (inl t)) = inr (inl (core-old j a b w h t))
@@ -316,7 +316,7 @@ module _ {p : Network} {s : State} (i : Inv p s) {v k u : ℕ} (ot : s.ot ≡ 0)
     f4n = λ j w c e h b n o. i.F4c.f4n j w c e h b n (outst-from j c o);
   }
     where
-      outst-to : (j w c : ℕ) → Ends p j w c → Inf s w → Jn s j w c → s.ib w ≢ j → Outst s c j → Outst S′ c j
+      outst-to : (j w c : ℕ) → Edge p j w c → Inf s w → Jn s j w c → s.ib w ≢ j → Outst s c j → Outst S′ c j
       outst-to j w c e h b n (inl t) = inl (
         t .0,
         ⊎-elim
@@ -343,7 +343,7 @@ module _ {p : Network} {s : State} (i : Inv p s) {v k u : ℕ} (ot : s.ot ≡ 0)
         (⊎-elim (λ t. inr (inl t)) (⊎-elim (λ t. inr (inr (inl t))) (λ t. inr (inr (inr (t .0, t .1, t .2, t .3, live (t .0) (t .4), t .5)))))) (i.B2.b2 j a b e h d g);
   }
     where
-      live : (x : ℕ) → Live s x → Live S′ x
+      live : (x : ℕ) → Counting s x → Counting S′ x
       live x (inl f) = by-eq v x
           (λ q. inr (inr (subst (λ z. 1 ≤ sumL isR (c′ z (s.ib z))) q (subst (λ z. 1 ≤ sumL isR (c′ v z)) (sym ib) new-rep))))
           (λ n. inl (stay x n ∙ f))

@@ -2,33 +2,33 @@
 use Rattle.protocol.specs.Prelude.{ℕ, suc, _+_, _≤_, arith, _≡_, refl, sym, ap, subst, _∙_, _≢_, _⊎_, inl, inr, ⊎-elim}
 use Rattle.protocol.specs.Prelude.{List, _∷_, upd, upd-elim, upd-other, upd2, by-eq, sumL}
 use Rattle.protocol.specs.Prelude.{Msg, none, test, accept}
-use Rattle.protocol.specs.Prelude.{Network, Ends, key, rank, key-none, ends-rank, flip, ends-same, other-end, ends-key, edge-some, State, Idle, Better, set-te, set-op, set-ch, bested, pop}
+use Rattle.protocol.specs.Prelude.{Network, Edge, key, rank, key-none, ends-rank, flip, ends-same, other-end, ends-key, edge-some, ProtocolState, Idle, Better, set-te, set-op, set-ch, bested, pop}
 use Rattle.protocol.specs.Prelude.{isT, isA, isR, In, in-sum, pop-head, pop-in, pop-sum, else-same, none-in, here-new, rest-none}
 use Rattle.protocol.specs.Prelude.{Inf, Waits, Covered, Inv, waits-find}
-use Rattle.protocol.specs.Prelude.{plain-accept, live-to, flow, flow-open, flow-take, rated, flow-best}
+use Rattle.protocol.specs.Prelude.{plain-accept, counting-to, flow, flow-open, flow-take, rated, flow-best}
 use Rattle.protocol.specs.Search.{Pending, Tests}
 use Rattle.protocol.specs.Traffic.{AcceptOk, Testing, Answers, Bests}
 use Rattle.protocol.specs.Weigh as W
-use Rattle.protocol.specs.Weigh.{Leaves}
+use Rattle.protocol.specs.Weigh.{LeavesFragment}
 
-module _ {p : Network} {s : State} (i : Inv p s) {u v k b e : ℕ} {r : List Msg} (idle : Idle s) (ends : Ends p k u v) (q : s.ch u k ≡ accept ∷ r) (better : Better p s v k k b e) where
+module _ {p : Network} {s : ProtocolState} (i : Inv p s) {u v k b e : ℕ} {r : List Msg} (idle : Idle s) (ends : Edge p k u v) (q : s.ch u k ≡ accept ∷ r) (better : Better p s v k k b e) where
   abbrev c′ : ℕ → ℕ → List Msg
   c′ = upd2 s.ch u k r
 
-  abbrev S′ : State
+  abbrev S′ : ProtocolState
   S′ = set-op (bested (set-te (pop s u k r) (upd s.te v none)) v b e) (suc v)
 
-  pub said : AcceptOk s.te s.fr s.lev s.mark s.ot k u v
+  said : AcceptOk s.te s.fr s.lev s.mark s.ot k u v
   said = i.A1.a1 k u v ends (pop-head s.ch u k q)
 
-  pub find : s.st v ≡ 1
+  find : s.st v ≡ 1
   find = waits-find i k v u (flip ends) (said .a1w)
 
-  pub inf : Inf s v
+  inf : Inf s v
   inf = i.F1.f1 v find .f1i
 
   -- k leaves the fragment
-  leaves : k ≢ none → Leaves p s v k
+  leaves : k ≢ none → LeavesFragment p s v k
   leaves n = (v, u, flip ends, refl, said .a1f, omega (arith, inf .1, said .a1l), inf, refl)
 
   -- the new best weight is not later than k, so an edge
@@ -59,22 +59,22 @@ module _ {p : Network} {s : State} (i : Inv p s) {u v k b e : ℕ} {r : List Msg
       a = in-sum isA (pop-head s.ch u k q)
 
   -- who waits now waited, and is not v
-  pub waits : (j w x : ℕ) → Ends p j w x → Waits S′ w j → (v ≢ w) × Waits s w j
-  waits j w x f h = upd-elim (λ y. y ≡ j → (v ≢ w) × Waits s w j) s.te v none w (λ z y. absurd (edge-some p f (sym y))) (λ n y. (n, (y, h .1))) (h .0)
+  pub waits-accepted : (j w x : ℕ) → Edge p j w x → Waits S′ w j → (v ≢ w) × Waits s w j
+  waits-accepted j w x f h = upd-elim (λ y. y ≡ j → (v ≢ w) × Waits s w j) s.te v none w (λ z y. absurd (edge-some p f (sym y))) (λ n y. (n, (y, h .1))) (h .0)
 
   pub still : (j w : ℕ) → v ≢ w → Waits s w j → Waits S′ w j
   still j w n h = (upd-other s.te v none w n ∙ h .0, h .1)
 
   -- no answer to another is touched
-  other-answer : (j w x : ℕ) → Ends p j w x → v ≢ w → sumL isA (c′ x j) ≡ sumL isA (s.ch x j)
+  other-answer : (j w x : ℕ) → Edge p j w x → v ≢ w → sumL isA (c′ x j) ≡ sumL isA (s.ch x j)
   other-answer j w x f n = ap (sumL isA) (else-same s.ch u k r x j (by-eq k j
       (λ z. inl (λ y. n (other-end ends (flip f) y z))) (λ z. inr z)))
 
   -- no second answer to v
-  no-more : {x : Msg} (j w : ℕ) → 1 ≤ isA x → Ends p j w v → Waits s v j → ¬ In x (c′ w j)
+  no-more : {x : Msg} (j w : ℕ) → 1 ≤ isA x → Edge p j w v → Waits s v j → ¬ In x (c′ w j)
   no-more {x} j w o f h n =
       let z = waited j h in
-      let y = ends-same (flip ends) (subst (λ a. Ends p a v w) (sym z) (flip f)) in
+      let y = ends-same (flip ends) (subst (λ a. Edge p a v w) (sym z) (flip f)) in
       let l : In x r = subst (λ a. In x a) (ap (λ a. c′ a j) (sym y) ∙ ap (c′ u) (sym z) ∙ here-new s.ch u k r) n in
       omega (arith, none-in isA (rest-none i isA ends q (λ a t. t)) l)
 
@@ -92,16 +92,16 @@ module _ {p : Network} {s : State} (i : Inv p s) {u v k b e : ℕ} {r : List Msg
 
   E2′ : Tests p S′.te s.ib s.mark s.ot
   E2′ = record {
-    e2o = λ w. upd-elim (λ x. x ≢ none → (y : ℕ) × Ends p x w y) s.te v none w (λ z n. absurd (n refl)) (λ d n. i.E2.e2o w n);
-    e2b = λ j w x a y f h. i.E2.e2b j w x a y f (waits j w x f h .1);
-    e2r = λ j w x f h. i.E2.e2r j w x f (waits j w x f h .1);
-    e2i = λ j w x f h m. let t = i.E2.e2i j w x f (waits j w x f h .1) m in (t .0, upd-elim (λ y. y ≢ j) s.te v none x (λ z y. edge-some p f (sym y)) (λ d. t .1));
+    e2o = λ w. upd-elim (λ x. x ≢ none → (y : ℕ) × Edge p x w y) s.te v none w (λ z n. absurd (n refl)) (λ d n. i.E2.e2o w n);
+    e2b = λ j w x a y f h. i.E2.e2b j w x a y f (waits-accepted j w x f h .1);
+    e2r = λ j w x f h. i.E2.e2r j w x f (waits-accepted j w x f h .1);
+    e2i = λ j w x f h m. let t = i.E2.e2i j w x f (waits-accepted j w x f h .1) m in (t .0, upd-elim (λ y. y ≢ j) s.te v none x (λ z y. edge-some p f (sym y)) (λ d. t .1));
     m6 = λ j w x f m z. let t = i.E2.m6 j w x f m z in
         still j x (λ y. out j w x f m y t) t;
   }
     where
       -- nothing is Rejected beyond v's test edge, which leaves the fragment
-      out : (j w x : ℕ) → Ends p j w x → s.mark w j ≡ 2 → v ≡ x → Waits s x j → ⊥
+      out : (j w x : ℕ) → Edge p j w x → s.mark w j ≡ 2 → v ≡ x → Waits s x j → ⊥
       out j w x f m y t =
           let z = waited j (subst (λ a. Waits s a j) (sym y) t) in
           let n = other-end (flip ends) (flip f) y z in
@@ -114,9 +114,9 @@ module _ {p : Network} {s : State} (i : Inv p s) {u v k b e : ℕ} {r : List Msg
         (λ t. inl (still j w (λ z. tested j w z (t .0) l f (old w j h)) (t .0), t .1, t .2))
         (λ t. inr (gone j w x g (t .0), t .1, still j x (λ z. crossed j w x g z (t .2) (t .3)) (t .2), t .3))
         (i.E1.e1w j w x l f g (old w j h));
-    e2w = λ j w x g a c. let y = waits j w x g a in
-        omega (arith, i.E1.e2w j w x g (y .1) (waits j x w (flip g) c .1), same isT refl w j, other-answer j w x g (y .0));
-    e2c = λ j w x g a c. let y = waits j w x g a in
+    e2w = λ j w x g a c. let y = waits-accepted j w x g a in
+        omega (arith, i.E1.e2w j w x g (y .1) (waits-accepted j x w (flip g) c .1), same isT refl w j, other-answer j w x g (y .0));
+    e2c = λ j w x g a c. let y = waits-accepted j w x g a in
         omega (arith, alone j w x g (y .0) (y .1) c, same isT refl w j, same isT refl x j, other-answer j w x g (y .0));
     m6t = λ j w x g m z. same isT refl x j ∙ i.E1.m6t j w x g m z;
   }
@@ -126,17 +126,17 @@ module _ {p : Network} {s : State} (i : Inv p s) {u v k b e : ℕ} {r : List Msg
           let y = waited j (subst (λ a. Waits s a j) (sym z) h) in
           omega (arith, none-in isT own-test (subst (λ a. In (test l f) a) (ap (λ a. s.ch a j) (sym z) ∙ ap (s.ch v) (sym y)) n))
 
-      crossed : (j w x : ℕ) → Ends p j w x → v ≡ x → Waits s x j → s.fr w ≡ s.fr x → ⊥
+      crossed : (j w x : ℕ) → Edge p j w x → v ≡ x → Waits s x j → s.fr w ≡ s.fr x → ⊥
       crossed j w x g z h a =
           let y = waited j (subst (λ a. Waits s a j) (sym z) h) in
           let n = other-end (flip ends) (flip g) z y in
           said .a1f (ap s.fr n ∙ a ∙ ap s.fr (sym z))
 
-      gone : (j w x : ℕ) → Ends p j w x → (s.te w ≢ j) ⊎ (s.ot ≡ suc w) → (S′.te w ≢ j) ⊎ (S′.ot ≡ suc w)
+      gone : (j w x : ℕ) → Edge p j w x → (s.te w ≢ j) ⊎ (s.ot ≡ suc w) → (S′.te w ≢ j) ⊎ (S′.ot ≡ suc w)
       gone j w x g = ⊎-elim (λ n. inl (upd-elim (λ y. y ≢ j) s.te v none w (λ z y. edge-some p g (sym y)) (λ d. n))) (λ o. inr o)
 
       -- one who waits across an edge of v: v waited on k only, and its Test is not there
-      alone : (j w x : ℕ) → Ends p j w x → v ≢ w → Waits s w j → (S′.te x ≢ j) ⊎ (S′.ot ≡ suc x) → sumL isT (s.ch w j) + sumL isA (s.ch x j) + sumL isT (s.ch x j) ≡ 1
+      alone : (j w x : ℕ) → Edge p j w x → v ≢ w → Waits s w j → (S′.te x ≢ j) ⊎ (S′.ot ≡ suc x) → sumL isT (s.ch w j) + sumL isA (s.ch x j) + sumL isT (s.ch x j) ≡ 1
       alone j w x g n h c = by-eq v x
           (λ z. by-eq k j
           (λ y. omega (
@@ -157,8 +157,8 @@ module _ {p : Network} {s : State} (i : Inv p s) {u v k b e : ℕ} {r : List Msg
         record { j1w = still j x (λ z. mine j w x g z (t.j1w) (omega arith) h) (t.j1w); j1f = t.j1f; j1m = t.j1m };
   }
     where
-      mine : {m : Msg} (j w x : ℕ) → Ends p j w x → v ≡ x → Waits s x j → 1 ≤ isA m → In m (c′ w j) → ⊥
-      mine j w x g z h o n = no-more j w o (subst (λ a. Ends p j w a) (sym z) g) (subst (λ a. Waits s a j) (sym z) h) n
+      mine : {m : Msg} (j w x : ℕ) → Edge p j w x → v ≡ x → Waits s x j → 1 ≤ isA m → In m (c′ w j) → ⊥
+      mine j w x g z h o n = no-more j w o (subst (λ a. Edge p j w a) (sym z) g) (subst (λ a. Waits s a j) (sym z) h) n
 
   -- no Report goes
   rep : (w j : ℕ) → sumL isR (c′ w j) ≡ sumL isR (s.ch w j)
@@ -184,9 +184,9 @@ module _ {p : Network} {s : State} (i : Inv p s) {u v k b e : ℕ} {r : List Msg
           (λ d. inl (subst (λ y. (y ≢ none) × (key p y ≤ rank p j)) (sym (upd-other s.te v none w d)) t))
 
       cover : (w n : ℕ) → Covered p s w n → Covered p S′ w n
-      cover w n t = W.cover i (idle .2) find (flip ends) better leaves c′ fewer w n t (λ d. inr (live-to p s c′ rep (t .0) (t .4)))
+      cover w n t = W.cover i (idle .2) find (flip ends) better leaves c′ fewer w n t (λ d. inr (counting-to p s c′ rep (t .0) (t .4)))
 
-  abbrev s₁ : State
+  abbrev s₁ : ProtocolState
   s₁ = set-ch s c′
 
   pub inv-accepted : Inv p S′

@@ -2,16 +2,16 @@
 use Rattle.protocol.specs.Prelude.{ℕ, suc, _+_, _≤_, arith, _≡_, sym, ap, subst, _∙_, _≢_, _⊎_, inl, inr, ⊎-elim}
 use Rattle.protocol.specs.Prelude.{List, _∷_, upd2, by-eq, sumL}
 use Rattle.protocol.specs.Prelude.{Msg, test}
-use Rattle.protocol.specs.Prelude.{Network, Ends, flip, other-end, ends-irr, State, Idle, Strike, set-ch, set-mark, set-ot, marked, pop}
+use Rattle.protocol.specs.Prelude.{Network, Edge, flip, other-end, ends-irr, ProtocolState, Idle, Strike, set-ch, set-mark, set-ot, remarked, pop}
 use Rattle.protocol.specs.Prelude.{isT, isA, isR, In, pop-in, pop-sum, pop-le, else-same, here-new, at2, none-in, Waits, Inv, waits-find}
 use Rattle.protocol.specs.Prelude.{Plain, bests-same, flow, flow-open, flow-take}
 use Rattle.protocol.specs.Search.{Pending, Tests}
 use Rattle.protocol.specs.Traffic.{Testing, Answers, Bests}
-use Rattle.protocol_search.specs.Strike.{struck, up1, up2, up0, dn0, dn1, dn2, dn-other, up-both, dn-both, flow-strike, inv-strike}
+use Rattle.protocol_search.specs.Strike.{struck, up1-strike, up2-strike, up0-strike, dn0-strike, dn1-strike, dn2-strike, dn-other-strike, up-both-strike, dn-both-strike, flow-strike, inv-strike}
 
-pub record Repeat (p : Network) (s : State) (u v k c : ℕ) (m : Msg) (r : List Msg) : Type 0 where
+pub record Repeat (p : Network) (s : ProtocolState) (u v k c : ℕ) (m : Msg) (r : List Msg) : Type 0 where
   pub idle : Idle s
-  pub ends : Ends p k u v
+  pub ends : Edge p k u v
   pub took : s.ch u k ≡ m ∷ r
   pub plain : Plain m
   pub strike : Strike s v k c
@@ -27,23 +27,23 @@ pub record Repeat (p : Network) (s : State) (u v k c : ℕ) (m : Msg) (r : List 
   pub own : (sumL isT (s.ch v k) ≡ 0) ⊎ (Waits s u k × (c ≡ 2))
   pub crosses : Waits s u k → sumL isA (s.ch v k) + sumL isT (s.ch v k) ≡ 1
 
-module _ {p : Network} {s : State} (i : Inv p s) {u v k c : ℕ} {m : Msg} {r : List Msg} (h : Repeat p s u v k c m r) where
+module _ {p : Network} {s : ProtocolState} (i : Inv p s) {u v k c : ℕ} {m : Msg} {r : List Msg} (h : Repeat p s u v k c m r) where
   abbrev c′ : ℕ → ℕ → List Msg
   c′ = upd2 s.ch u k r
 
   abbrev m′ : ℕ → ℕ → ℕ
   m′ = struck p s v k c (h.strike)
 
-  abbrev S′ : State
-  S′ = set-ot (marked (pop s u k r) v k c) (suc v)
+  abbrev S′ : ProtocolState
+  S′ = set-ot (remarked (pop s u k r) v k c) (suc v)
 
-  abbrev s₁ : State
+  abbrev s₁ : ProtocolState
   s₁ = set-ch s c′
 
-  abbrev s₂ : State
+  abbrev s₂ : ProtocolState
   s₂ = set-mark s₁ m′
 
-  back : Ends p k v u
+  back : Edge p k v u
   back = flip (h.ends)
 
   find : s.st v ≡ 1
@@ -65,12 +65,12 @@ module _ {p : Network} {s : State} (i : Inv p s) {u v k c : ℕ} {m : Msg} {r : 
   off : (f : Msg → ℕ) (w j : ℕ) → (u ≢ w) ⊎ (k ≢ j) → sumL f (c′ w j) ≡ sumL f (s.ch w j)
   off f w j n = ap (sumL f) (else-same s.ch u k r w j n)
 
-  off-end : (f : Msg → ℕ) (j w x : ℕ) → Ends p j w x → v ≢ x → sumL f (c′ w j) ≡ sumL f (s.ch w j)
+  off-end : (f : Msg → ℕ) (j w x : ℕ) → Edge p j w x → v ≢ x → sumL f (c′ w j) ≡ sumL f (s.ch w j)
   off-end f j w x e n = off f w j (by-eq k j
       (λ b. inl (λ a. n (other-end (h.ends) e a b))) (λ b. inr b))
 
   -- who waits now waited, and is not v
-  pub waits : (j w : ℕ) → Waits S′ w j → (v ≢ w) × Waits s w j
+  waits : (j w : ℕ) → Waits S′ w j → (v ≢ w) × Waits s w j
   waits j w a = ((λ z. a .1 (ap suc z)), (a .0, λ o. omega (arith, h.idle .0)))
 
   pub still : (j w : ℕ) → v ≢ w → Waits s w j → Waits S′ w j
@@ -92,18 +92,18 @@ module _ {p : Network} {s : State} (i : Inv p s) {u v k c : ℕ} {m : Msg} {r : 
   E2′ : Tests p s.te s.ib m′ (suc v)
   E2′ = record {
     e2o = i.E2.e2o;
-    e2b = λ j w x a y e b f g. i.E2.e2b j w x a y e (waits j w b .1) f (dn0 p s v k c (h.strike) w a g);
-    e2r = λ j w x e b z. let t = waits j w b in ⊎-elim (λ o. i.E2.e2r j w x e (t .1) o) (λ o. t .0 (o .0)) (dn2 p s v k c (h.strike) w j z);
-    e2i = λ j w x e b d. i.E2.e2i j w x e (waits j w b .1) (dn-both p s v k c (h.strike) j w x d);
+    e2b = λ j w x a y e b f g. i.E2.e2b j w x a y e (waits j w b .1) f (dn0-strike p s v k c (h.strike) w a g);
+    e2r = λ j w x e b z. let t = waits j w b in ⊎-elim (λ o. i.E2.e2r j w x e (t .1) o) (λ o. t .0 (o .0)) (dn2-strike p s v k c (h.strike) w j z);
+    e2i = λ j w x e b d. i.E2.e2i j w x e (waits j w b .1) (dn-both-strike p s v k c (h.strike) j w x d);
     m6 = λ j w x e a b.
-        let z = dn0 p s v k c (h.strike) x j b in
-        let n = dn-other p s v k c (h.strike) x j b in
+        let z = dn0-strike p s v k c (h.strike) x j b in
+        let n = dn-other-strike p s v k c (h.strike) x j b in
         ⊎-elim (λ o. let t = i.E2.m6 j w x e o z in still j x (λ q. ⊎-elim (λ f. f q) (λ f. f (on-k j x q t)) n) t)
         (λ o.
         let y = other-end back e (o .0) (o .1) in
         subst (λ a. Waits S′ a j) y
         (subst (λ a. Waits S′ u a) (o .1) (still k u (λ q. ends-irr p back q) (h.asks (o .2) (ap (λ a. s.mark a k) y ∙ ap (s.mark x) (o .1) ∙ z)))))
-        (dn2 p s v k c (h.strike) w j a);
+        (dn2-strike p s v k c (h.strike) w j a);
   }
 
   E1′ : Testing p S′
@@ -111,10 +111,10 @@ module _ {p : Network} {s : State} (i : Inv p s) {u v k c : ℕ} {m : Msg} {r : 
     e1 = λ j w x l f e n. i.E1.e1 j w x l f e (old w j n);
     e1w = λ j w x l f e n. ⊎-elim
         (λ t. by-eq v w (λ q. own-test j w x l f e n q (on-k j w q (t .0)))
-        (λ d. inl (still j w d (t .0), fresh j w d (t .1), λ z. up1 p s v k c (h.strike) x j (t .2 (dn1 p s v k c (h.strike) w j z)))))
+        (λ d. inl (still j w d (t .0), fresh j w d (t .1), λ z. up1-strike p s v k c (h.strike) x j (t .2 (dn1-strike p s v k c (h.strike) w j z)))))
         (λ t. inr (
           ⊎-elim (λ o. inl o) (λ o. absurd (omega (arith, h.idle .0))) (t .0),
-          up2 p s v k c (h.strike) w j (t .1),
+          up2-strike p s v k c (h.strike) w j (t .1),
           still j x (λ q. gone j w x l f e q (on-k j x q (t .2)) n) (t .2),
           t .3,
         ))
@@ -131,17 +131,17 @@ module _ {p : Network} {s : State} (i : Inv p s) {u v k c : ℕ} {m : Msg} {r : 
           off-end isA j x w (flip e) (y .0),
           off-end isT j x w (flip e) (y .0),
         ));
-    m6t = λ j w x e a b. let z = dn0 p s v k c (h.strike) x j b in
+    m6t = λ j w x e a b. let z = dn0-strike p s v k c (h.strike) x j b in
         ⊎-elim (λ o. omega (arith, i.E1.m6t j w x e o z, pop-le s.ch u k (h.took) isT x j))
-        (λ o. left isT (h.no-test) x j (other-end back e (o .0) (o .1)) (o .1)) (dn2 p s v k c (h.strike) w j a);
+        (λ o. left isT (h.no-test) x j (other-end back e (o .0) (o .1)) (o .1)) (dn2-strike p s v k c (h.strike) w j a);
   }
     where
       -- another's mark is not struck
       fresh : (j w : ℕ) → v ≢ w → s.mark w j ≢ 2 → m′ w j ≢ 2
-      fresh j w d n z = ⊎-elim (λ o. n o) (λ o. d (o .0)) (dn2 p s v k c (h.strike) w j z)
+      fresh j w d n z = ⊎-elim (λ o. n o) (λ o. d (o .0)) (dn2-strike p s v k c (h.strike) w j z)
 
       -- v's own Test has crossed
-      own-test : (j w x l f : ℕ) → Ends p j w x → In (test l f) (c′ w j) → v ≡ w → k ≡ j
+      own-test : (j w x l f : ℕ) → Edge p j w x → In (test l f) (c′ w j) → v ≡ w → k ≡ j
           → (Waits S′ w j × (m′ w j ≢ 2) × (m′ w j ≡ 1 → m′ x j ≡ 1)) ⊎ (((s.te w ≢ j) ⊎ (S′.ot ≡ suc w)) × (m′ w j ≡ 2) × Waits S′ x j × (s.fr w ≡ s.fr x))
       own-test j w x l f e n a b = ⊎-elim
           (λ z. absurd (omega (arith, none-in isT z (subst (λ y. In (test l f) y) (sym (at2 s.ch a b)) (old w j n)))))
@@ -154,11 +154,11 @@ module _ {p : Network} {s : State} (i : Inv p s) {u v k c : ℕ} {m : Msg} {r : 
           (h.own)
 
       -- no Test from u is left
-      gone : (j w x l f : ℕ) → Ends p j w x → v ≡ x → k ≡ j → In (test l f) (c′ w j) → ⊥
+      gone : (j w x l f : ℕ) → Edge p j w x → v ≡ x → k ≡ j → In (test l f) (c′ w j) → ⊥
       gone j w x l f e a b n = omega (arith, none-in isT (left isT (h.no-test) w j (other-end back (flip e) a b) b) n)
 
       -- u waits across k: v's Test has crossed, or u has its answer
-      crossing : (j w x : ℕ) → Ends p j w x → v ≡ x → k ≡ j → Waits s w j → sumL isT (c′ w j) + sumL isA (c′ x j) + sumL isT (c′ x j) ≡ 1
+      crossing : (j w x : ℕ) → Edge p j w x → v ≡ x → k ≡ j → Waits s w j → sumL isT (c′ w j) + sumL isA (c′ x j) + sumL isT (c′ x j) ≡ 1
       crossing j w x e a b t =
           let y = other-end back (flip e) a b in
           let d : u ≢ x = λ q. ends-irr p back (a ∙ sym q) in
@@ -175,21 +175,21 @@ module _ {p : Network} {s : State} (i : Inv p s) {u v k c : ℕ} {m : Msg} {r : 
   A1′ : Answers p S′
   A1′ = record {
     a1 = λ j w x e n. let t = i.A1.a1 j w x e (old w j n) in let d = mine j w x e (t.a1w) n (omega arith) in
-        record { a1w = still j x d (t.a1w); a1m = up0 p s v k c (h.strike) x j (inl d) (t.a1m); a1f = t.a1f; a1l = t.a1l };
+        record { a1w = still j x d (t.a1w); a1m = up0-strike p s v k c (h.strike) x j (inl d) (t.a1m); a1f = t.a1f; a1l = t.a1l };
     j1 = λ j w x e n. let t = i.A1.j1 j w x e (old w j n) in let d = mine j w x e (t.j1w) n (omega arith) in
-        record { j1w = still j x d (t.j1w); j1f = t.j1f; j1m = λ z. up2 p s v k c (h.strike) w j (t.j1m (dn0 p s v k c (h.strike) x j z)) };
+        record { j1w = still j x d (t.j1w); j1f = t.j1f; j1m = λ z. up2-strike p s v k c (h.strike) w j (t.j1m (dn0-strike p s v k c (h.strike) x j z)) };
   }
     where
       -- no answer to v is left
-      mine : {y : Msg} (j w x : ℕ) → Ends p j w x → Waits s x j → In y (c′ w j) → 1 ≤ isA y → v ≢ x
+      mine : {y : Msg} (j w x : ℕ) → Edge p j w x → Waits s x j → In y (c′ w j) → 1 ≤ isA y → v ≢ x
       mine j w x e t n o q =
           let b = on-k j x q t in
           omega (arith, none-in isA (left isA (h.no-answer) w j (other-end back (flip e) q b) b) n)
 
   B2′ : Bests p S′
   B2′ = record {
-    b1e = λ w a n d. let t = o.b1e w a n d in (t .0, t .1, up-both p s v k c (h.strike) (s.be w) w (t .0) (t .2), t .3, t .4, t .5, t .6, t .7, t .8);
-    b2 = λ j w x e a d g. ⊎-elim (λ t. inl t) (⊎-elim (λ t. absurd (omega (arith, h.idle .0))) (λ t. inr (inr t))) (o.b2 j w x e (dn0 p s v k c (h.strike) w j a) d g);
+    b1e = λ w a n d. let t = o.b1e w a n d in (t .0, t .1, up-both-strike p s v k c (h.strike) (s.be w) w (t .0) (t .2), t .3, t .4, t .5, t .6, t .7, t .8);
+    b2 = λ j w x e a d g. ⊎-elim (λ t. inl t) (⊎-elim (λ t. absurd (omega (arith, h.idle .0))) (λ t. inr (inr t))) (o.b2 j w x e (dn0-strike p s v k c (h.strike) w j a) d g);
   }
     where
       o : Bests p s₁

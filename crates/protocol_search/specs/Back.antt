@@ -2,14 +2,14 @@
 use Rattle.protocol.specs.Prelude.{ℕ, _≤_, arith, _≡_, refl, sym, subst, _∙_, _≢_, inl, inr, ⊎-elim}
 use Rattle.protocol.specs.Prelude.{List, [], _∷_, _++_, upd2-elim, sumL}
 use Rattle.protocol.specs.Prelude.{Msg, connect, initiate, test, accept, reject, report, change}
-use Rattle.protocol.specs.Prelude.{Network, Ends, State, Idle, Blocked, pop}
+use Rattle.protocol.specs.Prelude.{Network, Edge, ProtocolState, Idle, Blocked, pop}
 use Rattle.protocol.specs.Prelude.{isC, isI, isCI, isT, isA, isR, Only, Fits, top, rot-top, fits-test, fits-report}
 use Rattle.protocol.specs.Prelude.{In, Bef, bef-behind, all-in, pop-head, rot, rot-in, in-rot, rot-bef, rot-sum, rot-all}
 use Rattle.protocol.specs.Prelude.{GL, Inv, half-at, up-other, kinds, none-in, at2, in-nil, Alike, owing-same, bests-same, connects-same, initiates-same, answers-same, testing-same, reports-same, inv-passing}
 use Rattle.protocol.specs.Traffic.{Tokens, Telling, Ordered}
 
 -- what is put back is no Initiate
-pub not-initiate : (s : State) (v k : ℕ) (m : Msg) → Blocked s v k m → isI m ≡ 0
+pub not-initiate : (s : ProtocolState) (v k : ℕ) (m : Msg) → Blocked s v k m → isI m ≡ 0
 not-initiate s v k (connect l) h = refl
 not-initiate s v k (initiate l f x) h = absurd h
 not-initiate s v k (test l f) h = refl
@@ -18,9 +18,9 @@ not-initiate s v k reject h = refl
 not-initiate s v k (report w) h = refl
 not-initiate s v k change h = refl
 
-module _ {p : Network} {s : State} (i : Inv p s) {u v k : ℕ} {m : Msg} (a b : List Msg) (idle : Idle s) (ends : Ends p k u v) (awake : s.st v ≢ 0)
+module _ {p : Network} {s : ProtocolState} (i : Inv p s) {u v k : ℕ} {m : Msg} (a b : List Msg) (idle : Idle s) (ends : Edge p k u v) (awake : s.st v ≢ 0)
     (q : s.ch u k ≡ m ∷ (a ++ b)) (blocked : Blocked s v k m) where
-  abbrev S′ : State
+  abbrev S′ : ProtocolState
   S′ = pop s u k (a ++ (m ∷ b))
 
   abbrev c′ : ℕ → ℕ → List Msg

@@ -1,9 +1,9 @@
 -- Procedure report while v still waits for a Report or an answer: nothing but the open flag changes.
 use Rattle.protocol.specs.Prelude.{ℕ, suc, arith, _≡_, subst, _≢_, _⊎_, inl, inr, ⊎-elim, by-eq}
-use Rattle.protocol.specs.Prelude.{none, Network, State, set-op, Inv, flow, inv-asking, flow-open}
+use Rattle.protocol.specs.Prelude.{none, Network, ProtocolState, set-op, Inv, flow, inv-asking, flow-open}
 
-module _ {p : Network} {s : State} (i : Inv p s) {v : ℕ} (ot : s.ot ≡ 0) (op : s.op ≡ suc v) (oo : s.oo ≡ 0) (busy : (s.fc v ≢ 0) ⊎ (s.te v ≢ none)) where
-  abbrev S′ : State
+module _ {p : Network} {s : ProtocolState} (i : Inv p s) {v : ℕ} (ot : s.ot ≡ 0) (op : s.op ≡ suc v) (oo : s.oo ≡ 0) (busy : (s.fc v ≢ 0) ⊎ (s.te v ≢ none)) where
+  abbrev S′ : ProtocolState
   S′ = set-op s 0
 
   waits : (w : ℕ) → s.st w ≡ 1 → (s.fc w ≢ 0) ⊎ ((s.te w ≢ none) ⊎ ((s.ot ≡ suc w) ⊎ (0 ≡ suc w)))

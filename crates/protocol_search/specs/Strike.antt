@@ -1,78 +1,78 @@
 -- A mark of v for k that is Basic becomes Rejected: what stays of the clauses that read marks.
 use Rattle.protocol.specs.Prelude.{ℕ, _≤_, arith, _≡_, refl, sym, ap, subst, _∙_, _≢_, _⊎_, inl, inr, ⊎-elim}
-use Rattle.protocol.specs.Prelude.{upd2, upd2-elim, by-eq, Network, Ends, key, rank, flip, other-end, wider, State, Strike, set-mark, set-ch, set-ot, List, Msg}
-use Rattle.protocol.specs.Prelude.{Both, Bounding, Inv, Flow, init-ok, at2}
+use Rattle.protocol.specs.Prelude.{upd2, upd2-elim, by-eq, Network, Edge, key, rank, flip, other-end, wider, ProtocolState, Strike, set-mark, set-ch, set-ot, List, Msg}
+use Rattle.protocol.specs.Prelude.{Both, Bounding, Inv, Flow, inv-search, init-ok, at2}
 use Rattle.protocol.specs.Fragments.{Ranges, Cores, Sleepers, Marks, Inbounds}
 use Rattle.protocol.specs.Decisions.{Halves, ChangeRoots, Rootings, Finishes}
 use Rattle.protocol.specs.Search.{Kids, Pending, Tests}
 use Rattle.protocol.specs.Traffic.{Connects, Initiates, Telling, Testing, Answers, Reports, Owing, Bests}
 
-module _ (p : Network) (s : State) (v k c : ℕ) (strike : Strike s v k c) where
+module _ (p : Network) (s : ProtocolState) (v k c : ℕ) (strike : Strike s v k c) where
   abbrev pub struck : ℕ → ℕ → ℕ
   struck = upd2 s.mark v k c
 
   -- marks before and after
-  pub up1 : (w j : ℕ) → s.mark w j ≡ 1 → struck w j ≡ 1
-  up1 w j h = upd2-elim (λ x. x ≡ 1) s.mark v k c w j
+  pub up1-strike : (w j : ℕ) → s.mark w j ≡ 1 → struck w j ≡ 1
+  up1-strike w j h = upd2-elim (λ x. x ≡ 1) s.mark v k c w j
       (λ a b. ⊎-elim (λ t. absurd (omega (arith, t .0, at2 s.mark a b))) (λ t. t .1 ∙ at2 s.mark a b ∙ h) strike) (λ n. h)
 
-  pub up2 : (w j : ℕ) → s.mark w j ≡ 2 → struck w j ≡ 2
-  up2 w j h = upd2-elim (λ x. x ≡ 2) s.mark v k c w j
+  pub up2-strike : (w j : ℕ) → s.mark w j ≡ 2 → struck w j ≡ 2
+  up2-strike w j h = upd2-elim (λ x. x ≡ 2) s.mark v k c w j
       (λ a b. ⊎-elim (λ t. t .1) (λ t. t .1 ∙ at2 s.mark a b ∙ h) strike) (λ n. h)
 
-  pub up0 : (w j : ℕ) → (v ≢ w) ⊎ (k ≢ j) → s.mark w j ≡ 0 → struck w j ≡ 0
-  up0 w j n h = upd2-elim (λ x. x ≡ 0) s.mark v k c w j (λ a b. absurd (⊎-elim (λ f. f a) (λ f. f b) n)) (λ m. h)
+  pub up0-strike : (w j : ℕ) → (v ≢ w) ⊎ (k ≢ j) → s.mark w j ≡ 0 → struck w j ≡ 0
+  up0-strike w j n h = upd2-elim (λ x. x ≡ 0) s.mark v k c w j (λ a b. absurd (⊎-elim (λ f. f a) (λ f. f b) n)) (λ m. h)
 
-  pub dn0 : (w j : ℕ) → struck w j ≡ 0 → s.mark w j ≡ 0
-  dn0 w j = upd2-elim (λ x. x ≡ 0 → s.mark w j ≡ 0) s.mark v k c w j
+  pub dn0-strike : (w j : ℕ) → struck w j ≡ 0 → s.mark w j ≡ 0
+  dn0-strike w j = upd2-elim (λ x. x ≡ 0 → s.mark w j ≡ 0) s.mark v k c w j
       (λ a b h. ⊎-elim (λ t. absurd (omega (arith, t .1))) (λ t. absurd (t .0 (sym (t .1) ∙ h))) strike) (λ n h. h)
 
-  pub dn1 : (w j : ℕ) → struck w j ≡ 1 → s.mark w j ≡ 1
-  dn1 w j = upd2-elim (λ x. x ≡ 1 → s.mark w j ≡ 1) s.mark v k c w j
+  pub dn1-strike : (w j : ℕ) → struck w j ≡ 1 → s.mark w j ≡ 1
+  dn1-strike w j = upd2-elim (λ x. x ≡ 1 → s.mark w j ≡ 1) s.mark v k c w j
       (λ a b h. ⊎-elim (λ t. absurd (omega (arith, t .1))) (λ t. sym (at2 s.mark a b) ∙ sym (t .1) ∙ h) strike) (λ n h. h)
 
   -- Rejected now: it was, or it is the one that was struck
-  pub dn2 : (w j : ℕ) → struck w j ≡ 2 → (s.mark w j ≡ 2) ⊎ ((v ≡ w) × (k ≡ j) × (s.mark v k ≡ 0))
-  dn2 w j = upd2-elim (λ x. x ≡ 2 → (s.mark w j ≡ 2) ⊎ ((v ≡ w) × (k ≡ j) × (s.mark v k ≡ 0))) s.mark v k c w j
+  pub dn2-strike : (w j : ℕ) → struck w j ≡ 2 → (s.mark w j ≡ 2) ⊎ ((v ≡ w) × (k ≡ j) × (s.mark v k ≡ 0))
+  dn2-strike w j = upd2-elim (λ x. x ≡ 2 → (s.mark w j ≡ 2) ⊎ ((v ≡ w) × (k ≡ j) × (s.mark v k ≡ 0))) s.mark v k c w j
       (λ a b h. ⊎-elim (λ t. inr (a, b, t .0)) (λ t. inl (sym (at2 s.mark a b) ∙ sym (t .1) ∙ h)) strike) (λ n h. inl h)
 
   -- Basic now: another mark
-  pub dn-other : (w j : ℕ) → struck w j ≡ 0 → (v ≢ w) ⊎ (k ≢ j)
-  dn-other w j = upd2-elim (λ x. x ≡ 0 → (v ≢ w) ⊎ (k ≢ j)) s.mark v k c w j
+  pub dn-other-strike : (w j : ℕ) → struck w j ≡ 0 → (v ≢ w) ⊎ (k ≢ j)
+  dn-other-strike w j = upd2-elim (λ x. x ≡ 0 → (v ≢ w) ⊎ (k ≢ j)) s.mark v k c w j
       (λ a b h. ⊎-elim (λ t. absurd (omega (arith, t .1))) (λ t. absurd (t .0 (sym (t .1) ∙ h))) strike) (λ n h. n)
 
-  pub up-both : (j a b : ℕ) → Both s.mark j a b → Both struck j a b
-  up-both j a b h = (up1 a j (h .0), up1 b j (h .1))
+  pub up-both-strike : (j a b : ℕ) → Both s.mark j a b → Both struck j a b
+  up-both-strike j a b h = (up1-strike a j (h .0), up1-strike b j (h .1))
 
-  pub dn-both : (j a b : ℕ) → Both struck j a b → Both s.mark j a b
-  dn-both j a b h = (dn1 a j (h .0), dn1 b j (h .1))
+  pub dn-both-strike : (j a b : ℕ) → Both struck j a b → Both s.mark j a b
+  dn-both-strike j a b h = (dn1-strike a j (h .0), dn1-strike b j (h .1))
 
-  pub bounds : (fr : ℕ → ℕ) (n a : ℕ) → Bounding p fr s.mark n a → Bounding p fr struck n a
-  bounds fr n a h u j w e f m = h u j w e f (dn0 u j m)
+  pub bounds-strike : (fr : ℕ → ℕ) (n a : ℕ) → Bounding p fr s.mark n a → Bounding p fr struck n a
+  bounds-strike fr n a h u j w e f m = h u j w e f (dn0-strike u j m)
 
   -- ---- clauses on channels
 
   connects-strike : Connects p s → Connects p (set-mark s struck)
-  connects-strike o = record { c1m = λ j u w l e n. up1 u j (o.c1m j u w l e n); c1 = λ j u w l e n m. o.c1 j u w l e n (dn1 w j m) }
+  connects-strike o = record { c1m = λ j u w l e n. up1-strike u j (o.c1m j u w l e n); c1 = λ j u w l e n m. o.c1 j u w l e n (dn1-strike w j m) }
 
   initiates-strike : Initiates p s → Initiates p (set-mark s struck)
-  initiates-strike o = record { i1 = λ j u w l f x e n. let t = o.i1 j u w l f x e n in init-ok t (up-both j u w (t.i1j)) (t.i1u) refl }
+  initiates-strike o = record { i1 = λ j u w l f x e n. let t = o.i1 j u w l f x e n in init-ok t (up-both-strike j u w (t.i1j)) (t.i1u) refl }
 
   telling-strike : Telling p s → Telling p (set-mark s struck)
   telling-strike o = record {
-    u2 = λ j w x e b n. o.u2 j w x e (dn-both j w x b) n;
-    t2i = λ j w x e b h n l. o.t2i j w x e (dn-both j w x b) h n l;
-    t4 = λ j x y e b g. o.t4 j x y e (dn-both j x y b) g;
-    t4n = λ j x y e b g n. o.t4n j x y e (dn-both j x y b) g n;
+    u2 = λ j w x e b n. o.u2 j w x e (dn-both-strike j w x b) n;
+    t2i = λ j w x e b h n l. o.t2i j w x e (dn-both-strike j w x b) h n l;
+    t4 = λ j x y e b g. o.t4 j x y e (dn-both-strike j x y b) g;
+    t4n = λ j x y e b g n. o.t4n j x y e (dn-both-strike j x y b) g n;
   }
 
   reports-strike : Reports p s → Reports p (set-mark s struck)
-  reports-strike o = record { r1r = o.r1r; r1j = λ j u w n e h. up-both j u w (o.r1j j u w n e h); r1 = o.r1; r1c = o.r1c }
+  reports-strike o = record { r1r = o.r1r; r1j = λ j u w n e h. up-both-strike j u w (o.r1j j u w n e h); r1 = o.r1; r1c = o.r1c }
 
   owing-strike : Owing p s → Owing p (set-mark s struck)
   owing-strike o = record {
-    f4y = λ j w x e n. let t = o.f4y j w x e n in (t .0, up-both j w x (t .1), t .2, t .3);
-    f4n = λ j w x e h b n t. o.f4n j w x e h (dn-both j w x b) n t;
+    f4y = λ j w x e n. let t = o.f4y j w x e n in (t .0, up-both-strike j w x (t .1), t .2, t .3);
+    f4n = λ j w x e h b n t. o.f4n j w x e h (dn-both-strike j w x b) n t;
   }
 
   pub flow-strike : Flow p s → Flow p (set-mark s struck)
@@ -89,7 +89,7 @@ module _ (p : Network) (s : State) (v k c : ℕ) (strike : Strike s v k c) where
 
 -- ---- clauses on tables: v is awake, k lies inside the fragment and is not Branch at its other end where it is Basic at v
 
-module _ {p : Network} {s : State} (i : Inv p s) {u v k c : ℕ} (ends : Ends p k v u) (strike : Strike s v k c) (awake : s.st v ≢ 0) (inside : s.fr v ≡ s.fr u)
+module _ {p : Network} {s : ProtocolState} (i : Inv p s) {u v k c : ℕ} (ends : Edge p k v u) (strike : Strike s v k c) (awake : s.st v ≢ 0) (inside : s.fr v ≡ s.fr u)
     (free : s.mark v k ≡ 0 → s.mark u k ≢ 1) where
   abbrev m′ : ℕ → ℕ → ℕ
   m′ = struck p s v k c strike
@@ -106,13 +106,13 @@ module _ {p : Network} {s : State} (i : Inv p s) {u v k c : ℕ} (ends : Ends p 
   cores-strike : Cores p s.fr s.gl s.gc m′
   cores-strike = record {
     g5r = i.G5.g5r;
-    g5 = λ w x y l e. let t = i.G5.g5 w x y l e in (up-both p s v k c strike (s.gc (s.fr w)) x y (t .0), t .1);
+    g5 = λ w x y l e. let t = i.G5.g5 w x y l e in (up-both-strike p s v k c strike (s.gc (s.fr w)) x y (t .0), t .1);
   }
 
   sleepers-strike : Sleepers p s.st s.fr s.gl s.dk s.due s.bw s.be s.ub s.halt m′
   sleepers-strike = record {
     g6 = i.G6.g6;
-    g6m = λ w j z. up0 p s v k c strike w j (inl (λ q. awake (ap s.st q ∙ z))) (i.G6.g6m w j z);
+    g6m = λ w j z. up0-strike p s v k c strike w j (inl (λ q. awake (ap s.st q ∙ z))) (i.G6.g6m w j z);
     u1a = i.G6.u1a;
     g7 = i.G6.g7;
     g7n = i.G6.g7n;
@@ -120,45 +120,45 @@ module _ {p : Network} {s : State} (i : Inv p s) {u v k c : ℕ} (ends : Ends p 
 
   marks-strike : Marks p s.fr m′
   marks-strike = record {
-    own = λ w j n. upd2-elim (λ x. x ≢ 0 → (y : ℕ) × Ends p j w y) s.mark v k c w j
-        (λ a b m. (u, subst (λ x. Ends p j x u) a (subst (λ x. Ends p x v u) b ends))) (λ d m. i.M1.own w j m) n;
-    m1 = λ j w x e h. ⊎-elim (λ o. let t = i.M1.m1 j w x e o in (t .0, λ z. t .1 (dn1 p s v k c strike x j z)))
+    own = λ w j n. upd2-elim (λ x. x ≢ 0 → (y : ℕ) × Edge p j w y) s.mark v k c w j
+        (λ a b m. (u, subst (λ x. Edge p j x u) a (subst (λ x. Edge p x v u) b ends))) (λ d m. i.M1.own w j m) n;
+    m1 = λ j w x e h. ⊎-elim (λ o. let t = i.M1.m1 j w x e o in (t .0, λ z. t .1 (dn1-strike p s v k c strike x j z)))
         (λ t. let y = other-end ends e (t .0) (t .1) in
-        (ap s.fr (sym (t .0)) ∙ inside ∙ ap s.fr y, λ z. free (t .2) (ap (λ a. s.mark a k) y ∙ ap (s.mark x) (t .1) ∙ dn1 p s v k c strike x j z)))
-        (dn2 p s v k c strike w j h);
-    m3 = λ j w x e h. i.M1.m3 j w x e (dn-both p s v k c strike j w x h);
-    m4 = λ w x e. wider (λ j l h. up-both p s v k c strike j (p.g.lo j) (p.g.hi j) h) (i.M1.m4 w x e);
-    m5 = λ j w x e h. i.M1.m5 j w x e (dn1 p s v k c strike w j h);
+        (ap s.fr (sym (t .0)) ∙ inside ∙ ap s.fr y, λ z. free (t .2) (ap (λ a. s.mark a k) y ∙ ap (s.mark x) (t .1) ∙ dn1-strike p s v k c strike x j z)))
+        (dn2-strike p s v k c strike w j h);
+    m3 = λ j w x e h. i.M1.m3 j w x e (dn-both-strike p s v k c strike j w x h);
+    m4 = λ w x e. wider (λ j l h. up-both-strike p s v k c strike j (p.g.lo j) (p.g.hi j) h) (i.M1.m4 w x e);
+    m5 = λ j w x e h. i.M1.m5 j w x e (dn1-strike p s v k c strike w j h);
   }
 
   inbounds-strike : Inbounds p s.ub s.ib m′
   inbounds-strike = record {
     u1o = i.U1.u1o;
-    u1 = λ j w x e h. up1 p s v k c strike w j (i.U1.u1 j w x e h);
+    u1 = λ j w x e h. up1-strike p s v k c strike w j (i.U1.u1 j w x e h);
     u1r = i.U1.u1r;
-    u1i = λ j w x e h. up-both p s v k c strike j w x (i.U1.u1i j w x e h);
-    m3u = λ j w x e h. i.U1.m3u j w x e (dn-both p s v k c strike j w x h);
+    u1i = λ j w x e h. up-both-strike p s v k c strike j w x (i.U1.u1i j w x e h);
+    m3u = λ j w x e h. i.U1.m3u j w x e (dn-both-strike p s v k c strike j w x h);
   }
 
   halves-strike : Halves p s.dk s.dn s.de s.fr s.gl s.lev s.ub m′
   halves-strike = record {
-    m2 = λ j w x e a b. i.D1.m2 j w x e (dn1 p s v k c strike w j a) (λ z. b (up1 p s v k c strike x j z));
+    m2 = λ j w x e a b. i.D1.m2 j w x e (dn1-strike p s v k c strike w j a) (λ z. b (up1-strike p s v k c strike x j z));
     d1f = i.D1.d1f;
     d1e = i.D1.d1e;
     d1 = λ j z y e h. let t = i.D1.d1 j z y e h in
         record {
-          d1m = up1 p s v k c strike z j (t.d1m);
-          d1y = up0 p s v k c strike y j (by-eq v y (λ q. inr (λ b. t.d1o (out j z y e q b))) (λ n. inl n)) (t.d1y);
+          d1m = up1-strike p s v k c strike z j (t.d1m);
+          d1y = up0-strike p s v k c strike y j (by-eq v y (λ q. inr (λ b. t.d1o (out j z y e q b))) (λ n. inl n)) (t.d1y);
           d1o = t.d1o;
           d1g = t.d1g;
           d1l = t.d1l;
           d1u = t.d1u;
-          d1b = bounds p s v k c strike s.fr (rank p j) z (t.d1b);
+          d1b = bounds-strike p s v k c strike s.fr (rank p j) z (t.d1b);
         };
   }
     where
       -- k lies inside
-      out : (j z y : ℕ) → Ends p j z y → v ≡ y → k ≡ j → s.fr y ≡ s.fr z
+      out : (j z y : ℕ) → Edge p j z y → v ≡ y → k ≡ j → s.fr y ≡ s.fr z
       out j z y e q b = ap s.fr (sym q) ∙ inside ∙ ap s.fr (other-end ends (flip e) q b)
 
   change-roots-strike : ChangeRoots p s.dk s.dn s.de s.fr s.gl s.gc s.lev s.ib s.ub s.bw m′
@@ -167,7 +167,7 @@ module _ {p : Network} {s : State} (i : Inv p s) {u v k c : ℕ} (ends : Ends p 
     d2e = i.D2.d2e;
     d2 = λ j w x e h. let t = i.D2.d2 j w x e h in
         record {
-          d2j = up-both p s v k c strike j w x (t.d2j);
+          d2j = up-both-strike p s v k c strike j w x (t.d2j);
           d2g = t.d2g;
           d2i = t.d2i;
           d2x = t.d2x;
@@ -175,7 +175,7 @@ module _ {p : Network} {s : State} (i : Inv p s) {u v k c : ℕ} (ends : Ends p 
           d2u = t.d2u;
           d2v = t.d2v;
           d2w = t.d2w;
-          d2n = bounds p s v k c strike s.fr (key p (s.bw x)) x (t.d2n);
+          d2n = bounds-strike p s v k c strike s.fr (key p (s.bw x)) x (t.d2n);
         };
   }
 
@@ -185,30 +185,27 @@ module _ {p : Network} {s : State} (i : Inv p s) {u v k c : ℕ} (ends : Ends p 
     d3o = i.D3.d3o;
     f5r = i.D3.f5r;
     d3 = λ x h. let t = i.D3.d3 x h in
-        record { d3i = t.d3i; d3w = t.d3w; d3b = bounds p s v k c strike s.fr (key p (s.bw x)) x (t.d3b); d3u = t.d3u; d3v = t.d3v };
+        record { d3i = t.d3i; d3w = t.d3w; d3b = bounds-strike p s v k c strike s.fr (key p (s.bw x)) x (t.d3b); d3u = t.d3u; d3v = t.d3v };
   }
 
   finishes-strike : Finishes p s.dk s.fr s.gl s.gc s.lev s.bw s.halt s.due m′
-  finishes-strike = record { d4 = λ j w x e h z. i.D4.d4 j w x e h (dn0 p s v k c strike w j z); d4i = i.D4.d4i; d5 = i.D4.d5; d6 = i.D4.d6; d6c = i.D4.d6c }
+  finishes-strike = record { d4 = λ j w x e h z. i.D4.d4 j w x e h (dn0-strike p s v k c strike w j z); d4i = i.D4.d4i; d5 = i.D4.d5; d6 = i.D4.d6; d6c = i.D4.d6c }
 
   kids-strike : Kids p s.lev s.fr s.gl s.gc s.ib s.ub s.due m′
   kids-strike = record {
-    t2 = λ j w x e b h n o. i.T2.t2 j w x e (dn-both p s v k c strike j w x b) h n o;
-    t3 = λ j a b e h l m. i.T2.t3 j a b e (dn-both p s v k c strike j a b h) l m;
-    t4u = λ j x y e b g l. i.T2.t4u j x y e (dn-both p s v k c strike j x y b) g l;
+    t2 = λ j w x e b h n o. i.T2.t2 j w x e (dn-both-strike p s v k c strike j w x b) h n o;
+    t3 = λ j a b e h l m. i.T2.t3 j a b e (dn-both-strike p s v k c strike j a b h) l m;
+    t4u = λ j x y e b g l. i.T2.t4u j x y e (dn-both-strike p s v k c strike j x y b) g l;
   }
 
   -- the whole, where besides the open test and channels change
   module _ (ot : ℕ) (c′ : ℕ → ℕ → List Msg) where
-    abbrev striking : State
+    abbrev striking : ProtocolState
     striking = set-ot (set-mark (set-ch s c′) m′) ot
 
     pub inv-strike : Pending s.st s.te s.fc ot s.op → Tests p s.te s.ib m′ ot → Flow p striking → Testing p striking → Answers p striking → Bests p striking → Inv p striking
-    inv-strike f2 e2 f e1 a1 b2 = record {
+    inv-strike = inv-search i m′ s.te ot s.op c′ (record {
       W0 = ranges-strike;
-      W1 = i.W1;
-      G2 = i.G2;
-      G4 = i.G4;
       G5 = cores-strike;
       G6 = sleepers-strike;
       M1 = marks-strike;
@@ -217,22 +214,5 @@ module _ {p : Network} {s : State} (i : Inv p s) {u v k c : ℕ} (ends : Ends p 
       D2 = change-roots-strike;
       D3 = rootings-strike;
       D4 = finishes-strike;
-      T1 = i.T1;
       T2 = kids-strike;
-      F1 = i.F1;
-      F2 = f2;
-      F4 = i.F4;
-      E2 = e2;
-      B1 = i.B1;
-      G6c = f.G6c;
-      Dc = f.Dc;
-      C1 = f.C1;
-      I1 = f.I1;
-      T4 = f.T4;
-      E1 = e1;
-      A1 = a1;
-      R1 = f.R1;
-      F4c = f.F4c;
-      B2 = b2;
-      Q1 = f.Q1;
-    }
+    })

@@ -2,19 +2,19 @@
 use Rattle.protocol.specs.Prelude.{ℕ, suc, _+_, _≤_, arith, _≡_, refl, sym, ap, subst, _∙_, _≢_, _⊎_, inl, inr, ⊎-elim}
 use Rattle.protocol.specs.Prelude.{List, upd, upd-elim, upd-same, upd-other, by-eq, sumL}
 use Rattle.protocol.specs.Prelude.{Msg, none, test}
-use Rattle.protocol.specs.Prelude.{Network, Ends, key, rank, flip, ends-same, ends-irr, ends-key, edge-some, State, FirstBasic, set-te, set-ot, set-ch, send}
+use Rattle.protocol.specs.Prelude.{Network, Edge, key, rank, flip, ends-same, ends-irr, ends-key, edge-some, ProtocolState, FirstBasic, set-te, set-ot, set-ch, sendOver}
 use Rattle.protocol.specs.Prelude.{isT, isA, isR, arg1, arg2, fits-test, snoc, snoc-in, snoc-sum, snoc-here, snoc-else, no-tests, none-in}
 use Rattle.protocol.specs.Prelude.{Inf, Waits, Inv, no-answer}
-use Rattle.protocol.specs.Prelude.{Plain, plain-test, before, bests-same, covered-to, flow, inv-asking, flow-open, flow-post}
+use Rattle.protocol.specs.Prelude.{Plain, plain-test, post-before, bests-same, covered-to, flow, inv-asking, flow-open, flow-post}
 use Rattle.protocol.specs.Search.{Pending, Tests}
 use Rattle.protocol.specs.Traffic.{Testing, Answers, Bests}
 
-module _ {p : Network} {s : State} (i : Inv p s) {v k u : ℕ} (ot : s.ot ≡ suc v) (op : s.op ≡ 0) (oo : s.oo ≡ 0) (ends : Ends p k v u) (least : FirstBasic p s v k) where
+module _ {p : Network} {s : ProtocolState} (i : Inv p s) {v k u : ℕ} (ot : s.ot ≡ suc v) (op : s.op ≡ 0) (oo : s.oo ≡ 0) (ends : Edge p k v u) (least : FirstBasic p s v k) where
   abbrev m : Msg
   m = test (s.lev v) (s.id v)
 
-  abbrev S′ : State
-  S′ = set-ot (set-te (send s v k m) (upd s.te v k)) 0
+  abbrev S′ : ProtocolState
+  S′ = set-ot (set-te (sendOver s v k m) (upd s.te v k)) 0
 
   abbrev c′ : ℕ → ℕ → List Msg
   c′ = snoc s.ch v k m
@@ -25,7 +25,7 @@ module _ {p : Network} {s : State} (i : Inv p s) {v k u : ℕ} (ot : s.ot ≡ su
   pub find : s.st v ≡ 1
   find = i.F2.f5t v ot
 
-  pub v≢u : v ≢ u
+  v≢u : v ≢ u
   v≢u = ends-irr p ends
 
   same : (f : Msg → ℕ) → f m ≡ 0 → (w j : ℕ) → sumL f (c′ w j) ≡ sumL f (s.ch w j)
@@ -39,7 +39,7 @@ module _ {p : Network} {s : State} (i : Inv p s) {v k u : ℕ} (ot : s.ot ≡ su
   no-wait : (j : ℕ) → ¬ Waits s v j
   no-wait j h = h .1 ot
 
-  pub no-ans : (j w : ℕ) → Ends p j w v → sumL isA (s.ch w j) ≡ 0
+  no-ans : (j w : ℕ) → Edge p j w v → sumL isA (s.ch w j) ≡ 0
   no-ans j w e = no-answer i j w v e (no-wait j)
 
   -- a Test from v crossed, and its edge is Rejected
@@ -51,8 +51,8 @@ module _ {p : Network} {s : State} (i : Inv p s) {v k u : ℕ} (ot : s.ot ≡ su
   their-test n = no-tests (s.ch u k) (λ l f h. ⊎-elim (λ t. n (t .0 .0)) (λ t. no-wait k (t .2)) (i.E1.e1w k u v l f (flip ends) h))
 
   -- who waits now: v on k, or another that waited
-  pub waits {κ} : {C : Type κ} (j w : ℕ) → Waits S′ w j → (v ≡ w → k ≡ j → C) → (v ≢ w → Waits s w j → C) → C
-  waits {C} j w h y n = by-eq v w
+  pub waits-next {κ} : {C : Type κ} (j w : ℕ) → Waits S′ w j → (v ≡ w → k ≡ j → C) → (v ≢ w → Waits s w j → C) → C
+  waits-next {C} j w h y n = by-eq v w
       (λ q. y q (sym (upd-same s.te v k) ∙ ap (upd s.te v k) q ∙ h .0))
       (λ d. n d (sym (upd-other s.te v k w d) ∙ h .0, λ o. d (omega arith)))
 
@@ -74,12 +74,12 @@ module _ {p : Network} {s : State} (i : Inv p s) {v k u : ℕ} (ot : s.ot ≡ su
 
   E2′ : Tests p S′.te s.ib s.mark 0
   E2′ = record {
-    e2o = λ w. upd-elim (λ x. x ≢ none → (y : ℕ) × Ends p x w y) s.te v k w (λ q n. (u, subst (λ x. Ends p k x u) q ends)) (λ d n. i.E2.e2o w n);
-    e2b = λ j w x h y e a f g. waits j w a
-        (λ q z. subst (λ n. rank p n ≤ rank p h) z (least .1 h y (subst (λ n. Ends p h n y) (sym q) f) (subst (λ n. s.mark n h ≡ 0) (sym q) g)))
+    e2o = λ w. upd-elim (λ x. x ≢ none → (y : ℕ) × Edge p x w y) s.te v k w (λ q n. (u, subst (λ x. Edge p k x u) q ends)) (λ d n. i.E2.e2o w n);
+    e2b = λ j w x h y e a f g. waits-next j w a
+        (λ q z. subst (λ n. rank p n ≤ rank p h) z (least .1 h y (subst (λ n. Edge p h n y) (sym q) f) (subst (λ n. s.mark n h ≡ 0) (sym q) g)))
         (λ n z. i.E2.e2b j w x h y e z f g);
-    e2r = λ j w x e a. waits j w a (λ q z b. omega (arith, least .0, ap (λ n. s.mark n j) q, ap (s.mark v) z)) (λ n z. i.E2.e2r j w x e z);
-    e2i = λ j w x e a b. waits j w a
+    e2r = λ j w x e a. waits-next j w a (λ q z b. omega (arith, least .0, ap (λ n. s.mark n j) q, ap (s.mark v) z)) (λ n z. i.E2.e2r j w x e z);
+    e2i = λ j w x e a b. waits-next j w a
         (λ q z. absurd (omega (arith, least .0, ap (λ n. s.mark n j) q, ap (s.mark v) z, b .0)))
         (λ n z. let t = i.E2.e2i j w x e z b in
         (t .0, upd-elim (λ y. y ≢ j) s.te v k x (λ q r. omega (arith, least .0, ap (λ n. s.mark n j) q, ap (s.mark v) r, b .1)) (λ d. t .1)));
@@ -100,15 +100,15 @@ module _ {p : Network} {s : State} (i : Inv p s) {v k u : ℕ} (ot : s.ot ≡ su
           λ z. absurd (omega (arith, least .0, ap (λ n. s.mark n j) (t .0), ap (s.mark v) (t .1))),
         ))
         (snoc-in s.ch v k m w j h);
-    e2w = λ j w x e a b. waits j w a
+    e2w = λ j w x e a b. waits-next j w a
         (λ q z. at-v j w x e q z)
-        (λ n y. waits j x b
-        (λ q z. let f = subst (λ r. Ends p r v w) (sym z) (subst (λ r. Ends p j r w) (sym q) (flip e)) in
+        (λ n y. waits-next j x b
+        (λ q z. let f = subst (λ r. Edge p r v w) (sym z) (subst (λ r. Edge p j r w) (sym q) (flip e)) in
         let t = i.E1.e2c j w x e y (inr (ot ∙ ap suc q)) in
         omega (arith, t, off w j (inl n), same isA refl x j, ap (λ r. sumL isT (s.ch r j)) q, ap (λ r. sumL isT (s.ch v r)) z, own-test))
         (λ d z. omega (arith, i.E1.e2w j w x e y z, off w j (inl n), same isA refl x j)));
-    e2c = λ j w x e a b. waits j w a
-        (λ q z. let f = subst (λ r. Ends p r v x) (sym z) (subst (λ r. Ends p j r x) (sym q) e) in
+    e2c = λ j w x e a b. waits-next j w a
+        (λ q z. let f = subst (λ r. Edge p r v x) (sym z) (subst (λ r. Edge p j r x) (sym q) e) in
         let y = ends-same ends f in
         omega (
           arith,
@@ -139,7 +139,7 @@ module _ {p : Network} {s : State} (i : Inv p s) {v k u : ℕ} (ot : s.ot ≡ su
           (λ d. ⊎-elim (λ n. n) (λ o. absurd (d (omega arith))) h))
 
       -- at v on k: its Test is there, and no answer
-      at-v : (j w x : ℕ) → Ends p j w x → v ≡ w → k ≡ j → sumL isT (c′ w j) + sumL isA (c′ x j) ≡ 1
+      at-v : (j w x : ℕ) → Edge p j w x → v ≡ w → k ≡ j → sumL isT (c′ w j) + sumL isA (c′ x j) ≡ 1
       at-v j w x e q z = omega (
         arith,
         ap (λ r. sumL isT (c′ r j)) q,
@@ -147,13 +147,13 @@ module _ {p : Network} {s : State} (i : Inv p s) {v k u : ℕ} (ot : s.ot ≡ su
         snoc-here s.ch v k m isT,
         own-test,
         same isA refl x j,
-        no-ans j x (subst (λ r. Ends p j x r) (sym q) (flip e)),
+        no-ans j x (subst (λ r. Edge p j x r) (sym q) (flip e)),
       )
 
   A1′ : Answers p S′
   A1′ = record {
-    a1 = λ j w x e h. let t = i.A1.a1 j w x e (before p s v k plain isA refl (omega arith) w j h) in record { a1w = still j x (t.a1w); a1m = t.a1m; a1f = t.a1f; a1l = t.a1l };
-    j1 = λ j w x e h. let t = i.A1.j1 j w x e (before p s v k plain isA refl (omega arith) w j h) in record { j1w = still j x (t.j1w); j1f = t.j1f; j1m = t.j1m };
+    a1 = λ j w x e h. let t = i.A1.a1 j w x e (post-before p s v k plain isA refl (omega arith) w j h) in record { a1w = still j x (t.a1w); a1m = t.a1m; a1f = t.a1f; a1l = t.a1l };
+    j1 = λ j w x e h. let t = i.A1.j1 j w x e (post-before p s v k plain isA refl (omega arith) w j h) in record { j1w = still j x (t.j1w); j1f = t.j1f; j1m = t.j1m };
   }
 
   B2′ : Bests p S′
@@ -161,7 +161,7 @@ module _ {p : Network} {s : State} (i : Inv p s) {v k u : ℕ} (ot : s.ot ≡ su
     b1e = (bests-same p s c′ (same isR refl) i.B2) .b1e;
     b2 = λ j w x e a d g. by-eq v w
         (λ q. inr (inr (inl (subst (λ y. (y ≢ none) × (key p y ≤ rank p j)) (sym (sym (ap (upd s.te v k) q) ∙ upd-same s.te v k))
-        (edge-some p ends, omega (arith, ends-key p ends, least .1 j x (subst (λ r. Ends p j r x) (sym q) e) (subst (λ r. s.mark r j ≡ 0) (sym q) a)))))))
+        (edge-some p ends, omega (arith, ends-key p ends, least .1 j x (subst (λ r. Edge p j r x) (sym q) e) (subst (λ r. s.mark r j ≡ 0) (sym q) a)))))))
         (λ n. ⊎-elim (λ t. inl t)
         (⊎-elim (λ o. absurd (n (omega arith)))
         (⊎-elim (λ t. inr (inr (inl (subst (λ y. (y ≢ none) × (key p y ≤ rank p j)) (sym (upd-other s.te v k w n)) t))))

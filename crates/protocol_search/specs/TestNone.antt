@@ -2,22 +2,22 @@
 use Rattle.protocol.specs.Prelude.{ℕ, suc, _≤_, arith, _≡_, refl, sym, ap, subst, _∙_, _≢_, _⊎_, inl, inr, ⊎-elim}
 use Rattle.protocol.specs.Prelude.{upd, upd-elim, upd-other, by-eq}
 use Rattle.protocol.specs.Prelude.{none}
-use Rattle.protocol.specs.Prelude.{Network, Ends, key, rank, flip, edge-some, State, set-te, set-ot, set-op}
+use Rattle.protocol.specs.Prelude.{Network, Edge, key, rank, flip, edge-some, ProtocolState, set-te, set-ot, set-op}
 use Rattle.protocol.specs.Prelude.{Waits, Inv, flow, inv-asking, flow-open}
 use Rattle.protocol.specs.Search.{Pending, Tests}
 use Rattle.protocol.specs.Traffic.{Testing, Answers, Bests}
 
-module _ {p : Network} {s : State} (i : Inv p s) {v : ℕ} (ot : s.ot ≡ suc v) (op : s.op ≡ 0) (oo : s.oo ≡ 0)
-    (none-basic : (k u : ℕ) → Ends p k v u → s.mark v k ≢ 0) where
-  abbrev S′ : State
+module _ {p : Network} {s : ProtocolState} (i : Inv p s) {v : ℕ} (ot : s.ot ≡ suc v) (op : s.op ≡ 0) (oo : s.oo ≡ 0)
+    (none-basic : (k u : ℕ) → Edge p k v u → s.mark v k ≢ 0) where
+  abbrev S′ : ProtocolState
   S′ = set-op (set-ot (set-te s (upd s.te v none)) 0) (suc v)
 
-  pub find : s.st v ≡ 1
+  find : s.st v ≡ 1
   find = i.F2.f5t v ot
 
   -- who waits now waited before, and is not v
-  pub waits : (k w u : ℕ) → Ends p k w u → Waits S′ w k → (v ≢ w) × Waits s w k
-  waits k w u e h = upd-elim (λ x. x ≡ k → (v ≢ w) × Waits s w k) s.te v none w
+  pub waits-none : (k w u : ℕ) → Edge p k w u → Waits S′ w k → (v ≢ w) × Waits s w k
+  waits-none k w u e h = upd-elim (λ x. x ≡ k → (v ≢ w) × Waits s w k) s.te v none w
       (λ q z. absurd (edge-some p e (sym z)))
       (λ n z. (n, (z, λ o. n (omega arith)))) (h .0)
 
@@ -30,7 +30,7 @@ module _ {p : Network} {s : State} (i : Inv p s) {v : ℕ} (ot : s.ot ≡ suc v)
   idle-te k w (inr z) = absurd (omega arith)
   idle-te k w (inl n) = by-eq v w (λ q. inr (ot ∙ ap suc q)) (λ d. inl (λ z. n (upd-other s.te v none w d ∙ z)))
 
-  pub te-idle : (k w u : ℕ) → Ends p k w u → (s.te w ≢ k) ⊎ (s.ot ≡ suc w) → (S′.te w ≢ k) ⊎ (S′.ot ≡ suc w)
+  pub te-idle : (k w u : ℕ) → Edge p k w u → (s.te w ≢ k) ⊎ (s.ot ≡ suc w) → (S′.te w ≢ k) ⊎ (S′.ot ≡ suc w)
   te-idle k w u e h = inl (upd-elim (λ x. x ≢ k) s.te v none w (λ q z. edge-some p e (sym z))
       (λ n. ⊎-elim (λ d. d) (λ o. absurd (n (omega arith))) h))
 
@@ -46,10 +46,10 @@ module _ {p : Network} {s : State} (i : Inv p s) {v : ℕ} (ot : s.ot ≡ suc v)
 
   E2′ : Tests p S′.te s.ib s.mark 0
   E2′ = record {
-    e2o = λ w. upd-elim (λ x. x ≢ none → (u : ℕ) × Ends p x w u) s.te v none w (λ q n. absurd (n refl)) (λ d n. i.E2.e2o w n);
-    e2b = λ k w u j x e h. i.E2.e2b k w u j x e (waits k w u e h .1);
-    e2r = λ k w u e h. i.E2.e2r k w u e (waits k w u e h .1);
-    e2i = λ k w u e h b. let t = i.E2.e2i k w u e (waits k w u e h .1) b in
+    e2o = λ w. upd-elim (λ x. x ≢ none → (u : ℕ) × Edge p x w u) s.te v none w (λ q n. absurd (n refl)) (λ d n. i.E2.e2o w n);
+    e2b = λ k w u j x e h. i.E2.e2b k w u j x e (waits-none k w u e h .1);
+    e2r = λ k w u e h. i.E2.e2r k w u e (waits-none k w u e h .1);
+    e2i = λ k w u e h b. let t = i.E2.e2i k w u e (waits-none k w u e h .1) b in
         (t .0, upd-elim (λ x. x ≢ k) s.te v none u (λ q z. edge-some p e (sym z)) (λ d. t .1));
     m6 = λ k w u e h z. still k u (i.E2.m6 k w u e h z);
   }
@@ -58,8 +58,8 @@ module _ {p : Network} {s : State} (i : Inv p s) {v : ℕ} (ot : s.ot ≡ suc v)
   E1′ = record {
     e1 = i.E1.e1;
     e1w = λ k u w l f e h. ⊎-elim (λ t. inl (still k u (t .0), t .1, t .2)) (λ t. inr (te-idle k u w e (t .0), t .1, still k w (t .2), t .3)) (i.E1.e1w k u w l f e h);
-    e2w = λ k w u e y z. i.E1.e2w k w u e (waits k w u e y .1) (waits k u w (flip e) z .1);
-    e2c = λ k w u e y z. i.E1.e2c k w u e (waits k w u e y .1) (idle-te k u z);
+    e2w = λ k w u e y z. i.E1.e2w k w u e (waits-none k w u e y .1) (waits-none k u w (flip e) z .1);
+    e2c = λ k w u e y z. i.E1.e2c k w u e (waits-none k w u e y .1) (idle-te k u z);
     m6t = i.E1.m6t;
   }
 
@@ -72,7 +72,7 @@ module _ {p : Network} {s : State} (i : Inv p s) {v : ℕ} (ot : s.ot ≡ suc v)
   B2′ : Bests p S′
   B2′ = record {
     b1e = i.B2.b1e;
-    b2 = λ k u w e m d g. by-eq v u (λ q. absurd (none-basic k w (subst (λ x. Ends p k x w) (sym q) e) (subst (λ x. s.mark x k ≡ 0) (sym q) m)))
+    b2 = λ k u w e m d g. by-eq v u (λ q. absurd (none-basic k w (subst (λ x. Edge p k x w) (sym q) e) (subst (λ x. s.mark x k ≡ 0) (sym q) m)))
         (λ n. ⊎-elim (λ t. inl t)
         (⊎-elim (λ o. absurd (n (omega arith)))
         (⊎-elim (λ t. inr (inr (inl (subst (λ x. (x ≢ none) × (key p x ≤ rank p k)) (sym (upd-other s.te v none u n)) t)))) (λ t. inr (inr (inr t)))))

@@ -1,27 +1,27 @@
 -- A node without edges wakes: Found and halted, and its fragment is finished.
 use Rattle.protocol.specs.Prelude.{ℕ, _≤_, _<_, arith, _≡_, sym, ap, subst, _∙_, _≢_, inl, inr, ⊎-elim}
 use Rattle.protocol.specs.Prelude.{upd, upd-elim, upd-same, upd-other, by-eq}
-use Rattle.protocol.specs.Prelude.{Network, Ends, flip, State, Idle, set-st, set-dk, set-halt, woken, woken-same}
-use Rattle.protocol.specs.Prelude.{GL, DK, Inf, CoreEnds, Inv, sleep-te, sleep-fc, last}
+use Rattle.protocol.specs.Prelude.{Network, Edge, flip, ProtocolState, Idle, set-st, set-dk, set-halt, wokenUp, woken-same}
+use Rattle.protocol.specs.Prelude.{GL, DK, Inf, CoreEnds, Inv, sleep-te, sleep-fc, last-case}
 use Rattle.protocol.specs.Fragments.{Ranges, Sleepers}
 use Rattle.protocol.specs.Decisions.{Halves, ChangeRoots, Rootings, Finishes}
 use Rattle.protocol.specs.Search.{Finds, Pending}
 use Rattle.protocol.specs.Traffic.{Tokens, Reports, Owing, Bests}
 
-module _ {p : Network} {s : State} (i : Inv p s) {v : ℕ} (idle : Idle s) (below : v < p.N) (asleep : s.st v ≡ 0) (lone : (k u : ℕ) → Ends p k v u → ⊥) where
+module _ {p : Network} {s : ProtocolState} (i : Inv p s) {v : ℕ} (idle : Idle s) (below : v < p.N) (asleep : s.st v ≡ 0) (lone : (k u : ℕ) → Edge p k v u → ⊥) where
   -- by `woken-same` waking changes the status alone
-  abbrev S″ : State
+  abbrev S″ : ProtocolState
   S″ = set-halt (set-dk (set-st s (upd s.st v 2)) (upd s.dk (s.fr v) 4)) (upd s.halt v 1)
 
-  abbrev S′ : State
-  S′ = set-halt (set-dk (woken s v) (upd s.dk (s.fr v) 4)) (upd s.halt v 1)
+  abbrev S′ : ProtocolState
+  S′ = set-halt (set-dk (wokenUp s v) (upd s.dk (s.fr v) 4)) (upd s.halt v 1)
 
   level : GL s v ≡ 0
   level = i.G6.g6 v asleep .g6g
 
   -- what has an edge, and who is informed, is another
-  other : (k w u : ℕ) → Ends p k w u → v ≢ w
-  other k w u e q = lone k u (subst (λ x. Ends p k x u) (sym q) e)
+  other : (k w u : ℕ) → Edge p k w u → v ≢ w
+  other k w u e q = lone k u (subst (λ x. Edge p k x u) (sym q) e)
 
   inf-other : (w : ℕ) → Inf s w → v ≢ w
   inf-other w h q = omega (arith, level, ap (λ x. GL s x) q, h .0)
@@ -154,7 +154,7 @@ module _ {p : Network} {s : State} (i : Inv p s) {v : ℕ} (idle : Idle s) (belo
   B2′ : Bests p S″
   B2′ = record {
     b1e = λ w h n d. let t = i.B2.b1e w h n d in (t .0, t .1, t .2, t .3, t .4, t .5, t .6, st-at (t .0) (inf-other (t .0) (t .4)) ∙ t .7, t .8);
-    b2 = λ k u w e m d l. last (λ t. (t .0, t .1, t .2, t .3, ⊎-elim (λ f. inl (st-at (t .0) (inf-other (t .0) (t .2)) ∙ f)) (λ r. inr r) (t .4), t .5))
+    b2 = λ k u w e m d l. last-case (λ t. (t .0, t .1, t .2, t .3, ⊎-elim (λ f. inl (st-at (t .0) (inf-other (t .0) (t .2)) ∙ f)) (λ r. inr r) (t .4), t .5))
         (i.B2.b2 k u w e m (dk-old 0 u (λ z. omega arith) d .1) l);
   }
 

@@ -1,30 +1,30 @@
 -- THE STUCK LEMMA: in a stuck state the fragment of every awake node is finished, is its whole part of the graph, and no message waits.
 use Rattle.protocol.specs.Prelude.{ℕ, _≤_, _<_, arith, _≡_, refl, sym, ap, _∙_, _≢_, _⊎_, inl, inr, ⊎-elim, by-eq, strong}
-use Rattle.protocol.specs.Prelude.{Msg, connect, initiate, test, accept, reject, report, change, Network, Ends, rank, Way, stop, go, up, down, flip, join, hop, wider, State}
+use Rattle.protocol.specs.Prelude.{Msg, connect, initiate, test, accept, reject, report, change, Network, Edge, rank, Way, stop, go, up, down, flip, join, hop, wider, ProtocolState}
 use Rattle.protocol.specs.Prelude.{In, Blocked, GL, DK, Inv, waits-find}
 use native.Mathlib.Decide.{ℕ-discrete}
 use Rattle.base.specs.Search.{least, Least}
 use Rattle.graph.specs.Ways.{Any, back}
 use Rattle.protocol_stuck.specs.Informed.{Stuck, no-changing, no-rooting, all-inf}
-use Rattle.protocol_stuck.specs.Waiting.{lower, meets, earlier}
+use Rattle.protocol_stuck.specs.Waiting.{lower, half-meets, half-earlier}
 
 -- a node has an edge, or none
-pub edge? : (p : Network) (v : ℕ) → ((k : ℕ) × (u : ℕ) × Ends p k v u) ⊎ ((k u : ℕ) → ¬ Ends p k v u)
+pub edge? : (p : Network) (v : ℕ) → ((k : ℕ) × (u : ℕ) × Edge p k v u) ⊎ ((k u : ℕ) → ¬ Edge p k v u)
 edge? p v = low (least (λ k. p.g.lo k ≡ v) (λ k. ℕ-discrete (p.g.lo k) v) p.g.L)
   where
-    high : ((k : ℕ) → k < p.g.L → ¬ (p.g.lo k ≡ v)) → ((k : ℕ) → k < p.g.L → ¬ (p.g.hi k ≡ v)) ⊎ Least (λ k. p.g.hi k ≡ v) p.g.L → ((k : ℕ) × (u : ℕ) × Ends p k v u) ⊎ ((k u : ℕ) → ¬ Ends p k v u)
+    high : ((k : ℕ) → k < p.g.L → ¬ (p.g.lo k ≡ v)) → ((k : ℕ) → k < p.g.L → ¬ (p.g.hi k ≡ v)) ⊎ Least (λ k. p.g.hi k ≡ v) p.g.L → ((k : ℕ) × (u : ℕ) × Edge p k v u) ⊎ ((k u : ℕ) → ¬ Edge p k v u)
     high f (inl g) = inr (λ k u e. none-at k u e)
       where
-        none-at : (k u : ℕ) → ¬ Ends p k v u
+        none-at : (k u : ℕ) → ¬ Edge p k v u
         none-at k u (up l a b) = f k l a
         none-at k u (down l a b) = g k l a
     high f (inr m) = inl (m.at, p.g.lo (m.at), down (m.below) (m.holds) refl)
 
-    low : ((k : ℕ) → k < p.g.L → ¬ (p.g.lo k ≡ v)) ⊎ Least (λ k. p.g.lo k ≡ v) p.g.L → ((k : ℕ) × (u : ℕ) × Ends p k v u) ⊎ ((k u : ℕ) → ¬ Ends p k v u)
+    low : ((k : ℕ) → k < p.g.L → ¬ (p.g.lo k ≡ v)) ⊎ Least (λ k. p.g.lo k ≡ v) p.g.L → ((k : ℕ) × (u : ℕ) × Edge p k v u) ⊎ ((k u : ℕ) → ¬ Edge p k v u)
     low (inl f) = high f (least (λ k. p.g.hi k ≡ v) (λ k. ℕ-discrete (p.g.hi k) v) p.g.L)
     low (inr m) = inl (m.at, p.g.hi (m.at), up (m.below) (m.holds) refl)
 
-module _ {p : Network} {s : State} (i : Inv p s) (t : Stuck p s) where
+module _ {p : Network} {s : ProtocolState} (i : Inv p s) (t : Stuck p s) where
   -- an awake node of a finished fragment, joined to v by edges
   abbrev Goal : ℕ → Type 0
   Goal v = (w : ℕ) × Way p.g Any v w × (s.st w ≢ 0) × (DK s w ≡ 4)
@@ -68,15 +68,15 @@ module _ {p : Network} {s : State} (i : Inv p s) (t : Stuck p s) where
           by-rank : (r : ℕ) → ((m : ℕ) → m < r → (v : ℕ) → GL s v ≡ g → DK s v ≡ 3 → rank p (s.de (s.fr v)) ≡ m → Goal v)
               → (v : ℕ) → GL s v ≡ g → DK s v ≡ 3 → rank p (s.de (s.fr v)) ≡ r → Goal v
           by-rank r ir v q d e =
-              let m = meets i t v d in
+              let m = half-meets i t v d in
               far (join (mates v (m.z) (sym (m.mate))) (hop (m.ends) tt))
-              (settle (m.y) (m.wakes) (lower-ones (m.y) (m.alike ∙ q)) (λ h. ir (rank p (s.de (s.fr (m.y)))) (omega (arith, earlier i t v m h)) (m.y) (m.alike ∙ q) h refl))
+              (settle (m.y) (m.wakes) (lower-ones (m.y) (m.alike ∙ q)) (λ h. ir (rank p (s.de (s.fr (m.y)))) (omega (arith, half-earlier i t v m h)) (m.y) (m.alike ∙ q) h refl))
 
           halves : (r v : ℕ) → GL s v ≡ g → DK s v ≡ 3 → rank p (s.de (s.fr v)) ≡ r → Goal v
           halves = strong (λ r. (v : ℕ) → GL s v ≡ g → DK s v ≡ 3 → rank p (s.de (s.fr v)) ≡ r → Goal v) by-rank
 
   -- no edge leaves a finished fragment
-  inner : (k v u : ℕ) → Ends p k v u → DK s v ≡ 4 → s.fr v ≡ s.fr u
+  inner : (k v u : ℕ) → Edge p k v u → DK s v ≡ 4 → s.fr v ≡ s.fr u
   inner k v u e d = by-eq (s.mark v k) 1
       (λ a. by-eq (s.mark u k) 1 (λ b. i.M1.m3 k v u e (a, b)) (λ b. absurd (omega (arith, i.D1.m2 k v u e a b .0))))
       (λ a. i.M1.m1 k v u e (omega (arith, i.W0.mark-le v k, i.D4.d4 k v u e d)) .0)
@@ -86,28 +86,28 @@ module _ {p : Network} {s : State} (i : Inv p s) (t : Stuck p s) where
   closed (go {u = a} {v = b} k e o w) d = let q = inner k a b e d in q ∙ closed w (ap s.dk (sym q) ∙ d)
 
   -- THE FRAGMENT OF EVERY AWAKE NODE IS FINISHED
-  pub finished : (v : ℕ) → s.st v ≢ 0 → DK s v ≡ 4
-  finished v a = let r = reach (GL s v) v refl a in ap s.dk (sym (closed (back (r .1)) (r .3))) ∙ r .3
+  pub awake-finished : (v : ℕ) → s.st v ≢ 0 → DK s v ≡ 4
+  awake-finished v a = let r = reach (GL s v) v refl a in ap s.dk (sym (closed (back (r .1)) (r .3))) ∙ r .3
 
   -- AND IS ITS WHOLE PART, all of it awake
   pub part : (v w : ℕ) → s.st v ≢ 0 → Way p.g Any v w → s.fr v ≡ s.fr w
-  part v w a y = closed y (finished v a)
+  part v w a y = closed y (awake-finished v a)
 
   pub part-awake : (v w : ℕ) → s.st v ≢ 0 → Way p.g Any v w → s.st w ≢ 0
-  part-awake v w a y z = omega (arith, finished v a, ap s.dk (part v w a y), i.G6.g6 w z .g6d)
+  part-awake v w a y z = omega (arith, awake-finished v a, ap s.dk (part v w a y), i.G6.g6 w z .g6d)
 
   -- NO MESSAGE WAITS
-  pub nothing : (k u v : ℕ) (m : Msg) → Ends p k u v → ¬ In m (s.ch u k)
+  pub nothing : (k u v : ℕ) (m : Msg) → Edge p k u v → ¬ In m (s.ch u k)
   nothing k u v m e n = let b = t.back k u v m e n in which m n (b .0) (b .1)
     where
       not-find : (w : ℕ) → s.st w ≢ 0 → s.st w ≢ 1
-      not-find w a f = omega (arith, finished w a, i.F1.f1 w f .f1k)
+      not-find w a f = omega (arith, awake-finished w a, i.F1.f1 w f .f1k)
 
       awake-u : s.st v ≢ 0 → s.st u ≢ 0
       awake-u a = part-awake v u a (hop (flip e) tt)
 
       which : (m : Msg) → In m (s.ch u k) → s.st v ≢ 0 → Blocked s v k m → ⊥
-      which (connect l) n a b = i.D4.d4 k v u (flip e) (finished v a) (b .1)
+      which (connect l) n a b = i.D4.d4 k v u (flip e) (awake-finished v a) (b .1)
       which (initiate l f x) n a b = b
       which (test l f) n a b = ⊎-elim (λ r. not-find u (awake-u a) (waits-find i k u v e (r .0))) (λ r. not-find v a (waits-find i k v u (flip e) (r .2))) (i.E1.e1w k u v l f e n)
       which accept n a b = b

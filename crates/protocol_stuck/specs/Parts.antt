@@ -1,6 +1,6 @@
 -- STUCK MEANS FINISHED, and so does rest: what such a state says of each part of the graph. The theorems are at the end.
 use Rattle.protocol.specs.Prelude.{ℕ, _≤_, _<_, arith, _≡_, refl, sym, ap, subst, _≢_, _⊎_, inl, inr, ⊎-elim, by-eq, List, [], _∷_}
-use Rattle.protocol.specs.Prelude.{Network, Ends, Tree, up, down, flip, wider, Way, State, setup, Idle, GL, GC, In, first, in-nil, Inv}
+use Rattle.protocol.specs.Prelude.{Network, Edge, Tree, up, down, flip, wider, Way, ProtocolState, setupState, Idle, GL, GC, In, first, in-nil, Inv}
 use Rattle.protocol.specs.Prelude.{sleep-lev, sleep-id, sleep-te, sleep-fc, sleep-halt, sleep-ib}
 use mathlib.Core.Logic.{_↔_}
 use Rattle.graph.specs.Ways.{Any, back}
@@ -15,7 +15,7 @@ abbrev pub SamePart : Network → ℕ → ℕ → Type 0
 SamePart p v u = Way p.g Any v u
 
 -- exactly two of v's part have halted, the ends of one of its tree edges
-pub record PartCore (p : Network) (s : State) (v : ℕ) : Type 0 where
+pub record PartCore (p : Network) (s : ProtocolState) (v : ℕ) : Type 0 where
   pub edge : ℕ
   pub within : edge < p.g.L
   pub tree : Tree p edge
@@ -24,44 +24,44 @@ pub record PartCore (p : Network) (s : State) (v : ℕ) : Type 0 where
   pub halted : (u : ℕ) → SamePart p v u → (s.halt u ≡ 1) ↔ ((u ≡ p.g.lo edge) ⊎ (u ≡ p.g.hi edge))
 
 -- v is a part by itself, has no edge, and has halted
-pub record PartOfOne (p : Network) (s : State) (v : ℕ) : Type 0 where
+pub record PartOfOne (p : Network) (s : ProtocolState) (v : ℕ) : Type 0 where
   pub only : (u : ℕ) → SamePart p v u → u ≡ v
-  pub edgeless : (k u : ℕ) → ¬ Ends p k v u
+  pub edgeless : (k u : ℕ) → ¬ Edge p k v u
   pub halted : s.halt v ≡ 1
 
 -- v's part is finished: both ends of each of its tree edges Branch, of its other edges Rejected, and who has halted
-pub record PartFinished (p : Network) (s : State) (v : ℕ) : Type 0 where
-  pub tree : (k a b : ℕ) → Ends p k a b → SamePart p v a → Tree p k → (s.mark a k ≡ 1) × (s.mark b k ≡ 1)
-  pub others : (k a b : ℕ) → Ends p k a b → SamePart p v a → ¬ Tree p k → (s.mark a k ≡ 2) × (s.mark b k ≡ 2)
+pub record PartFinished (p : Network) (s : ProtocolState) (v : ℕ) : Type 0 where
+  pub tree : (k a b : ℕ) → Edge p k a b → SamePart p v a → Tree p k → (s.mark a k ≡ 1) × (s.mark b k ≡ 1)
+  pub others : (k a b : ℕ) → Edge p k a b → SamePart p v a → ¬ Tree p k → (s.mark a k ≡ 2) × (s.mark b k ≡ 2)
   pub halted : PartCore p s v ⊎ PartOfOne p s v
 
 -- the nine values and the marks of v are as at setup
-pub record AsAtSetup (s : State) (v : ℕ) : Type 0 where
-  pub status : s.st v ≡ setup.st v
-  pub level : s.lev v ≡ setup.lev v
-  pub identity : s.id v ≡ setup.id v
-  pub weight : s.bw v ≡ setup.bw v
-  pub best : s.be v ≡ setup.be v
-  pub test : s.te v ≡ setup.te v
-  pub branch : s.ib v ≡ setup.ib v
-  pub count : s.fc v ≡ setup.fc v
-  pub halted : s.halt v ≡ setup.halt v
-  pub marks : (k : ℕ) → s.mark v k ≡ setup.mark v k
+pub record AsAtSetup (s : ProtocolState) (v : ℕ) : Type 0 where
+  pub status : s.st v ≡ setupState.st v
+  pub level : s.lev v ≡ setupState.lev v
+  pub identity : s.id v ≡ setupState.id v
+  pub weight : s.bw v ≡ setupState.bw v
+  pub best : s.be v ≡ setupState.be v
+  pub test : s.te v ≡ setupState.te v
+  pub branch : s.ib v ≡ setupState.ib v
+  pub count : s.fc v ≡ setupState.fc v
+  pub halted : s.halt v ≡ setupState.halt v
+  pub marks : (k : ℕ) → s.mark v k ≡ setupState.mark v k
 
 -- v's part is as at setup, its channels with it
-pub record PartAsleep (p : Network) (s : State) (v : ℕ) : Type 0 where
+pub record PartAsleep (p : Network) (s : ProtocolState) (v : ℕ) : Type 0 where
   pub nodes : (u : ℕ) → SamePart p v u → AsAtSetup s u
-  pub channels : (k a b : ℕ) → Ends p k a b → SamePart p v a → s.ch a k ≡ setup.ch a k
+  pub channels : (k a b : ℕ) → Edge p k a b → SamePart p v a → s.ch a k ≡ setupState.ch a k
 
 -- no message is on any channel; each part with an awake node, u, is finished; each part with none is asleep
-pub record AllFinished (p : Network) (s : State) : Type 0 where
-  pub silent : (k a b : ℕ) → Ends p k a b → s.ch a k ≡ []
+pub record AllFinished (p : Network) (s : ProtocolState) : Type 0 where
+  pub silent : (k a b : ℕ) → Edge p k a b → s.ch a k ≡ []
   pub awake : (v u : ℕ) → SamePart p v u → s.st u ≢ 0 → PartFinished p s v
   pub asleep : (v : ℕ) → ((u : ℕ) → SamePart p v u → s.st u ≡ 0) → PartAsleep p s v
 
 -- ---- a part in which nobody is awake, in any state with the invariant
 
-part-asleep : {p : Network} {s : State} → Inv p s → (v : ℕ) → ((u : ℕ) → SamePart p v u → s.st u ≡ 0) → PartAsleep p s v
+part-asleep : {p : Network} {s : ProtocolState} → Inv p s → (v : ℕ) → ((u : ℕ) → SamePart p v u → s.st u ≡ 0) → PartAsleep p s v
 part-asleep {p} {s} i v z = record { nodes = λ u w. node u (z u w); channels = λ k a b e w. i.G6c.g6o k a b e (z a w) }
   where
     node : (u : ℕ) → s.st u ≡ 0 → AsAtSetup s u
@@ -80,23 +80,23 @@ part-asleep {p} {s} i v z = record { nodes = λ u w. node u (z u w); channels = 
 
 -- ---- a part with an awake node, in a stuck state
 
-module _ {p : Network} {s : State} (i : Inv p s) (t : Stuck p s) (w : ℕ) (a : s.st w ≢ 0) where
+module _ {p : Network} {s : ProtocolState} (i : Inv p s) (t : Stuck p s) (w : ℕ) (a : s.st w ≢ 0) where
   -- w has an edge: the two that have halted are the ends of the fragment's core
-  module _ (j x : ℕ) (f : Ends p j w x) where
+  module _ (j x : ℕ) (f : Edge p j w x) where
     abbrev core : ℕ
     core = GC s w
 
     level : 1 ≤ GL s w
     level = level-pos i t j w x f a
 
-    core-ends : Ends p core (p.g.lo core) (p.g.hi core)
+    core-ends : Edge p core (p.g.lo core) (p.g.hi core)
     core-ends = up (i.G5.g5r w level) refl refl
 
     -- each of the part has an edge
-    has-edge : (v : ℕ) → SamePart p w v → (k : ℕ) × (u : ℕ) × Ends p k v u
-    has-edge v y = by-eq v w (λ e. (j, x, subst (λ z. Ends p j z x) (sym e) f)) (λ n. leaves (back y) n)
+    has-edge : (v : ℕ) → SamePart p w v → (k : ℕ) × (u : ℕ) × Edge p k v u
+    has-edge v y = by-eq v w (λ e. (j, x, subst (λ z. Edge p j z x) (sym e) f)) (λ n. leaves (back y) n)
 
-    end-of : {v y : ℕ} → Ends p core v y → (v ≡ p.g.lo core) ⊎ (v ≡ p.g.hi core)
+    end-of : {v y : ℕ} → Edge p core v y → (v ≡ p.g.lo core) ⊎ (v ≡ p.g.hi core)
     end-of (up l e f) = inl (sym e)
     end-of (down l e f) = inr (sym e)
 
@@ -104,7 +104,7 @@ module _ {p : Network} {s : State} (i : Inv p s) (t : Stuck p s) (w : ℕ) (a : 
     is-end v y h =
         let e = has-edge v y in
         let c = halted-core i t (e .0) v (e .1) (e .2) (λ q. omega arith) in
-        end-of (subst (λ k. Ends p k v (c .0)) (ap s.gc (sym (part i t w v a y))) (c .1))
+        end-of (subst (λ k. Edge p k v (c .0)) (ap s.gc (sym (part i t w v a y))) (c .1))
 
     end-halted : (v : ℕ) → (v ≡ p.g.lo core) ⊎ (v ≡ p.g.hi core) → s.halt v ≡ 1
     end-halted v h = ⊎-elim
@@ -122,7 +122,7 @@ module _ {p : Network} {s : State} (i : Inv p s) (t : Stuck p s) (w : ℕ) (a : 
     }
 
   -- w has none
-  part-of-one : ((k u : ℕ) → ¬ Ends p k w u) → PartOfOne p s w
+  part-of-one : ((k u : ℕ) → ¬ Edge p k w u) → PartOfOne p s w
   part-of-one n = record {
     only = λ u y. by-eq u w (λ e. e) (λ d. let e = leaves y (λ q. d (sym q)) in absurd (n (e .0) (e .1) (e .2)));
     edgeless = n;
@@ -143,7 +143,7 @@ empty [] n = refl
 empty (x ∷ l) n = absurd (n x first)
 
 -- STUCK MEANS FINISHED. (Nobody need be awake: then all parts are asleep.)
-pub stuck-finished : {p : Network} {s : State} → Inv p s → Stuck p s → AllFinished p s
+pub stuck-finished : {p : Network} {s : ProtocolState} → Inv p s → Stuck p s → AllFinished p s
 stuck-finished {p} {s} i t = record {
   silent = λ k a b e. empty (s.ch a k) (λ m. nothing i t k a b m e);
   awake = λ v u y a. part-finished i t v (part-awake i t u v a (back y));
@@ -151,5 +151,5 @@ stuck-finished {p} {s} i t = record {
 }
 
 -- REST: no response is under way and no message on any channel
-pub rest-finished : {p : Network} {s : State} → Inv p s → Idle s → ((k a b : ℕ) → Ends p k a b → s.ch a k ≡ []) → AllFinished p s
+pub rest-finished : {p : Network} {s : ProtocolState} → Inv p s → Idle s → ((k a b : ℕ) → Edge p k a b → s.ch a k ≡ []) → AllFinished p s
 rest-finished {p} {s} i d z = stuck-finished i (record { idle = d; back = λ k u v m e n. absurd (in-nil (subst (λ l. In m l) (z k u v e) n)) })

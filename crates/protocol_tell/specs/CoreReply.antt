@@ -2,23 +2,23 @@
 use Rattle.protocol.specs.Prelude.{ℕ, _+_, _≤_, _<_, arith, _≡_, refl, sym, ap, subst, _∙_, _≢_, _⊎_, inl, inr, ⊎-elim}
 use Rattle.protocol.specs.Prelude.{List, _∷_, by-eq, sumL}
 use Rattle.protocol.specs.Prelude.{Msg, connect, initiate, report}
-use Rattle.protocol.specs.Prelude.{Network, Ends, joins-lt, flip, other-end, ends-two, State, Idle, send, pop}
+use Rattle.protocol.specs.Prelude.{Network, Edge, joins-lt, flip, other-end, ends-two, ProtocolState, Idle, sendOver, pop}
 use Rattle.protocol.specs.Prelude.{isC, isI, isT, isA, isR, isK, In}
 use Rattle.protocol.specs.Prelude.{GL, GC, Inf, Jn, Half, Inv, mark-awake, in-sum}
 use Rattle.protocol.specs.Prelude.{connects-same, answers-same, testing-same, around-same, reports-same, owing-same, bests-same, inv-passing}
 use Rattle.protocol.specs.Decisions.{HalfOk}
 use Rattle.protocol.specs.Search.{LowOk}
 use Rattle.protocol.specs.Traffic.{InitOk, Tokens, Initiates, Telling, Reports}
-use Rattle.protocol_tell.specs.Laws.{six, init-eq}
+use Rattle.protocol_tell.specs.Laws.{initiate-at, init-eq}
 use Rattle.protocol_tell.specs.Reply as Y
 
-module _ {p : Network} {s : State} (i : Inv p s) {u v k l : ℕ} {r : List Msg} (idle : Idle s) (ends : Ends p k u v) (awake : s.st v ≢ 0) (q : s.ch u k ≡ connect l ∷ r)
+module _ {p : Network} {s : ProtocolState} (i : Inv p s) {u v k l : ℕ} {r : List Msg} (idle : Idle s) (ends : Edge p k u v) (awake : s.st v ≢ 0) (q : s.ch u k ≡ connect l ∷ r)
     (low : s.lev v ≤ l) (taken : s.mark v k ≢ 0) where
-  abbrev S′ : State
-  S′ = send (pop s u k r) v k (initiate (s.lev v + 1) k 1)
+  abbrev S′ : ProtocolState
+  S′ = sendOver (pop s u k r) v k (initiate (s.lev v + 1) k 1)
 
   abbrev c′ : ℕ → ℕ → List Msg
-  c′ = Y.answered i ends q (s.lev v + 1) k 1
+  c′ = Y.replied i ends q (s.lev v + 1) k 1
 
   abbrev head : In (connect l) (s.ch u k)
   head = Y.calling i ends q (s.lev v + 1) k 1
@@ -28,25 +28,25 @@ module _ {p : Network} {s : State} (i : Inv p s) {u v k l : ℕ} {r : List Msg} 
   pub mark-u : s.mark u k ≡ 1
   mark-u = i.C1.c1m k u v l ends head
 
-  pub mark-v : s.mark v k ≡ 1
+  mark-v : s.mark v k ≡ 1
   mark-v = by-eq (s.mark v k) 1 (λ e. e) (λ n. absurd (i.M1.m1 k v u (flip ends) (omega (arith, i.W0.mark-le v k)) .1 mark-u))
 
-  pub joined : Jn s k u v
+  joined : Jn s k u v
   joined = (mark-u, mark-v)
 
-  pub inside : s.fr u ≡ s.fr v
+  inside : s.fr u ≡ s.fr v
   inside = i.M1.m3 k u v ends joined
 
-  pub core : GC s u ≡ k
+  core : GC s u ≡ k
   core = i.C1.c1 k u v l ends head mark-v .0
 
-  pub level : l + 1 ≡ GL s u
+  level : l + 1 ≡ GL s u
   level = i.C1.c1 k u v l ends head mark-v .1
 
   pub level-v : s.lev v ≡ l
   level-v = i.C1.c1 k u v l ends head mark-v .2
 
-  pub next : s.lev v + 1 ≡ GL s u
+  next : s.lev v + 1 ≡ GL s u
   next = omega (arith, level, level-v)
 
   -- u's Connect was there: u has not been told
@@ -66,14 +66,14 @@ module _ {p : Network} {s : State} (i : Inv p s) {u v k l : ℕ} {r : List Msg} 
       untold .1 (subst (λ a. In (initiate a k 1) (s.ch v k)) e
       (subst (λ a. In (initiate n a 1) (s.ch v k)) (t.i1c e ∙ core) (subst (λ a. In (initiate n g a) (s.ch v k)) (t.i1d e ∙ low-u.t4d) h)))
 
-  pub low-at : (w x : ℕ) → Ends p k w x → LowOk s.lev s.fr s.gl s.ib s.ub s.due k w
+  pub low-at : (w x : ℕ) → Edge p k w x → LowOk s.lev s.fr s.gl s.ib s.ub s.due k w
   low-at w x e = ⊎-elim (λ t. subst (λ a. LowOk s.lev s.fr s.gl s.ib s.ub s.due k a) (t .0) low-u)
       (λ t. subst (λ a. LowOk s.lev s.fr s.gl s.ib s.ub s.due k a) (t .1) low-v) (ends-two ends e)
 
   -- no Report is on the core: who would have sent it is not informed, and nobody's in-branch is the core
-  pub no-report : (j w x n : ℕ) → Ends p j w x → In (report n) (s.ch w j) → k ≢ j
+  pub no-report : (j w x n : ℕ) → Edge p j w x → In (report n) (s.ch w j) → k ≢ j
   no-report j w x n e h z =
-      let d = subst (λ a. Ends p a w x) (sym z) e in
+      let d = subst (λ a. Edge p a w x) (sym z) e in
       let a = low-at w x d in
       let b = low-at x w (flip d) in
       ⊎-elim (λ t. omega (arith, t .0 .1, a.t4l)) (⊎-elim (λ t. omega (arith, t .2 .1, a.t4l)) (λ t. b.t4i (t .0 ∙ sym z))) (i.R1.r1 j w x n e h)
@@ -81,16 +81,16 @@ module _ {p : Network} {s : State} (i : Inv p s) {u v k l : ℕ} {r : List Msg} 
   -- ---- the new channels
 
   old : {y : Msg} (g : Msg → ℕ) → g (initiate (s.lev v + 1) k 1) ≡ 0 → 1 ≤ g y → (w j : ℕ) → In y (c′ w j) → In y (s.ch w j)
-  old = Y.old i ends q (s.lev v + 1) k 1
+  old = Y.old-reply i ends q (s.lev v + 1) k 1
 
   kept : {y : Msg} (g : Msg → ℕ) → g (connect l) ≡ 0 → 1 ≤ g y → (w j : ℕ) → In y (s.ch w j) → In y (c′ w j)
-  kept = Y.kept i ends q (s.lev v + 1) k 1
+  kept = Y.kept-reply i ends q (s.lev v + 1) k 1
 
   same : (g : Msg → ℕ) → g (initiate (s.lev v + 1) k 1) ≡ 0 → g (connect l) ≡ 0 → (w j : ℕ) → sumL g (c′ w j) ≡ sumL g (s.ch w j)
-  same = Y.same i ends q (s.lev v + 1) k 1
+  same = Y.same-reply i ends q (s.lev v + 1) k 1
 
   -- no end of k is half on it, and k is inbound for both
-  whole : (w x : ℕ) → Ends p k w x → ¬ Half s w k
+  whole : (w x : ℕ) → Edge p k w x → ¬ Half s w k
   whole w x e h = ⊎-elim (λ t. omega (arith, d.d1y, mark-v, ap (λ a. s.mark a k) (t .1))) (λ t. omega (arith, d.d1y, mark-u, ap (λ a. s.mark a k) (t .0))) (ends-two ends e)
     where
       d : HalfOk p s.fr s.gl s.lev s.ub s.mark k w x
@@ -98,8 +98,8 @@ module _ {p : Network} {s : State} (i : Inv p s) {u v k l : ℕ} {r : List Msg} 
 
   Dc′ : Tokens p S′
   Dc′ = record {
-    d1c = λ j z y e h. Y.hold i ends q (s.lev v + 1) k 1 z j (inr (λ d. whole z y (subst (λ a. Ends p a z y) (sym d) e) (subst (λ a. Half s z a) (sym d) h))) (i.Dc.d1c j z y e h);
-    d1a = λ j z y e h. Y.every i ends q (s.lev v + 1) k 1 z j (λ b d. whole z y (subst (λ a. Ends p a z y) (sym d) e) (subst (λ a. Half s z a) (sym d) h)) (i.Dc.d1a j z y e h);
+    d1c = λ j z y e h. Y.hold i ends q (s.lev v + 1) k 1 z j (inr (λ d. whole z y (subst (λ a. Edge p a z y) (sym d) e) (subst (λ a. Half s z a) (sym d) h))) (i.Dc.d1c j z y e h);
+    d1a = λ j z y e h. Y.all-reply i ends q (s.lev v + 1) k 1 z j (λ b d. whole z y (subst (λ a. Edge p a z y) (sym d) e) (subst (λ a. Half s z a) (sym d) h)) (i.Dc.d1a j z y e h);
     d2c = λ j w x e h. kept isK refl (omega arith) w j (i.Dc.d2c j w x e h);
     k1 = λ j w x e h. i.Dc.k1 j w x e (old isK refl (omega arith) w j h);
     d3r = λ j x y e h b. same isR refl refl y j ∙ i.Dc.d3r j x y e h b;
@@ -126,18 +126,18 @@ module _ {p : Network} {s : State} (i : Inv p s) {u v k l : ℕ} {r : List Msg} 
   I1′ : Initiates p S′
   I1′ = record {
     i1 = λ j w x a f b e h. ⊎-elim (λ o. i.I1.i1 j w x a f b e o)
-        (λ t. six (λ n m y. InitOk p s.lev s.fr s.gl s.gc s.ub s.due s.mark n m y) (t .1) (t .0) (other-end (flip ends) e (t .0) (t .1)) (t .2) fresh)
+        (λ t. initiate-at (λ n m y. InitOk p s.lev s.fr s.gl s.gc s.ub s.due s.mark n m y) (t .1) (t .0) (other-end (flip ends) e (t .0) (t .1)) (t .2) fresh)
         (Y.was i ends q (s.lev v + 1) k 1 w j h);
   }
 
   T4′ : Telling p S′
   T4′ = record {
-    u2 = λ j w c e b n. i.T4.u2 j w c e b n ∙ sym (Y.far i ends q (s.lev v + 1) k 1 (s.lev c) w j (inr (λ z. n (low-at w c (subst (λ a. Ends p a w c) (sym z) e) .t4b ∙ z))));
+    u2 = λ j w c e b n. i.T4.u2 j w c e b n ∙ sym (Y.far-reply i ends q (s.lev v + 1) k 1 (s.lev c) w j (inr (λ z. n (low-at w c (subst (λ a. Edge p a w c) (sym z) e) .t4b ∙ z))));
     t2i = λ j w c e b h n d. kept isI refl (omega arith) w j (i.T4.t2i j w c e b h n d);
     t4 = λ j x y e b g. by-eq u x
         (λ a. by-eq k j
         (λ z. let o = other-end ends e a z in
-        inr (inl (six (λ n m h c f d. In (initiate c f d) (S′.ch m n)) z o a (told x j (sym a) (sym z)) (Y.said i ends q (s.lev v + 1) k 1))))
+        inr (inl (initiate-at (λ n m h c f d. In (initiate c f d) (S′.ch m n)) z o a (told x j (sym a) (sym z)) (Y.reply-in i ends q (s.lev v + 1) k 1))))
         (λ z. stays j x y e b g (inr z)))
         (λ a. stays j x y e b g (inl a));
     t4n = λ j x y e b g n.
@@ -149,13 +149,13 @@ module _ {p : Network} {s : State} (i : Inv p s) {u v k l : ℕ} {r : List Msg} 
       told : (x j : ℕ) → x ≡ u → j ≡ k → initiate (GL s x) j 1 ≡ initiate (s.lev v + 1) k 1
       told x j a z = init-eq (ap (λ n. GL s n) a ∙ sym next) z refl
 
-      stays : (j x y : ℕ) → Ends p j x y → Jn s j x y → GC s x ≡ j → (u ≢ x) ⊎ (k ≢ j) → (1 ≤ sumL isC (c′ x j)) ⊎ (In (initiate (GL s x) j 1) (c′ y j) ⊎ Inf s x)
+      stays : (j x y : ℕ) → Edge p j x y → Jn s j x y → GC s x ≡ j → (u ≢ x) ⊎ (k ≢ j) → (1 ≤ sumL isC (c′ x j)) ⊎ (In (initiate (GL s x) j 1) (c′ y j) ⊎ Inf s x)
       stays j x y e b g n = ⊎-elim (λ t. inl (omega (arith, Y.connects i ends q (s.lev v + 1) k 1 x j n)))
           (⊎-elim (λ t. inr (inl (kept isI refl (omega arith) y j t))) (λ t. inr (inr t))) (i.T4.t4 j x y e b g)
 
   R1′ : Reports p S′
   R1′ = reports-same p s c′
-      (λ j w x n e h. let d = no-report j w x n e (old isR refl (omega arith) w j h) in around-same (Y.off i ends q (s.lev v + 1) k 1 w j (inr d) (inr d)) h) i.R1
+      (λ j w x n e h. let d = no-report j w x n e (old isR refl (omega arith) w j h) in around-same (Y.off-reply i ends q (s.lev v + 1) k 1 w j (inr d) (inr d)) h) i.R1
 
   pub inv-core-reply : Inv p S′
   inv-core-reply = inv-passing i c′ (record {

@@ -1,29 +1,29 @@
 -- v serves Initiate (l, f, x) from u over k, takes its values and sends the copies: what holds before and after.
 use Rattle.protocol.specs.Prelude.{ℕ, suc, _≤_, _<_, arith, _≡_, refl, sym, ap, subst, _∙_, _≢_, _⊎_, inl, inr, ⊎-elim, List, _∷_, Bool, true, upd2, upd-same}
-use Rattle.protocol.specs.Prelude.{upd-other, upd-elim, by-eq, sumL, Msg, none, initiate, report, Network, Ends, flip, other-end, ends-irr, edge-some, State, Idle, Mode}
-use Rattle.protocol.specs.Prelude.{Place, informed, pop, copy, top, top-in, top-max, kinds, Fits, In, Bef, heads, in-cons, else-same, here-new, head-at}
+use Rattle.protocol.specs.Prelude.{upd-other, upd-elim, by-eq, sumL, Msg, none, initiate, report, Network, Edge, flip, other-end, ends-irr, edge-some, ProtocolState, Idle, Mode}
+use Rattle.protocol.specs.Prelude.{Place, initiated, pop, copy, top, top-in, top-max, kinds, Fits, In, Bef, heads, in-cons, else-same, here-new, head-at}
 use Rattle.protocol.specs.Prelude.{pop-head, pop-in, in-pop, pop-sum, copy-yes, copy-on, fan-in, in-fan, fan-sum, fan-else, GL, GC, DK, Inf, Jn, Waits}
 use Rattle.protocol.specs.Prelude.{CoreEnds, Spent, Inv, inf-cases, low-find, mark-awake}
 use Rattle.protocol.specs.Search.{LowOk}
 use Rattle.protocol.specs.Traffic.{InitOk}
 
 -- the guards of the step
-pub record Tells (p : Network) (s : State) (u v k l f x a b d e : ℕ) (r : List Msg) : Type 0 where
+pub record Tells (p : Network) (s : ProtocolState) (u v k l f x a b d e : ℕ) (r : List Msg) : Type 0 where
   pub idle : Idle s
-  pub ends : Ends p k u v
+  pub ends : Edge p k u v
   pub q : s.ch u k ≡ initiate l f x ∷ r
   pub mode : Mode v x a b
   pub place : Place s u v k d e
 
-module _ {p : Network} {s : State} (i : Inv p s) {u v k l f x a b d e : ℕ} {r : List Msg} (act : Tells p s u v k l f x a b d e r) where
-  abbrev S′ : State
-  S′ = informed p (pop s u k r) v k l f x a d e b
+module _ {p : Network} {s : ProtocolState} (i : Inv p s) {u v k l f x a b d e : ℕ} {r : List Msg} (act : Tells p s u v k l f x a b d e r) where
+  abbrev S′ : ProtocolState
+  S′ = initiated p (pop s u k r) v k l f x a d e b
 
-  pub head : In (initiate l f x) (s.ch u k)
-  head = pop-head s.ch u k act.q
+  pub initiate-in : In (initiate l f x) (s.ch u k)
+  initiate-in = pop-head s.ch u k act.q
 
   pub ok : InitOk p s.lev s.fr s.gl s.gc s.ub s.due s.mark k u v l f x
-  ok = i.I1.i1 k u v l f x act.ends head
+  ok = i.I1.i1 k u v l f x act.ends initiate-in
 
   -- ---- v before: not informed, Found, not waiting
 
@@ -33,7 +33,7 @@ module _ {p : Network} {s : State} (i : Inv p s) {u v k l f x a b d e : ℕ} {r 
   pub not-find : s.st v ≢ 1
   not-find = low-find i v low
 
-  pub awake : s.st v ≢ 0
+  awake : s.st v ≢ 0
   awake = mark-awake i v k (λ z. omega (arith, ok.i1j .1))
 
   pub te-none : s.te v ≡ none
@@ -41,9 +41,6 @@ module _ {p : Network} {s : State} (i : Inv p s) {u v k l f x a b d e : ℕ} {r 
 
   pub fc-none : s.fc v ≡ 0
   fc-none = i.F2.f3c v not-find
-
-  pub inside : s.fr u ≡ s.fr v
-  inside = i.M1.m3 k u v act.ends (ok.i1j)
 
   pub u≢v : u ≢ v
   u≢v = ends-irr p act.ends
@@ -53,8 +50,8 @@ module _ {p : Network} {s : State} (i : Inv p s) {u v k l f x a b d e : ℕ} {r 
 
   -- ---- the Find bit: Find only at the fragment's level, and then v is due
 
-  pub bit-le : x ≤ 1
-  bit-le = ⊎-elim (λ t. omega (arith, t .0)) (λ t. omega (arith, t .0)) act.mode
+  pub bit-le-tell : x ≤ 1
+  bit-le-tell = ⊎-elim (λ t. omega (arith, t .0)) (λ t. omega (arith, t .0)) act.mode
 
   pub find-of : x ≢ 0 → (a ≡ 1) × (b ≡ suc v)
   find-of n = ⊎-elim (λ t. (t .1, t .2)) (λ t. absurd (n (t .0))) act.mode
@@ -66,28 +63,28 @@ module _ {p : Network} {s : State} (i : Inv p s) {u v k l f x a b d e : ℕ} {r 
   full n = by-eq l (GL s v) (λ z. z) (λ m. absurd (n (ok.i1z (omega (arith, ok.i1g)))))
 
   pub due-v : x ≢ 0 → s.due v ≡ 1
-  due-v n = sym (ok.i1d (full n)) ∙ omega (arith, bit-le)
+  due-v n = sym (ok.i1d (full n)) ∙ omega (arith, bit-le-tell)
 
   pub undecided : x ≢ 0 → DK s v ≡ 0
   undecided n = by-eq (DK s v) 0 (λ z. z) (λ m. absurd (omega (arith, i.D4.d5 v m, due-v n)))
 
   -- ---- an end of the core is told by the core, of the fragment's level
 
-  pub core-low : (j y : ℕ) → Ends p j v y → GC s v ≡ j → LowOk s.lev s.fr s.gl s.ib s.ub s.due j v
-  core-low j y g c = i.T2.t4u j v y g (subst (λ n. Jn s n v y) c (i.G5.g5 v v y (omega (arith, low)) (subst (λ n. Ends p n v y) (sym c) g) .0)) c low
+  pub core-low : (j y : ℕ) → Edge p j v y → GC s v ≡ j → LowOk s.lev s.fr s.gl s.ib s.ub s.due j v
+  core-low j y g c = i.T2.t4u j v y g (subst (λ n. Jn s n v y) c (i.G5.g5 v v y (omega (arith, low)) (subst (λ n. Edge p n v y) (sym c) g) .0)) c low
 
-  pub core-k : (j y : ℕ) → Ends p j v y → GC s v ≡ j → (k ≡ j) × (u ≡ y)
+  pub core-k : (j y : ℕ) → Edge p j v y → GC s v ≡ j → (k ≡ j) × (u ≡ y)
   core-k j y g c = let z : k ≡ j = sym (ok.i1u) ∙ core-low j y g c .t4b in (z, other-end (flip act.ends) g refl z)
 
-  pub core-full : (j y : ℕ) → Ends p j v y → GC s v ≡ j → l ≡ GL s v
+  pub core-full : (j y : ℕ) → Edge p j v y → GC s v ≡ j → l ≡ GL s v
   core-full j y g c = omega (arith, ok.i1l, ok.i1g, core-low j y g c .t4l)
 
-  pub core-find : (j y : ℕ) → Ends p j v y → GC s v ≡ j → x ≡ 1
+  pub core-find : (j y : ℕ) → Edge p j v y → GC s v ≡ j → x ≡ 1
   core-find j y g c = ok.i1d (core-full j y g c) ∙ core-low j y g c .t4d
 
   -- ---- the copies: c, beyond another branch j of v, is below v, and told by v
 
-  module _ (j c : ℕ) (g : Ends p j v c) (n : k ≢ j) (m : s.mark v j ≡ 1) where
+  module _ (j c : ℕ) (g : Edge p j v c) (n : k ≢ j) (m : s.mark v j ≡ 1) where
     pub kid-joined : Jn s j v c
     kid-joined = (m, by-eq (s.mark c j) 1 (λ z. z) (λ z. absurd (omega (arith, low, i.D1.d1 j v c g (i.D1.m2 j v c g m z) .d1l))))
 
@@ -123,7 +120,7 @@ module _ {p : Network} {s : State} (i : Inv p s) {u v k l f x a b d e : ℕ} {r 
 
   -- ---- Reports to v are of a core end, over k; those from v are spent, and go to nobody informed
 
-  pub report-to : (j w n : ℕ) → Ends p j w v → In (report n) (s.ch w j) → (k ≡ j) × (u ≡ w) × (GC s v ≡ j) × CoreEnds s w v j n
+  pub report-to : (j w n : ℕ) → Edge p j w v → In (report n) (s.ch w j) → (k ≡ j) × (u ≡ w) × (GC s v ≡ j) × CoreEnds s w v j n
   report-to j w n g h = ⊎-elim (λ t. absurd (not-find (t .6)))
       (⊎-elim
       (λ t. let c : GC s v ≡ j = ap s.gc (sym (i.M1.m3 j w v g (i.R1.r1j j w v n g h))) ∙ t .0 in
@@ -138,7 +135,7 @@ module _ {p : Network} {s : State} (i : Inv p s) {u v k l f x a b d e : ℕ} {r 
       ))))
       (i.R1.r1 j w v n g h)
 
-  pub report-from : (j y n : ℕ) → Ends p j v y → In (report n) (s.ch v j) → Spent p s v y j n × (¬ Inf s y)
+  pub report-from : (j y n : ℕ) → Edge p j v y → In (report n) (s.ch v j) → Spent p s v y j n × (¬ Inf s y)
   report-from j y n g h = ⊎-elim (λ t. absurd (omega (arith, low, t .0 .1)))
       (⊎-elim (λ t. absurd (omega (arith, low, t .2 .1)))
       (λ t. (
@@ -169,8 +166,8 @@ module _ {p : Network} {s : State} (i : Inv p s) {u v k l f x a b d e : ℕ} {r 
   pub st-else : (w : ℕ) → v ≢ w → S′.st w ≡ s.st w
   st-else w n = upd-other s.st v a w n
 
-  pub ib-v : S′.ib v ≡ k
-  ib-v = upd-same s.ib v k
+  pub ib-v-tell : S′.ib v ≡ k
+  ib-v-tell = upd-same s.ib v k
 
   pub ib-else : (w : ℕ) → v ≢ w → S′.ib w ≡ s.ib w
   ib-else w n = upd-other s.ib v k w n
@@ -185,24 +182,24 @@ module _ {p : Network} {s : State} (i : Inv p s) {u v k l f x a b d e : ℕ} {r 
   be-else w n = upd-other s.be v none w n
 
   -- a sleeper slept, and is not v
-  pub asleep : (w : ℕ) → S′.st w ≡ 0 → (v ≢ w) × (s.st w ≡ 0)
-  asleep w = upd-elim (λ y. y ≡ 0 → (v ≢ w) × (s.st w ≡ 0)) s.st v a w
+  pub asleep-tell : (w : ℕ) → S′.st w ≡ 0 → (v ≢ w) × (s.st w ≡ 0)
+  asleep-tell w = upd-elim (λ y. y ≡ 0 → (v ≢ w) × (s.st w ≡ 0)) s.st v a w
       (λ z h. absurd (⊎-elim (λ t. omega (arith, t .1)) (λ t. omega (arith, t .1)) act.mode)) (λ n h. (n, h))
 
   pub rouse : (w : ℕ) → S′.st w ≢ 0 → s.st w ≢ 0
   rouse w n z = n (st-else w (λ e. awake (ap s.st e ∙ z)) ∙ z)
 
   -- who is informed: v, told at the fragment's level, or one who was
-  pub inf {κ} : {C : Type κ} (w : ℕ) → Inf S′ w → (v ≡ w → l ≡ GL s v → C) → (v ≢ w → Inf s w → C) → C
-  inf w h y n = by-eq v w
+  pub inf-tell {κ} : {C : Type κ} (w : ℕ) → Inf S′ w → (v ≡ w → l ≡ GL s v → C) → (v ≢ w → Inf s w → C) → C
+  inf-tell w h y n = by-eq v w
       (λ z. y z (sym lev-v ∙ ap S′.lev z ∙ h .1 ∙ ap (λ m. GL s m) (sym z)))
       (λ z. n z (h .0, sym (lev-else w z) ∙ h .1))
 
   pub inf-stay : (w : ℕ) → Inf s w → Inf S′ w
   inf-stay w h = (h .0, lev-else w (inf-else w h) ∙ h .1)
 
-  pub inf-v : l ≡ GL s v → Inf S′ v
-  inf-v z = (omega (arith, low), lev-v ∙ z)
+  pub inf-v-tell : l ≡ GL s v → Inf S′ v
+  inf-v-tell z = (omega (arith, low), lev-v ∙ z)
 
   pub was-low : (w : ℕ) → S′.lev w < GL s w → s.lev w < GL s w
   was-low w h = omega (arith, lev-up w)
@@ -214,10 +211,10 @@ module _ {p : Network} {s : State} (i : Inv p s) {u v k l f x a b d e : ℕ} {r 
   pub waits-old : (j w : ℕ) → Waits S′ w j → Waits s w j
   waits-old j w h = (h .0, λ z. omega (arith, act.idle .0))
 
-  pub waits-else : (j w y : ℕ) → Ends p j w y → Waits s w j → v ≢ w
+  pub waits-else : (j w y : ℕ) → Edge p j w y → Waits s w j → v ≢ w
   waits-else j w y g h z = edge-some p g (sym (h .0) ∙ ap s.te (sym z) ∙ te-none)
 
-  pub waits-new : (j w y : ℕ) → Ends p j w y → Waits s w j → Waits S′ w j
+  pub waits-new : (j w y : ℕ) → Edge p j w y → Waits s w j → Waits S′ w j
   waits-new j w y g h = (h .0, λ z. ⊎-elim (λ t. waits-else j w y g h (omega (arith, t .2))) (λ t. omega (arith, t .2)) act.mode)
 
   -- ---- channels
@@ -241,31 +238,31 @@ module _ {p : Network} {s : State} (i : Inv p s) {u v k l f x a b d e : ℕ} {r 
   pub was : {y : Msg} (w j : ℕ) → In y (S′.ch w j) → In y (c₁ w j) ⊎ ((v ≡ w) × (kid j ≡ true) × (y ≡ m))
   was w j h = fan-in c₁ v kid m w j h
 
-  pub old : {y : Msg} (g : Msg → ℕ) → g m ≡ 0 → 1 ≤ g y → (w j : ℕ) → In y (S′.ch w j) → In y (s.ch w j)
-  old g z o w j h = ⊎-elim (λ t. pop-in s.ch u k act.q w j t) (λ t. absurd (omega (arith, ap g (t .2)))) (was w j h)
+  pub old-tell : {y : Msg} (g : Msg → ℕ) → g m ≡ 0 → 1 ≤ g y → (w j : ℕ) → In y (S′.ch w j) → In y (s.ch w j)
+  old-tell g z o w j h = ⊎-elim (λ t. pop-in s.ch u k act.q w j t) (λ t. absurd (omega (arith, ap g (t .2)))) (was w j h)
 
-  pub kept : {y : Msg} (g : Msg → ℕ) → g m ≡ 0 → 1 ≤ g y → (w j : ℕ) → In y (s.ch w j) → In y (S′.ch w j)
-  kept g z o w j h = in-fan c₁ v kid m w j (in-pop s.ch u k act.q w j (λ t. omega (arith, ap g t)) h)
+  pub kept-tell : {y : Msg} (g : Msg → ℕ) → g m ≡ 0 → 1 ≤ g y → (w j : ℕ) → In y (s.ch w j) → In y (S′.ch w j)
+  kept-tell g z o w j h = in-fan c₁ v kid m w j (in-pop s.ch u k act.q w j (λ t. omega (arith, ap g t)) h)
 
   -- not the channel from u over k
-  pub elsewhere : (j w z : ℕ) → Ends p j w z → v ≢ z → (u ≢ w) ⊎ (k ≢ j)
+  pub elsewhere : (j w z : ℕ) → Edge p j w z → v ≢ z → (u ≢ w) ⊎ (k ≢ j)
   elsewhere j w z g n = by-eq u w (λ y. inr (λ o. n (other-end act.ends g y o))) (λ y. inl y)
 
   -- those to others than v stay
-  pub hold : {y : Msg} (j w z : ℕ) → Ends p j w z → v ≢ z → In y (s.ch w j) → In y (S′.ch w j)
+  pub hold : {y : Msg} (j w z : ℕ) → Edge p j w z → v ≢ z → In y (s.ch w j) → In y (S′.ch w j)
   hold {y} j w z g n h = in-fan c₁ v kid m w j (subst (λ t. In y t) (sym (else-same s.ch u k r w j (elsewhere j w z g n))) h)
 
-  pub same : (g : Msg → ℕ) → g m ≡ 0 → (w j : ℕ) → sumL g (S′.ch w j) ≡ sumL g (s.ch w j)
-  same g z w j = fan-sum c₁ v kid m g z w j ∙ pop-sum s.ch u k act.q g z w j
+  pub same-tell : (g : Msg → ℕ) → g m ≡ 0 → (w j : ℕ) → sumL g (S′.ch w j) ≡ sumL g (s.ch w j)
+  same-tell g z w j = fan-sum c₁ v kid m g z w j ∙ pop-sum s.ch u k act.q g z w j
 
   -- a channel of which v is at neither end
-  pub off : (j w z : ℕ) → Ends p j w z → v ≢ w → v ≢ z → S′.ch w j ≡ s.ch w j
-  off j w z g n o = fan-else c₁ v kid m w j (inl n) ∙ else-same s.ch u k r w j (elsewhere j w z g o)
+  pub off-tell : (j w z : ℕ) → Edge p j w z → v ≢ w → v ≢ z → S′.ch w j ≡ s.ch w j
+  off-tell j w z g n o = fan-else c₁ v kid m w j (inl n) ∙ else-same s.ch u k r w j (elsewhere j w z g o)
 
   -- the rest of the channel from u over k
-  pub rest : S′.ch u k ≡ r
-  rest = fan-else c₁ v kid m u k (inl (λ z. u≢v (sym z))) ∙ here-new s.ch u k r
+  pub rest-tell : S′.ch u k ≡ r
+  rest-tell = fan-else c₁ v kid m u k (inl (λ z. u≢v (sym z))) ∙ here-new s.ch u k r
 
   -- what is left there stood behind the Initiate
-  pub behind : (y : Msg) → In y (S′.ch u k) → Fits m y
-  behind y h = i.Q1.q1 k u v m y act.ends (subst (λ t. Bef m y t) (sym act.q) (heads (subst (λ t. In y t) rest h)))
+  pub behind-tell : (y : Msg) → In y (S′.ch u k) → Fits m y
+  behind-tell y h = i.Q1.q1 k u v m y act.ends (subst (λ t. Bef m y t) (sym act.q) (heads (subst (λ t. In y t) rest-tell h)))

@@ -1,18 +1,18 @@
 -- Initiate (l, f, x) from u at v over k: v takes level, identity and status from it, and sends copies over its other branches.
 use Rattle.protocol.specs.Prelude.{ℕ, suc, _≤_, _<_, arith, _≡_, refl, sym, ap, subst, _∙_, _≢_, _⊎_, inl, inr, ⊎-elim, List, [], _∷_, Bool, true, upd2}
-use Rattle.protocol.specs.Prelude.{upd-other, by-eq, sumL, All, All-app, con, nil, Msg, connect, initiate, Network, Ends, key, flip, other-end, ends-irr, State, Idle, Mode}
-use Rattle.protocol.specs.Prelude.{Place, informed, pop, copy, isC, isT, isA, isR, isK, arg1, top, top-app, Fits, fits-initiate, In, in-nil, at2, else-same}
+use Rattle.protocol.specs.Prelude.{upd-other, by-eq, sumL, All, All-app, con, nil, Msg, connect, initiate, Network, Edge, key, flip, other-end, ends-irr, ProtocolState, Idle, Mode}
+use Rattle.protocol.specs.Prelude.{Place, initiated, pop, copy, isC, isT, isA, isR, isK, arg1, top, top-app, Fits, fits-initiate, In, in-nil, at2, else-same}
 use Rattle.protocol.specs.Prelude.{pop-in, in-pop, pop-bef, pop-all, fan-elim, in-fan, fan-new, fan-bef, fan-else, GL, GC, Inf, Jn, Inv, mark-awake, no-root}
 use Rattle.protocol.specs.Traffic.{Hush, Tokens, Connects, InitOk, Initiates, Telling, Testing, Answers, Ordered}
-use Rattle.protocol_tell.specs.Laws.{ends-at, three, six, init-eq, fan-here}
+use Rattle.protocol_tell.specs.Laws.{ends-at, three, initiate-at, init-eq, fan-here}
 use Rattle.protocol_tell.specs.Heard.{Tells}
 use Rattle.protocol_tell.specs.Heard as F
 use Rattle.protocol_tell.specs.TellTables as T
 use Rattle.protocol_tell.specs.TellReports as R
 
-module _ {p : Network} {s : State} (i : Inv p s) {u v k l f x a b d e : ℕ} {r : List Msg} (act : Tells p s u v k l f x a b d e r) where
-  abbrev S′ : State
-  S′ = informed p (pop s u k r) v k l f x a d e b
+module _ {p : Network} {s : ProtocolState} (i : Inv p s) {u v k l f x a b d e : ℕ} {r : List Msg} (act : Tells p s u v k l f x a b d e r) where
+  abbrev S′ : ProtocolState
+  S′ = initiated p (pop s u k r) v k l f x a d e b
 
   abbrev ok : InitOk p s.lev s.fr s.gl s.gc s.ub s.due s.mark k u v l f x
   ok = F.ok i act
@@ -27,10 +27,10 @@ module _ {p : Network} {s : State} (i : Inv p s) {u v k l f x a b d e : ℕ} {r 
   kid = copy (pop s u k r) v k
 
   same : (g : Msg → ℕ) → g m ≡ 0 → (w j : ℕ) → sumL g (S′.ch w j) ≡ sumL g (s.ch w j)
-  same = F.same i act
+  same = F.same-tell i act
 
   old : {y : Msg} (g : Msg → ℕ) → g m ≡ 0 → 1 ≤ g y → (w j : ℕ) → In y (S′.ch w j) → In y (s.ch w j)
-  old = F.old i act
+  old = F.old-tell i act
 
   -- what holds of each message on a channel and, where v sends a copy over it, of the Initiate
   every : {P : Msg → Type 0} (w j : ℕ) → (v ≡ w → kid j ≡ true → P m) → All P (s.ch w j) → All P (S′.ch w j)
@@ -38,29 +38,29 @@ module _ {p : Network} {s : State} (i : Inv p s) {u v k l f x a b d e : ℕ} {r 
 
   G6c′ : Hush p S′
   G6c′ = record {
-    g6o = λ j w y g h. let t = F.asleep i act w h in
+    g6o = λ j w y g h. let t = F.asleep-tell i act w h in
         let o = i.G6c.g6o j w y g (t .1) in
         fan-else c₁ v kid m w j (inl (t .0)) ∙ else-same s.ch u k r w j (silent w j o) ∙ o;
-    g6i = λ j w y g h. let t = F.asleep i act y h in
+    g6i = λ j w y g h. let t = F.asleep-tell i act y h in
         every w j (λ z o. absurd (mark-awake i y j (λ n. omega (arith, n, kid-mark j w y g z o)) (t .1))) (i.G6c.g6i j w y g (t .1));
   }
     where
       silent : (w j : ℕ) → s.ch w j ≡ [] → (u ≢ w) ⊎ (k ≢ j)
-      silent w j h = by-eq u w (λ y. by-eq k j (λ z. absurd (in-nil (subst (λ t. In m t) (at2 s.ch y z ∙ h) (F.head i act)))) (λ z. inr z)) (λ y. inl y)
+      silent w j h = by-eq u w (λ y. by-eq k j (λ z. absurd (in-nil (subst (λ t. In m t) (at2 s.ch y z ∙ h) (F.initiate-in i act)))) (λ z. inr z)) (λ y. inl y)
 
-      kid-mark : (j w y : ℕ) → Ends p j w y → v ≡ w → kid j ≡ true → s.mark y j ≡ 1
+      kid-mark : (j w y : ℕ) → Edge p j w y → v ≡ w → kid j ≡ true → s.mark y j ≡ 1
       kid-mark j w y g z o = let t = F.kid-yes i act j o in F.kid-joined i act j y (ends-at z g) (t .0) (t .1) .1
 
   Dc′ : Tokens p S′
   Dc′ = record {
-    d1c = λ j z y g h. F.kept i act isC refl (omega arith) z j (i.Dc.d1c j z y g h);
+    d1c = λ j z y g h. F.kept-tell i act isC refl (omega arith) z j (i.Dc.d1c j z y g h);
     d1a = λ j z y g h. every z j (λ n o. absurd (omega (arith, F.low i act, i.D1.d1 j z y g h .d1l, ap s.lev n, ap (λ t. GL s t) n))) (i.Dc.d1a j z y g h);
-    d2c = λ j w y g h. F.kept i act isK refl (omega arith) w j (i.Dc.d2c j w y g h);
+    d2c = λ j w y g h. F.kept-tell i act isK refl (omega arith) w j (i.Dc.d2c j w y g h);
     k1 = λ j w y g h. i.Dc.k1 j w y g (old isK refl (omega arith) w j h);
     d3r = λ j y z g h. absurd (no-root i y (act.idle .2) (h .0));
     d4h = λ j y z g c h n o w. i.Dc.d4h j y z g c h n o (old isR refl (omega arith) z j w);
-    d4r = λ j y z g c h n o. F.kept i act isR refl (omega arith) z j (i.Dc.d4r j y z g c h n o);
-    d7 = λ j y z g c h n o. F.inf i act y n
+    d4r = λ j y z g c h n o. F.kept-tell i act isR refl (omega arith) z j (i.Dc.d4r j y z g c h n o);
+    d7 = λ j y z g c h n o. F.inf-tell i act y n
         (λ w t. absurd (omega (arith, o, F.st-v i act, ap S′.st w, found j y z g c w)))
         (λ w t. ⊎-elim (λ q. inl (omega (arith, same isR refl y j)))
         (λ q. let n = F.inf-else i act z (q .0) in
@@ -73,7 +73,7 @@ module _ {p : Network} {s : State} (i : Inv p s) {u v k l f x a b d e : ℕ} {r 
         (i.Dc.d7 j y z g c h t (sym (F.st-else i act y w) ∙ o)));
   }
     where
-      found : (j y z : ℕ) → Ends p j y z → GC s y ≡ j → v ≡ y → a ≡ 1
+      found : (j y z : ℕ) → Edge p j y z → GC s y ≡ j → v ≡ y → a ≡ 1
       found j y z g c w = F.find-of i act (λ t. omega (arith, t, F.core-find i act j z (ends-at w g) (ap (λ n. GC s n) w ∙ c))) .0
 
   C1′ : Connects p S′
@@ -86,11 +86,11 @@ module _ {p : Network} {s : State} (i : Inv p s) {u v k l f x a b d e : ℕ} {r 
   }
     where
       -- a Connect to v over a joined edge would be over the core, behind the Initiate
-      no-call : (j w y n : ℕ) → Ends p j w y → In (connect n) (S′.ch w j) → s.mark y j ≡ 1 → v ≡ y → GC s w ≡ j → ⊥
+      no-call : (j w y n : ℕ) → Edge p j w y → In (connect n) (S′.ch w j) → s.mark y j ≡ 1 → v ≡ y → GC s w ≡ j → ⊥
       no-call j w y n g h o z c =
           let fr = i.M1.m3 j w y g (i.C1.c1m j w y n g (old isC refl (omega arith) w j h), o) in
           let t = F.core-k i act j w (ends-at z (flip g)) (ap (λ n. GC s n) z ∙ ap s.gc (sym fr) ∙ c) in
-          F.behind i act (connect n) (subst (λ t. In (connect n) t) (sym (at2 S′.ch (t .1) (t .0))) h)
+          F.behind-tell i act (connect n) (subst (λ t. In (connect n) t) (sym (at2 S′.ch (t .1) (t .0))) h)
 
   -- ---- Initiates: the copies, those left to v, those to others
 
@@ -99,12 +99,12 @@ module _ {p : Network} {s : State} (i : Inv p s) {u v k l f x a b d e : ℕ} {r 
     i1 = λ j w y n c h g o. ⊎-elim
         (λ t. let q = pop-in s.ch u k act.q w j t in
         again j w y n c h g q (by-eq v y (λ z. left j w y n c h g z q o) (λ z. omega (arith, i.I1.i1 j w y n c h g q .i1l, F.lev-else i act y z))))
-        (λ t. six (λ j w y n c h. InitOk p S′.lev s.fr s.gl s.gc s.ub s.due s.mark j w y n c h) refl (t .0) refl (t .2)
+        (λ t. initiate-at (λ j w y n c h. InitOk p S′.lev s.fr s.gl s.gc s.ub s.due s.mark j w y n c h) refl (t .0) refl (t .2)
         (let q = F.kid-yes i act j (t .1) in fresh j y (ends-at (t .0) g) (q .0) (q .1)))
         (F.was i act w j o);
   }
     where
-      fresh : (j c : ℕ) → Ends p j v c → k ≢ j → s.mark v j ≡ 1 → InitOk p S′.lev s.fr s.gl s.gc s.ub s.due s.mark j v c l f x
+      fresh : (j c : ℕ) → Edge p j v c → k ≢ j → s.mark v j ≡ 1 → InitOk p S′.lev s.fr s.gl s.gc s.ub s.due s.mark j v c l f x
       fresh j c g n o =
           let fr = F.kid-fr i act j c g n o in
           let gl = ap s.gl fr in
@@ -117,12 +117,12 @@ module _ {p : Network} {s : State} (i : Inv p s) {u v k l f x a b d e : ℕ} {r 
             i1i = λ y z h. ok.i1i y z h ∙ fr;
             i1c = λ z. ok.i1c (z ∙ sym gl) ∙ ap s.gc fr;
             i1d = λ z. ok.i1d (z ∙ sym gl) ∙ F.kid-due i act j c g n o;
-            i1s = λ z h. F.inf-v i act (z ∙ sym gl);
+            i1s = λ z h. F.inf-v-tell i act (z ∙ sym gl);
             i1z = λ z. ok.i1z (omega arith);
           }
 
       -- an old one whose receiver is still below its level
-      again : (j w y n c h : ℕ) → Ends p j w y → In (initiate n c h) (s.ch w j) → S′.lev y < n → InitOk p S′.lev s.fr s.gl s.gc s.ub s.due s.mark j w y n c h
+      again : (j w y n c h : ℕ) → Edge p j w y → In (initiate n c h) (s.ch w j) → S′.lev y < n → InitOk p S′.lev s.fr s.gl s.gc s.ub s.due s.mark j w y n c h
       again j w y n c h g o lt =
           let t = i.I1.i1 j w y n c h g o in
           record {
@@ -139,11 +139,11 @@ module _ {p : Network} {s : State} (i : Inv p s) {u v k l f x a b d e : ℕ} {r 
           }
 
       -- those left to v are behind the Initiate that it serves
-      left : (j w y n c h : ℕ) → Ends p j w y → v ≡ y → In (initiate n c h) (s.ch w j) → In (initiate n c h) (S′.ch w j) → S′.lev y < n
+      left : (j w y n c h : ℕ) → Edge p j w y → v ≡ y → In (initiate n c h) (s.ch w j) → In (initiate n c h) (S′.ch w j) → S′.lev y < n
       left j w y n c h g z q o =
           let jk : k ≡ j = sym (ok.i1u) ∙ ap s.ub z ∙ i.I1.i1 j w y n c h g q .i1u in
           let uw : u ≡ w = other-end (flip act.ends) (flip g) z jk in
-          omega (arith, F.lev-v i act, ap S′.lev z, F.behind i act (initiate n c h) (subst (λ t. In (initiate n c h) t) (sym (at2 S′.ch uw jk)) o))
+          omega (arith, F.lev-v i act, ap S′.lev z, F.behind-tell i act (initiate n c h) (subst (λ t. In (initiate n c h) t) (sym (at2 S′.ch uw jk)) o))
 
   T4′ : Telling p S′
   T4′ = record {
@@ -151,10 +151,10 @@ module _ {p : Network} {s : State} (i : Inv p s) {u v k l f x a b d e : ℕ} {r 
         (λ z. subst (λ t. S′.lev t ≡ top (S′.lev c) (S′.ch t j)) z
         (F.lev-v i act ∙ sym (ap (top (S′.lev c)) (fan-here v kid j (kid-of j w z (h .0) (λ o. n (ap s.ub (sym z) ∙ ok.i1u ∙ o))) c₁ m) ∙ top-app (S′.lev c) l f x (c₁ v j))))
         (λ z. F.lev-else i act w z ∙ i.T4.u2 j w c g h n ∙ sym (far j w c g h n z));
-    t2i = λ j w c g h o n t. F.inf i act w o
-        (λ z q. let y : k ≢ j = λ y. n (ap S′.ib (sym z) ∙ F.ib-v i act ∙ y) in
+    t2i = λ j w c g h o n t. F.inf-tell i act w o
+        (λ z q. let y : k ≢ j = λ y. n (ap S′.ib (sym z) ∙ F.ib-v-tell i act ∙ y) in
         let o : s.mark v j ≡ 1 = ap (λ n. s.mark n j) z ∙ h .0 in
-        six (λ j w y a f x. In (initiate a f x) (S′.ch w j)) {u = c} refl z refl
+        initiate-at (λ j w y a f x. In (initiate a f x) (S′.ch w j)) {u = c} refl z refl
         (init-eq (ap (λ n. GL s n) (sym z) ∙ sym q) (ap (λ n. GC s n) (sym z) ∙ sym (ok.i1c q)) (sym (F.kid-due i act j c (ends-at z g) y o) ∙ sym (ok.i1d q)))
         (fan-new c₁ v kid m j (F.kid-on i act j y o)))
         (λ z q. let y = i.T4.t2i j w c g h q (λ e. n (F.ib-else i act w z ∙ e)) (F.was-low i act c t) in
@@ -163,7 +163,7 @@ module _ {p : Network} {s : State} (i : Inv p s) {u v k l f x a b d e : ℕ} {r 
         (λ z. omega (arith, ap arg1 z, t, ap S′.lev e, F.lev-v i act, ap s.gl (i.M1.m3 j w c g h))) y))
         (λ e. F.hold i act j w c g e y));
     t4 = λ j y z g h c. by-eq v y
-        (λ w. inr (inr (subst (λ n. Inf S′ n) w (F.inf-v i act (F.core-full i act j z (ends-at w g) (ap (λ n. GC s n) w ∙ c))))))
+        (λ w. inr (inr (subst (λ n. Inf S′ n) w (F.inf-v-tell i act (F.core-full i act j z (ends-at w g) (ap (λ n. GC s n) w ∙ c))))))
         (λ w. ⊎-elim (λ t. inl (omega (arith, same isC refl y j)))
         (⊎-elim (λ t. inr (inl (F.hold i act j z y (flip g) w t))) (λ t. inr (inr (F.inf-stay i act y t)))) (i.T4.t4 j y z g h c));
     t4n = λ j y z g h c n.
@@ -180,22 +180,22 @@ module _ {p : Network} {s : State} (i : Inv p s) {u v k l f x a b d e : ℕ} {r 
       kid-of j w z h n = F.kid-on i act j n (ap (λ n. s.mark n j) z ∙ h)
 
       -- to another than v nothing changed; to v the Initiate has been served
-      far : (j w c : ℕ) → Ends p j w c → Jn s j w c → s.ub w ≢ j → v ≢ w → top (S′.lev c) (S′.ch w j) ≡ top (s.lev c) (s.ch w j)
+      far : (j w c : ℕ) → Edge p j w c → Jn s j w c → s.ub w ≢ j → v ≢ w → top (S′.lev c) (S′.ch w j) ≡ top (s.lev c) (s.ch w j)
       far j w c g h n o = by-eq v c
           (λ z. let jk : k ≡ j = sym (ok.i1u) ∙ ap s.ub z ∙ ⊎-elim (λ t. absurd (n t)) (λ t. t) (i.U1.m3u j w c g h) in
           three (λ j w c. top (S′.lev c) (S′.ch w j) ≡ top (s.lev c) (s.ch w j)) jk (other-end (flip act.ends) (flip g) z jk) z served)
-          (λ z. ap (top (S′.lev c)) (F.off i act j w c g o z) ∙ ap (λ t. top t (s.ch w j)) (F.lev-else i act c z))
+          (λ z. ap (top (S′.lev c)) (F.off-tell i act j w c g o z) ∙ ap (λ t. top t (s.ch w j)) (F.lev-else i act c z))
         where
           served : top (S′.lev v) (S′.ch u k) ≡ top (s.lev v) (s.ch u k)
-          served = ap (top (S′.lev v)) (F.rest i act) ∙ ap (λ t. top t r) (F.lev-v i act) ∙ sym (ap (top (s.lev v)) act.q)
+          served = ap (top (S′.lev v)) (F.rest-tell i act) ∙ ap (λ t. top t r) (F.lev-v i act) ∙ sym (ap (top (s.lev v)) act.q)
 
       -- to an end of the core the Initiate itself was the one
-      moved : (j y z : ℕ) → Ends p j v z → v ≡ y → GC s v ≡ j → In (initiate (GL s y) j 1) (s.ch z j)
+      moved : (j y z : ℕ) → Edge p j v z → v ≡ y → GC s v ≡ j → In (initiate (GL s y) j 1) (s.ch z j)
       moved j y z g w c =
           let t = F.core-k i act j z g c in
           let q = F.core-full i act j z g c in
-          six (λ j w y a f x. In (initiate a f x) (s.ch w j)) {u = y} (t .0) (t .1) refl
-          (init-eq (ap (λ n. GL s n) (sym w) ∙ sym q) (sym c ∙ sym (ok.i1c q)) (sym (F.core-find i act j z g c))) (F.head i act)
+          initiate-at (λ j w y a f x. In (initiate a f x) (s.ch w j)) {u = y} (t .0) (t .1) refl
+          (init-eq (ap (λ n. GL s n) (sym w) ∙ sym q) (sym c ∙ sym (ok.i1c q)) (sym (F.core-find i act j z g c))) (F.initiate-in i act)
 
   E1′ : Testing p S′
   E1′ = record {
@@ -210,7 +210,7 @@ module _ {p : Network} {s : State} (i : Inv p s) {u v k l f x a b d e : ℕ} {r 
     m6t = λ j w y g h o. same isT refl y j ∙ i.E1.m6t j w y g h o;
   }
     where
-      apart : (j w y : ℕ) → Ends p j w y → (s.te y ≢ j) ⊎ (b ≡ suc y) → s.te y ≢ j
+      apart : (j w y : ℕ) → Edge p j w y → (s.te y ≢ j) ⊎ (b ≡ suc y) → s.te y ≢ j
       apart j w y g (inl n) = n
       apart j w y g (inr z) = λ t. F.waits-new i act j y w (flip g) (t, λ o. omega (arith, act.idle .0)) .1 z
 
@@ -238,25 +238,25 @@ module _ {p : Network} {s : State} (i : Inv p s) {u v k l f x a b d e : ℕ} {r 
 
   inv : Inv p S′
   inv = record {
-    W0 = T.W0′ i act;
-    W1 = T.W1′ i act;
-    G2 = T.G2′ i act;
+    W0 = T.W0-tell i act;
+    W1 = T.W1-tell i act;
+    G2 = T.G2-tell i act;
     G4 = i.G4;
     G5 = i.G5;
-    G6 = T.G6′ i act;
+    G6 = T.G6-tell i act;
     M1 = i.M1;
-    U1 = T.U1′ i act;
-    D1 = T.D1′ i act;
-    D2 = T.D2′ i act;
-    D3 = T.D3′ i act;
-    D4 = T.D4′ i act;
-    T1 = T.T1′ i act;
-    T2 = T.T2′ i act;
-    F1 = T.F1′ i act;
-    F2 = T.F2′ i act;
-    F4 = T.F4′ i act;
-    E2 = T.E2′ i act;
-    B1 = T.B1′ i act;
+    U1 = T.U1-tell i act;
+    D1 = T.D1-tell i act;
+    D2 = T.D2-tell i act;
+    D3 = T.D3-tell i act;
+    D4 = T.D4-tell i act;
+    T1 = T.T1-tell i act;
+    T2 = T.T2-tell i act;
+    F1 = T.F1-tell i act;
+    F2 = T.F2-tell i act;
+    F4 = T.F4-tell i act;
+    E2 = T.E2-tell i act;
+    B1 = T.B1-tell i act;
     G6c = G6c′;
     Dc = Dc′;
     C1 = C1′;
@@ -264,12 +264,12 @@ module _ {p : Network} {s : State} (i : Inv p s) {u v k l f x a b d e : ℕ} {r 
     T4 = T4′;
     E1 = E1′;
     A1 = A1′;
-    R1 = R.R1′ i act;
-    F4c = R.F4c′ i act;
-    B2 = R.B2′ i act;
+    R1 = R.R1-tell i act;
+    F4c = R.F4c-tell i act;
+    B2 = R.B2-tell i act;
     Q1 = Q1′;
   }
 
-pub inv-tell : {p : Network} {s : State} → Inv p s → {u v k l f x a b d e : ℕ} {r : List Msg} → Idle s → Ends p k u v → s.ch u k ≡ initiate l f x ∷ r → Mode v x a b → Place s u v k d e
-    → Inv p (informed p (pop s u k r) v k l f x a d e b)
+pub inv-tell : {p : Network} {s : ProtocolState} → Inv p s → {u v k l f x a b d e : ℕ} {r : List Msg} → Idle s → Edge p k u v → s.ch u k ≡ initiate l f x ∷ r → Mode v x a b → Place s u v k d e
+    → Inv p (initiated p (pop s u k r) v k l f x a d e b)
 inv-tell i h g q m n = inv i (record { idle = h; ends = g; q = q; mode = m; place = n })

@@ -1,6 +1,6 @@
 -- v serves Initiate (l, f, x) from u over k: the clauses on Reports, on what is owed, and on best weights.
 use Rattle.protocol.specs.Prelude.{ℕ, suc, _≤_, _<_, arith, _≡_, refl, sym, ap, subst, _∙_, _≢_, _⊎_, inl, inr, ⊎-elim, List, Bool, upd2, upd-other, by-eq}
-use Rattle.protocol.specs.Prelude.{sumL, Msg, connect, initiate, report, Network, Ends, key, rank, flip, ends-irr, State, informed, pop, copy, fill-elim}
+use Rattle.protocol.specs.Prelude.{sumL, Msg, connect, initiate, report, Network, Edge, key, rank, flip, ends-irr, ProtocolState, initiated, pop, copy, fill-elim}
 use Rattle.protocol.specs.Prelude.{fill-else, isCI, isR, kinds, no-calls, some-report, In, next, Bef, tails, pop-bef, fan-bef, GL, GC, Inf, Jn, Outst, Covered}
 use Rattle.protocol.specs.Prelude.{CoreEnds, Spent, Inv}
 use Rattle.protocol.specs.Traffic.{InitOk, Reports, Owing, Bests}
@@ -8,9 +8,9 @@ use Rattle.protocol_tell.specs.Laws.{ends-at, three, fill-here}
 use Rattle.protocol_tell.specs.Heard.{Tells}
 use Rattle.protocol_tell.specs.Heard as F
 
-module _ {p : Network} {s : State} (i : Inv p s) {u v k l f x a b d e : ℕ} {r : List Msg} (act : Tells p s u v k l f x a b d e r) where
-  abbrev S′ : State
-  S′ = informed p (pop s u k r) v k l f x a d e b
+module _ {p : Network} {s : ProtocolState} (i : Inv p s) {u v k l f x a b d e : ℕ} {r : List Msg} (act : Tells p s u v k l f x a b d e r) where
+  abbrev S′ : ProtocolState
+  S′ = initiated p (pop s u k r) v k l f x a d e b
 
   abbrev ok : InitOk p s.lev s.fr s.gl s.gc s.ub s.due s.mark k u v l f x
   ok = F.ok i act
@@ -25,10 +25,10 @@ module _ {p : Network} {s : State} (i : Inv p s) {u v k l f x a b d e : ℕ} {r 
   kid = copy (pop s u k r) v k
 
   same : (g : Msg → ℕ) → g m ≡ 0 → (w j : ℕ) → sumL g (S′.ch w j) ≡ sumL g (s.ch w j)
-  same = F.same i act
+  same = F.same-tell i act
 
   old : {y : Msg} (g : Msg → ℕ) → g m ≡ 0 → 1 ≤ g y → (w j : ℕ) → In y (S′.ch w j) → In y (s.ch w j)
-  old = F.old i act
+  old = F.old-tell i act
 
   -- to v: its Initiate was the last, so nothing is ahead of the Report any more
   core-v : (n : ℕ) → GC s v ≡ k → CoreEnds s u v k n → CoreEnds S′ u v k n
@@ -40,20 +40,20 @@ module _ {p : Network} {s : State} (i : Inv p s) {u v k l f x a b d e : ℕ} {r 
         F.inf-stay i act u (t .2),
         F.st-else i act u o ∙ t .3,
         F.bw-else i act u o ∙ t .4,
-        λ y h. t .5 y (subst (λ z. Bef (report n) y z) (sym act.q) (tails (subst (λ z. Bef (report n) y z) (F.rest i act) h))),
+        λ y h. t .5 y (subst (λ z. Bef (report n) y z) (sym act.q) (tails (subst (λ z. Bef (report n) y z) (F.rest-tell i act) h))),
         inl (
-          F.inf-v i act q,
-          no-calls (S′.ch u k) (λ y h. F.behind i act (connect y) h)
-              (λ y z w h. omega (arith, q, F.behind i act (initiate y z w) h, i.I1.i1 k u v y z w act.ends (back y z w h) .i1g)),
+          F.inf-v-tell i act q,
+          no-calls (S′.ch u k) (λ y h. F.behind-tell i act (connect y) h)
+              (λ y z w h. omega (arith, q, F.behind-tell i act (initiate y z w) h, i.I1.i1 k u v y z w act.ends (back y z w h) .i1g)),
         ),
       )
     where
       back : (y z w : ℕ) → In (initiate y z w) (S′.ch u k) → In (initiate y z w) (s.ch u k)
-      back y z w h = subst (λ t. In (initiate y z w) t) (sym act.q) (next (subst (λ t. In (initiate y z w) t) (F.rest i act) h))
+      back y z w h = subst (λ t. In (initiate y z w) t) (sym act.q) (next (subst (λ t. In (initiate y z w) t) (F.rest-tell i act) h))
 
-  to-v : (j w y n : ℕ) → Ends p j w y → v ≡ y → In (report n) (s.ch w j) → CoreEnds S′ w y j n
+  to-v : (j w y n : ℕ) → Edge p j w y → v ≡ y → In (report n) (s.ch w j) → CoreEnds S′ w y j n
   to-v j w y n g z h =
-      let t = F.report-to i act j w n (subst (λ c. Ends p j w c) (sym z) g) h in
+      let t = F.report-to i act j w n (subst (λ c. Edge p j w c) (sym z) g) h in
       three (λ j w y. CoreEnds S′ w y j n) (t .0) (t .1) z
       (core-v n (t .2 ∙ sym (t .0)) (three (λ j w y. CoreEnds s w y j n) (sym (t .0)) (sym (t .1)) refl (t .3)))
 
@@ -80,15 +80,15 @@ module _ {p : Network} {s : State} (i : Inv p s) {u v k l f x a b d e : ℕ} {r 
     ⊎-elim (λ c. inl (omega (arith, c, ap (key p) (F.bw-else i act y z)))) (λ c. inr (c .0, F.bw-else i act y z ∙ c .1, c .2, c .3)) (t .5),
   )
 
-  pub R1′ : Reports p S′
-  R1′ = record {
+  pub R1-tell : Reports p S′
+  R1-tell = record {
     r1r = λ j w y n g h. i.R1.r1r j w y n g (old isR refl (omega arith) w j h);
     r1j = λ j w y n g h. i.R1.r1j j w y n g (old isR refl (omega arith) w j h);
     r1 = λ j w y n g h. let o = old isR refl (omega arith) w j h in
         by-eq v y (λ z. inr (inl (to-v j w y n g z o)))
         (λ z. by-eq v w
         (λ t. inr (inr (spent j w y n z (subst (λ c. Spent p s c y j n) t (F.report-from i act j y n (ends-at t g) (subst (λ c. In (report n) (s.ch c j)) (sym t) o) .0)))))
-        (λ t. let q = F.off i act j w y g t z in
+        (λ t. let q = F.off-tell i act j w y g t z in
         ⊎-elim
         (λ c. inl (
           F.inf-stay i act w (c .0),
@@ -103,10 +103,10 @@ module _ {p : Network} {s : State} (i : Inv p s) {u v k l f x a b d e : ℕ} {r 
         (⊎-elim (λ c. inr (inl (core-else j w y n t z q c))) (λ c. inr (inr (spent j w y n z c))))
         (i.R1.r1 j w y n g o)));
     r1c = λ j w y n g h c q t. let o = old isR refl (omega arith) w j h in
-        F.inf i act y c (λ z e. to-v j w y n g z o)
+        F.inf-tell i act y c (λ z e. to-v j w y n g z o)
         (λ z e. by-eq v w
         (λ d. absurd (F.report-from i act j y n (ends-at d g) (subst (λ c. In (report n) (s.ch c j)) (sym d) o) .1 e))
-        (λ d. core-else j w y n d z (F.off i act j w y g d z) (i.R1.r1c j w y n g o e q t)));
+        (λ d. core-else j w y n d z (F.off-tell i act j w y g d z) (i.R1.r1c j w y n g o e q t)));
   }
 
   -- ---- what is owed, best weights
@@ -118,12 +118,12 @@ module _ {p : Network} {s : State} (i : Inv p s) {u v k l f x a b d e : ℕ} {r 
   outst-new : (c j : ℕ) → Outst s c j → Outst S′ c j
   outst-new c j (inl t) = inl (F.inf-stay i act c (t .0), ⊎-elim (λ y. inl (F.st-else i act c (F.inf-else i act c (t .0)) ∙ y)) (λ y. inr (omega (arith, same isR refl c j))) (t .1))
   outst-new c j (inr t) = by-eq v c
-      (λ z. subst (λ y. Outst S′ y j) z (⊎-elim (λ y. inl (F.inf-v i act (y .0), inl (F.st-v i act ∙ F.find-of i act (y .1) .0))) (λ y. inr (y, ap s.due z ∙ t .1)) (due-now (ap s.due z ∙ t .1))))
+      (λ z. subst (λ y. Outst S′ y j) z (⊎-elim (λ y. inl (F.inf-v-tell i act (y .0), inl (F.st-v i act ∙ F.find-of i act (y .1) .0))) (λ y. inr (y, ap s.due z ∙ t .1)) (due-now (ap s.due z ∙ t .1))))
       (λ z. inr (F.is-low i act c z (t .0), t .1))
 
-  outst-old : (c j w : ℕ) → Ends p j w c → Inf s w → Outst S′ c j → Outst s c j
+  outst-old : (c j w : ℕ) → Edge p j w c → Inf s w → Outst S′ c j → Outst s c j
   outst-old c j w g h (inr t) = inr (F.was-low i act c (t .0), t .1)
-  outst-old c j w g h (inl t) = F.inf i act c (t .0)
+  outst-old c j w g h (inl t) = F.inf-tell i act c (t .0)
       (λ z o. subst (λ y. Outst s y j) z (⊎-elim
       (λ y. let n : x ≢ 0 = λ q. omega (arith, y, F.st-v i act, ap S′.st z, F.found-of i act q .0) in inr (F.low i act, F.due-v i act n))
       (λ y. let q = some-report (s.ch c j) (omega (arith, same isR refl c j)) in
@@ -131,24 +131,24 @@ module _ {p : Network} {s : State} (i : Inv p s) {u v k l f x a b d e : ℕ} {r 
       (t .1)))
       (λ z o. inl (o, ⊎-elim (λ y. inl (sym (F.st-else i act c z) ∙ y)) (λ y. inr (omega (arith, same isR refl c j))) (t .1)))
 
-  pub F4c′ : Owing p S′
-  F4c′ = record {
+  pub F4c-tell : Owing p S′
+  F4c-tell = record {
     f4y = λ j w c g. fill-elim (λ y. y ≢ 0 → Inf S′ w × Jn s j w c × (S′.ib w ≢ j) × Outst S′ c j) s.owe v kid x w j
         (λ z h n. let q = F.kid-yes i act j h in
         let o = ends-at z g in
         subst (λ y. Inf S′ y × Jn s j y c × (S′.ib y ≢ j) × Outst S′ c j) z (
-          F.inf-v i act (F.full i act n),
+          F.inf-v-tell i act (F.full i act n),
           F.kid-joined i act j c o (q .0) (q .1),
-          λ t. q .0 (sym (F.ib-v i act) ∙ t),
+          λ t. q .0 (sym (F.ib-v-tell i act) ∙ t),
           inr (F.is-low i act c (ends-irr p o) (F.kid-low i act j c o (q .0) (q .1)), sym (F.kid-due i act j c o (q .0) (q .1)) ∙ F.due-v i act n),
         ))
         (λ z n. let t = i.F4c.f4y j w c g n in (F.inf-stay i act w (t .0), t .1, λ o. t .2 (sym (F.ib-else i act w (F.inf-else i act w (t .0))) ∙ o), outst-new c j (t .3)));
-    f4n = λ j w c g h o n t. F.inf i act w h
-        (λ z q. let y : k ≢ j = λ y. n (ap S′.ib (sym z) ∙ F.ib-v i act ∙ y) in
+    f4n = λ j w c g h o n t. F.inf-tell i act w h
+        (λ z q. let y : k ≢ j = λ y. n (ap S′.ib (sym z) ∙ F.ib-v-tell i act ∙ y) in
         let e : s.mark v j ≡ 1 = ap (λ n. s.mark n j) z ∙ o .0 in
         let a = ends-at z g in
         ap (λ y. S′.owe y j) (sym z) ∙ fill-here v kid j (F.kid-on i act j y e) s.owe x ∙ ok.i1d q ∙ F.kid-due i act j c a y e
-        ∙ ⊎-elim (λ d. F.inf i act c (d .0) (λ b f. absurd (ends-irr p a b)) (λ b f. absurd (omega (arith, f .1, F.kid-low i act j c a y e)))) (λ d. d .1) t)
+        ∙ ⊎-elim (λ d. F.inf-tell i act c (d .0) (λ b f. absurd (ends-irr p a b)) (λ b f. absurd (omega (arith, f .1, F.kid-low i act j c a y e)))) (λ d. d .1) t)
         (λ z q. fill-else s.owe v kid x w j z ∙ i.F4c.f4n j w c g q o (λ e. n (F.ib-else i act w z ∙ e)) (outst-old c j w g q t));
   }
 
@@ -166,16 +166,16 @@ module _ {p : Network} {s : State} (i : Inv p s) {u v k l f x a b d e : ℕ} {r 
         omega (arith, t .5, ap (key p) o),
       )
 
-  pub B2′ : Bests p S′
-  B2′ = record {
-    b1e = λ w h n o. F.inf i act w h
+  pub B2-tell : Bests p S′
+  B2-tell = record {
+    b1e = λ w h n o. F.inf-tell i act w h
         (λ z q. absurd (n (ap S′.bw (sym z) ∙ F.bw-v i act)))
         (λ z q.
         let y = F.bw-else i act w z in
         let e = F.be-else i act w z in
         let t = i.B2.b1e w q (λ c. n (y ∙ c)) (λ c. o (e ∙ c ∙ sym y)) in
         let c = F.inf-else i act (t .0) (t .4) in
-        subst (λ j. (c : ℕ) × Ends p j w c × Jn s j w c × (S′.ib w ≢ j) × Inf S′ c × (S′.ib c ≡ j) × (S′.bw c ≡ S′.bw w) × (S′.st c ≡ 2) × (sumL isR (S′.ch c j) ≡ 0)) (sym e) (
+        subst (λ j. (c : ℕ) × Edge p j w c × Jn s j w c × (S′.ib w ≢ j) × Inf S′ c × (S′.ib c ≡ j) × (S′.bw c ≡ S′.bw w) × (S′.st c ≡ 2) × (sumL isR (S′.ch c j) ≡ 0)) (sym e) (
           t .0,
           t .1,
           t .2,

@@ -6,7 +6,7 @@ use mathlib.Core.Logic.{_≢_}
 use mathlib.Core.List.{List}
 use lib.Dec.{eqb}
 use Rattle.base.specs.Cond.{eqb-diff}
-use Rattle.base.specs.Loop.{After, refused}
+use Rattle.base.specs.Loop.{After, refusedBy}
 use Rattle.format_frame.specs.Frame.{frameRead, frameWritten}
 use Rattle.plan_file.specs.Reading.{readPlan}
 use Rattle.plan_file.specs.Writing.{writePlan}
@@ -14,7 +14,7 @@ use Rattle.plan_tree.specs.Tree.{centralTree}
 
 -- a reader's refusal first, and what follows on what it gave
 unfoldable pub unless : ℕ → List ℕ → After (List ℕ) → After (List ℕ)
-unless refusal out rest = cond (eqb refusal 0) rest (refused refusal out)
+unless refusal out rest = cond (eqb refusal 0) rest (refusedBy refusal out)
 
 abbrev pub treeOfBytes : List ℕ → List ℕ → After (List ℕ)
 treeOfBytes s out = unless (readPlan s .refusal) out (centralTree (readPlan s .plan) out)
