@@ -6,8 +6,8 @@ use mathlib.Core.List.{List}
 use lib.ListN.{length, replicate}
 use borrow.Author.Tests.{eq-eqb, le-ltb}
 use Rattle.base.specs.Loop.{takenTo}
-use Rattle.plan.specs.declared.Plan.{Plan}
 use Rattle.plan.specs.Refusal.{planRefusal}
+use Rattle.plan.specs.Links.{Plan}
 use Rattle.field.specs.Edges.{ceilingOf}
 use Rattle.field.specs.Held.{fresh, setUp}
 

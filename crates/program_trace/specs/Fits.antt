@@ -4,8 +4,9 @@ use native.Mathlib.Omega.{arith}
 use mathlib.Core.Path.{_≡_, refl, sym, subst, _∙_}
 use mathlib.Core.Bool.{cond, _&&_, _||_}
 use mathlib.Core.List.{List, [], _∷_, _++_}
-use lib.ListN.{length, getD, take, drop, replicate, length-append, length-replicate}
+use lib.ListN.{length, take, drop, replicate, length-append, length-replicate}
 use lib.Dec.{eqb, ltb}
+use Rattle.base.specs.Limits.{maxModules, maxLinks, maxWords}
 use Rattle.base.specs.None.{none}
 use Rattle.base.specs.Cond.{bit, eqb-cases, eqb-diff}
 use Rattle.base.specs.Sum.{sum, sum-le, sum-add, sum-zero, sum-const, sum-swap}
@@ -18,7 +19,7 @@ use Rattle.plan.specs.Accepted.{Accepted, accepted}
 use Rattle.plan.specs.Ceiling.{ceiling-small}
 use Rattle.plan_file.specs.Reading.{readPlan}
 use Rattle.plan_file.specs.RoundTrip.{read-taken}
-use Rattle.plan.specs.Links.{Plan, modulesOf}
+use Rattle.plan.specs.Links.{Plan, modulesOf, linksOf, lowerOf, higherOf}
 use Rattle.node.specs.declared.Node.{Node}
 use Rattle.field.specs.Edges.{ceilingOf, isOwn, marksIn}
 use Rattle.field.specs.State.{nodeIn}
@@ -42,43 +43,43 @@ once (suc n) a = eqb-cases a n (λ b. bit b + sum n (λ v. bit (eqb a v)) ≤ 1)
     apart : (v : ℕ) → v < n → n ≡ v → ⊥
     apart v l e = omega arith
 
-module _ (links : ℕ) (lower higher : List ℕ) where
+module _ (p : Plan) where
   abbrev owns : ℕ → ℕ → ℕ
-  owns v k = bit (isOwn links lower higher v k)
+  owns v k = bit (isOwn p v k)
 
   -- a link ends at two modules
-  at-ends : (v k : ℕ) → owns v k ≤ bit (eqb (getD lower k 0) v) + bit (eqb (getD higher k 0) v)
+  at-ends : (v k : ℕ) → owns v k ≤ bit (eqb (lowerOf p k) v) + bit (eqb (higherOf p k) v)
   unfolding isOwn
-  at-ends v k = by-test (ltb k links) (λ b. bit (b && (eqb (getD lower k 0) v || eqb (getD higher k 0) v)) ≤ bit (eqb (getD lower k 0) v) + bit (eqb (getD higher k 0) v))
-      (by-test (eqb (getD lower k 0) v) (λ b. bit (b || eqb (getD higher k 0) v) ≤ bit b + bit (eqb (getD higher k 0) v)) (omega arith) (omega arith))
+  at-ends v k = by-test (ltb k (linksOf p)) (λ b. bit (b && (eqb (lowerOf p k) v || eqb (higherOf p k) v)) ≤ bit (eqb (lowerOf p k) v) + bit (eqb (higherOf p k) v))
+      (by-test (eqb (lowerOf p k) v) (λ b. bit (b || eqb (higherOf p k) v) ≤ bit b + bit (eqb (higherOf p k) v)) (omega arith) (omega arith))
       zero-le
 
   two-ends : (n k : ℕ) → sum n (λ v. owns v k) ≤ 2
   two-ends n k = omega (
     arith,
-    sum-le n (λ v. owns v k) (λ v. bit (eqb (getD lower k 0) v) + bit (eqb (getD higher k 0) v)) (λ v l. at-ends v k),
-    sum-add n (λ v. bit (eqb (getD lower k 0) v)) (λ v. bit (eqb (getD higher k 0) v)),
-    once n (getD lower k 0),
-    once n (getD higher k 0),
+    sum-le n (λ v. owns v k) (λ v. bit (eqb (lowerOf p k) v) + bit (eqb (higherOf p k) v)) (λ v l. at-ends v k),
+    sum-add n (λ v. bit (eqb (lowerOf p k) v)) (λ v. bit (eqb (higherOf p k) v)),
+    once n (lowerOf p k),
+    once n (higherOf p k),
   )
 
   own-total : (n l : ℕ) → sum n (λ v. sum l (owns v)) ≤ l * 2
   own-total n l = omega (arith, sum-swap n l owns, sum-le l (λ k. sum n (λ v. owns v k)) (λ k. 2) (λ k m. two-ends n k), sum-const l 2)
 
   module _ (marks : List ℕ) (v : ℕ) where
-    mark-length : (k : ℕ) → length (markText links lower higher marks v k) ≤ 42 * owns v k
+    mark-length : (k : ℕ) → length (markText p marks v k) ≤ 42 * owns v k
     unfolding markText
     mark-length k =
-        let t = item k ++ named ":" (marksIn links lower higher marks v k) in
-        by-test (isOwn links lower higher v k) (λ b. length (cond b t []) ≤ 42 * bit b)
-        (both (item k) (named ":" (marksIn links lower higher marks v k)) (named-length " " k) (named-length ":" (marksIn links lower higher marks v k)))
+        let t = item k ++ named ":" (marksIn p marks v k) in
+        by-test (isOwn p v k) (λ b. length (cond b t []) ≤ 42 * bit b)
+        (both (item k) (named ":" (marksIn p marks v k)) (named-length " " k) (named-length ":" (marksIn p marks v k)))
         (omega arith)
 
-    marks-length : (k : ℕ) → length (marksText links lower higher marks v k) ≤ 42 * sum k (owns v)
+    marks-length : (k : ℕ) → length (marksText p marks v k) ≤ 42 * sum k (owns v)
     unfolding marksText
     marks-length zero = omega arith
     marks-length (suc k) =
-        rw (length-append (marksText links lower higher marks v k) (markText links lower higher marks v k)) (omega (arith, marks-length k, mark-length k))
+        rw (length-append (marksText p marks v k) (markText p marks v k)) (omega (arith, marks-length k, mark-length k))
 
 -- ---- modules
 
@@ -112,30 +113,30 @@ other-length n =
     (named-length " " (n .halted)) in
     omega (arith, most)
 
-module _ (links : ℕ) (lower higher cells marks : List ℕ) where
+module _ (p : Plan) (cells marks : List ℕ) where
   abbrev own : ℕ → ℕ
-  own v = sum links (owns links lower higher v)
+  own v = sum (linksOf p) (owns p v)
 
-  module-length : (v : ℕ) → length (moduleText links lower higher cells marks v) ≤ 400 + 42 * own v
+  module-length : (v : ℕ) → length (moduleText p cells marks v) ≤ 400 + 42 * own v
   module-length v =
       let n = nodeIn cells v in
-      let m = marksText links lower higher marks v links in
-      let most : length (moduleText links lower higher cells marks v) ≤ 27 + (150 + 150) + 42 * own v + 1 =
+      let m = marksText p marks v (linksOf p) in
+      let most : length (moduleText p cells marks v) ≤ 27 + (150 + 150) + 42 * own v + 1 =
       both (named "module " v ++ valuesText n ++ m) (ascii "\n")
       (both (named "module " v ++ valuesText n) m
       (both (named "module " v) (valuesText n) (named-length "module " v) (both (firstText n) (otherText n) (first-length n) (other-length n)))
-      (marks-length links lower higher marks v links))
+      (marks-length p marks v (linksOf p)))
       (omega arith) in
       omega arith
 
-  modules-length : (n : ℕ) → length (modulesText links lower higher cells marks n) ≤ 400 * n + 42 * sum n own
+  modules-length : (n : ℕ) → length (modulesText p cells marks n) ≤ 400 * n + 42 * sum n own
   unfolding modulesText
   modules-length zero = omega arith
   modules-length (suc v) =
-      rw (length-append (modulesText links lower higher cells marks v) (moduleText links lower higher cells marks v)) (omega (arith, modules-length v, module-length v))
+      rw (length-append (modulesText p cells marks v) (moduleText p cells marks v)) (omega (arith, modules-length v, module-length v))
 
-  all-modules : (n : ℕ) → n ≤ 192 → links ≤ 600 → length (modulesText links lower higher cells marks n) ≤ 130000
-  all-modules n h k = omega (arith, modules-length n, own-total links lower higher n links)
+  all-modules : (n : ℕ) → n ≤ maxModules → linksOf p ≤ maxLinks → length (modulesText p cells marks n) ≤ 130000
+  all-modules n h k = omega (arith, modules-length n, own-total p n (linksOf p))
 
 -- ---- the other lines
 
@@ -158,7 +159,7 @@ head-length d r s w =
 
 -- ---- the whole
 
-ran-length : (p : Plan) (r : Ran Held) → Accepted p → length (waitingIn (r .state .words)) ≤ 7920 → length (ranText p r) ≤ 400000
+ran-length : (p : Plan) (r : Ran Held) → Accepted p → length (waitingIn (r .state .words)) ≤ maxWords → length (ranText p r) ≤ 400000
 unfolding ranText
 ran-length p r a l =
     let f = r .state .field in
@@ -181,12 +182,12 @@ module _ (p : Plan) (a : planRefusal p ≡ 0) where
       let n = length-replicate {A = ℕ} (ceilingOf p) 0 in
       subst (λ k. Live (record { field = fresh p; words = replicate k 0 })) n (begun-live p (replicate (ceilingOf p) 0) a (omega (arith, n)))
 
-  waiting-small : (schedule : List ℕ) → length (waitingIn (runBytes schedule (start p) .state .words)) ≤ 7920
+  waiting-small : (schedule : List ℕ) → length (waitingIn (runBytes schedule (start p) .state .words)) ≤ maxWords
   unfolding does
   waiting-small schedule =
       let h = does (run schedule) (start p) .state in
       let left = live-sound h (does-live (start p) begun (run schedule)) .fits in
-      let most : ceilingOf (h .field .plan) ≤ 7920 = rw (plan-of-does (start p) begun (run schedule)) (ceiling-small p a) in
+      let most : ceilingOf (h .field .plan) ≤ maxWords = rw (plan-of-does (start p) begun (run schedule)) (ceiling-small p a) in
       omega (arith, left .waiting, left .ceiling)
 
 pub traced-length : (s : List ℕ) → length (traced s) ≤ 400000

@@ -14,7 +14,7 @@ use Rattle.base.specs.Loop.{Ran}
 use Rattle.format_text.specs.Ascii.{ascii}
 use Rattle.format_text.specs.Lines.{named, line}
 use Rattle.format_text.specs.Put.{Page, put, put-none, put-on, put-two}
-use Rattle.plan.specs.Links.{Plan, modulesOf}
+use Rattle.plan.specs.Links.{Plan, modulesOf, linksOf}
 use Rattle.field.specs.Edges.{isOwn, marksIn}
 use Rattle.node.specs.declared.Node.{Node}
 use Rattle.field.specs.State.{nodeIn}
@@ -40,25 +40,23 @@ abbrev pub valuesText : Node → List ℕ
 valuesText n = firstText n ++ otherText n
 
 -- "`K:MARK`", where link k is one of module v
-unfoldable pub markText : ℕ → List ℕ → List ℕ → List ℕ → ℕ → ℕ → List ℕ
-markText links lower higher marks v k =
-    cond (isOwn links lower higher v k) (item k ++ named ":" (marksIn links lower higher marks v k)) []
+unfoldable pub markText : Plan → List ℕ → ℕ → ℕ → List ℕ
+markText p marks v k = cond (isOwn p v k) (item k ++ named ":" (marksIn p marks v k)) []
 
 -- "for each own link by number": of the links below k
-unfoldable pub marksText : ℕ → List ℕ → List ℕ → List ℕ → ℕ → ℕ → List ℕ
-marksText links lower higher marks v zero = []
-marksText links lower higher marks v (suc k) =
-    marksText links lower higher marks v k ++ markText links lower higher marks v k
+unfoldable pub marksText : Plan → List ℕ → ℕ → ℕ → List ℕ
+marksText p marks v zero = []
+marksText p marks v (suc k) = marksText p marks v k ++ markText p marks v k
 
 -- "`module V` and its nine values .., then for each own link .."
-abbrev pub moduleText : ℕ → List ℕ → List ℕ → List ℕ → List ℕ → ℕ → List ℕ
-moduleText links lower higher cells marks v =
-    named "module " v ++ valuesText (nodeIn cells v) ++ marksText links lower higher marks v links ++ ascii "\n"
+abbrev pub moduleText : Plan → List ℕ → List ℕ → ℕ → List ℕ
+moduleText p cells marks v =
+    named "module " v ++ valuesText (nodeIn cells v) ++ marksText p marks v (linksOf p) ++ ascii "\n"
 
 -- "for each module in order": of the modules below v
-unfoldable pub modulesText : ℕ → List ℕ → List ℕ → List ℕ → List ℕ → ℕ → List ℕ
-modulesText links lower higher cells marks zero = []
-modulesText links lower higher cells marks (suc v) = modulesText links lower higher cells marks v ++ moduleText links lower higher cells marks v
+unfoldable pub modulesText : Plan → List ℕ → List ℕ → ℕ → List ℕ
+modulesText p cells marks zero = []
+modulesText p cells marks (suc v) = modulesText p cells marks v ++ moduleText p cells marks v
 
 -- "for each waiting word in order `word X`, X in decimal"
 unfoldable pub wordsText : List ℕ → List ℕ
@@ -100,30 +98,30 @@ module _ (x : ℕ) where
   unfolding refusalText
   refusal-some h = simp (ne-eqb _ _ h)
 
-module _ (links : ℕ) (lower higher marks : List ℕ) (v : ℕ) where
-  pub mark-none : (k : ℕ) → isOwn links lower higher v k ≡ false → markText links lower higher marks v k ≡ []
+module _ (p : Plan) (marks : List ℕ) (v : ℕ) where
+  pub mark-none : (k : ℕ) → isOwn p v k ≡ false → markText p marks v k ≡ []
   unfolding markText
   mark-none k h = rw h refl
 
-  pub mark-own : (k x : ℕ) → isOwn links lower higher v k ≡ true → x ≡ marksIn links lower higher marks v k
-      → markText links lower higher marks v k ≡ item k ++ named ":" x
+  pub mark-own : (k x : ℕ) → isOwn p v k ≡ true → x ≡ marksIn p marks v k
+      → markText p marks v k ≡ item k ++ named ":" x
   unfolding markText
   mark-own k x h e = rw (h, e) refl
 
-  pub marks-none : marksText links lower higher marks v 0 ≡ []
+  pub marks-none : marksText p marks v 0 ≡ []
   unfolding marksText
   marks-none = refl
 
-  pub marks-turn : (k : ℕ) → marksText links lower higher marks v k ++ markText links lower higher marks v k ≡ marksText links lower higher marks v (k + 1)
+  pub marks-turn : (k : ℕ) → marksText p marks v k ++ markText p marks v k ≡ marksText p marks v (k + 1)
   unfolding marksText
   marks-turn k = rw (add-one k) refl
 
-module _ (links : ℕ) (lower higher cells marks : List ℕ) where
-  pub modules-none : modulesText links lower higher cells marks 0 ≡ []
+module _ (p : Plan) (cells marks : List ℕ) where
+  pub modules-none : modulesText p cells marks 0 ≡ []
   unfolding modulesText
   modules-none = refl
 
-  pub modules-turn : (v : ℕ) → modulesText links lower higher cells marks v ++ moduleText links lower higher cells marks v ≡ modulesText links lower higher cells marks (v + 1)
+  pub modules-turn : (v : ℕ) → modulesText p cells marks v ++ moduleText p cells marks v ≡ modulesText p cells marks (v + 1)
   unfolding modulesText
   modules-turn v = rw (add-one v) refl
 

@@ -10,6 +10,7 @@ ghost use Rattle.field.specs.Edges.{ceilingOf};
 ghost use Rattle.field_calls.specs.Call.{runBytes};
 ghost use Rattle.program_trace.specs.Text.{ranText};
 ghost use Rattle.program_trace.specs.Traced.{start, planPart, traced};
+use base::MAX_WORDS;
 use format_text::Intake;
 use host_run::Ran;
 use libc::STDOUT_FILENO;
@@ -18,34 +19,25 @@ use plan::Plan;
 mod render;
 
 // Setup of an accepted plan with exactly M words, then a run of the schedule.
-fn set_up_and_run(p: Plan, lent: &mut [u64], schedule: &[u8]) -> Ran
-    requires { ⌜ (planRefusal p ≡ 0) × (length (now lent) ≡ ceilingOf p) ⌝ }
+fn set_up_and_run(p: &Plan, lent: &mut [u64], schedule: &[u8]) -> Ran
+    requires { ⌜ (planRefusal (now p) ≡ 0) × (length (now lent) ≡ ceilingOf (now p)) ⌝ }
     ensures { λ r. ⌜ record { done = r .steps; answer = r .refusal; state = record { field = r .field; words = now (lent .exit) } }
-        ≡ runBytes (now (schedule .entry)) (start p) ⌝ }
+        ≡ runBytes (now (schedule .entry)) (start (now (p .entry))) ⌝ }
 {
     let begun = host_setup::setup(p, lent);
     host_run::run(begun.field, lent, schedule)
 }
 
 // An accepted plan's schedule run, and what it led to.
-fn follow(p: Plan, lent: &mut [u64], schedule: &[u8], out: &mut [u8]) -> usize
-    requires { ⌜ (planRefusal p ≡ 0) × (length (now lent) ≡ ceilingOf p) ⌝ }
-    ensures { λ r. ⌜ page r (now (out .exit)) ≡ put (page 0 (now (out .entry))) (ranText p (runBytes (now (schedule .entry)) (start p))) ⌝ }
+fn follow(p: &Plan, lent: &mut [u64], schedule: &[u8], out: &mut [u8]) -> usize
+    requires { ⌜ (planRefusal (now p) ≡ 0) × (length (now lent) ≡ ceilingOf (now p)) ⌝ }
+    ensures { λ r. ⌜ page r (now (out .exit)) ≡ put (page 0 (now (out .entry))) (ranText (now (p .entry)) (runBytes (now (schedule .entry)) (start (now (p .entry))))) ⌝ }
 {
     let r = set_up_and_run(p, lent, schedule);
     let f = r.field;
     let n = field_check::waiting(lent);
     let a = render::head(out, r.steps, r.refusal, f.sent, n);
-    let b = render::modules(
-        p.modules,
-        p.links,
-        &p.lower,
-        &p.higher,
-        &f.cells,
-        &f.marks,
-        out,
-        a,
-    );
+    let b = render::modules(p, &f.cells, &f.marks, out, a);
     render::words(&lent[..n], out, b)
 }
 
@@ -73,10 +65,10 @@ fn trace(input: &[u8], out: &mut [u8]) -> usize
         return format_text::put_line(out, 0, b"refused ", got.refusal as u64);
     }
     let p = got.plan;
-    let m = plan::ceiling(p.modules, p.links) as usize;
+    let m = plan::ceiling_of(&p) as usize;
     // room for the largest plan's M
-    let mut lent = [0u64; 7920];
-    follow(p, &mut lent[..m], &input[part..], out)
+    let mut lent = [0u64; MAX_WORDS];
+    follow(&p, &mut lent[..m], &input[part..], out)
 }
 
 // What it asks is what the program owes: the text is what the whole input leads to, of which `space` holds what came.

@@ -1,12 +1,16 @@
 // What a run led to, line by line, put into a lent buffer.
 ghost use Prim.Native.Nat.{_<_, _≤_};
 ghost use mathlib.Core.Path.{_≡_};
+ghost use Rattle.base.specs.Limits.{maxModules, maxLinks};
+ghost use Rattle.plan.specs.Links.{modulesOf, linksOf};
 ghost use Rattle.format_text.specs.Put.{page, put};
 ghost use Rattle.program_trace.specs.Text.{item as Text·item};
 ghost use Rattle.program_trace.specs.Text.{linkItem, firstText, otherText, valuesText, markText, marksText, moduleText, modulesText, wordsText, refusalText, headText};
 use base::NONE;
-use field::CELLS;
+use field::Cells;
+use field::Marks;
 use node::Node;
+use plan::Plan;
 
 // A blank and a number.
 fn item(out: &mut [u8], at: usize, x: u16) -> usize
@@ -54,46 +58,30 @@ fn values(out: &mut [u8], at: usize, n: Node) -> usize
 }
 
 // Module v's mark for link k, if k is a link of v.
-fn mark<'a>(
-    links: u16,
-    lower: &'a [u16; 600],
-    higher: &'a [u16; 600],
-    marks: &'a [u8; 1200],
-    out: &mut [u8],
-    at: usize,
-    v: u16,
-    k: u16,
-) -> usize
-    requires { ⌜ (links ≤ 600) × (k < links) ⌝ }
+fn mark<'a>(plan: &'a Plan, marks: &'a Marks, out: &mut [u8], at: usize, v: u16, k: u16) -> usize
+    requires { ⌜ (linksOf (now plan) ≤ maxLinks) × (k < linksOf (now plan)) ⌝ }
     ensures { λ r. ⌜ page r (now (out .exit))
-        ≡ put (page at (now (out .entry))) (markText links (now (lower .entry)) (now (higher .entry)) (now (marks .entry)) v k) ⌝ }
+        ≡ put (page at (now (out .entry))) (markText (now (plan .entry)) (now (marks .entry)) v k) ⌝ }
 {
-    if !node_edges::owns(links, lower, higher, v, k) {
+    if !node_edges::owns(plan, v, k) {
         return at;
     }
-    let x = node_edges::mark_of(lower, marks, v, NONE, 0, k);
+    let x = node_edges::mark_of(plan, marks, v, NONE, 0, k);
     let a = item(out, at, k);
     format_text::put_named(out, a, b":", x as u64)
 }
 
 // Module v's marks for its own links, by number.
-fn own_marks<'a>(
-    links: u16,
-    lower: &'a [u16; 600],
-    higher: &'a [u16; 600],
-    marks: &'a [u8; 1200],
-    out: &mut [u8],
-    at: usize,
-    v: u16,
-) -> usize
-    requires { ⌜ links ≤ 600 ⌝ }
+fn own_marks<'a>(plan: &'a Plan, marks: &'a Marks, out: &mut [u8], at: usize, v: u16) -> usize
+    requires { ⌜ linksOf (now plan) ≤ maxLinks ⌝ }
     ensures { λ r. ⌜ page r (now (out .exit))
-        ≡ put (page at (now (out .entry))) (marksText links (now (lower .entry)) (now (higher .entry)) (now (marks .entry)) v links) ⌝ }
+        ≡ put (page at (now (out .entry))) (marksText (now (plan .entry)) (now (marks .entry)) v (linksOf (now (plan .entry)))) ⌝ }
 {
+    let links = plan::links(plan);
     let mut a = at;
     let mut k: u16 = 0;
     while k < links {
-        a = mark(links, lower, higher, marks, out, a, v, k);
+        a = mark(plan, marks, out, a, v, k);
         k += 1;
     }
     a
@@ -101,45 +89,41 @@ fn own_marks<'a>(
 
 // Module v's line.
 fn module_line<'a>(
-    links: u16,
-    lower: &'a [u16; 600],
-    higher: &'a [u16; 600],
-    cells: &'a [u16; CELLS],
-    marks: &'a [u8; 1200],
+    plan: &'a Plan,
+    cells: &'a Cells,
+    marks: &'a Marks,
     out: &mut [u8],
     at: usize,
     v: u16,
 ) -> usize
-    requires { ⌜ (links ≤ 600) × (v < 192) ⌝ }
+    requires { ⌜ (linksOf (now plan) ≤ maxLinks) × (v < maxModules) ⌝ }
     ensures { λ r. ⌜ page r (now (out .exit)) ≡ put (page at (now (out .entry)))
-        (moduleText links (now (lower .entry)) (now (higher .entry)) (now (cells .entry)) (now (marks .entry)) v) ⌝ }
+        (moduleText (now (plan .entry)) (now (cells .entry)) (now (marks .entry)) v) ⌝ }
 {
     let n = field_cells::load(cells, v);
     let a = format_text::put_named(out, at, b"module ", v as u64);
     let b = values(out, a, n);
-    let c = own_marks(links, lower, higher, marks, out, b, v);
+    let c = own_marks(plan, marks, out, b, v);
     format_text::put(out, c, b"\n")
 }
 
 // A line for each of the modules.
 pub fn modules<'a>(
-    n: u16,
-    links: u16,
-    lower: &'a [u16; 600],
-    higher: &'a [u16; 600],
-    cells: &'a [u16; CELLS],
-    marks: &'a [u8; 1200],
+    plan: &'a Plan,
+    cells: &'a Cells,
+    marks: &'a Marks,
     out: &mut [u8],
     at: usize,
 ) -> usize
-    requires { ⌜ (n ≤ 192) × (links ≤ 600) ⌝ }
+    requires { ⌜ (modulesOf (now plan) ≤ maxModules) × (linksOf (now plan) ≤ maxLinks) ⌝ }
     ensures { λ r. ⌜ page r (now (out .exit)) ≡ put (page at (now (out .entry)))
-        (modulesText links (now (lower .entry)) (now (higher .entry)) (now (cells .entry)) (now (marks .entry)) n) ⌝ }
+        (modulesText (now (plan .entry)) (now (cells .entry)) (now (marks .entry)) (modulesOf (now (plan .entry)))) ⌝ }
 {
+    let n = plan::modules(plan);
     let mut a = at;
     let mut v: u16 = 0;
     while v < n {
-        a = module_line(links, lower, higher, cells, marks, out, a, v);
+        a = module_line(plan, cells, marks, out, a, v);
         v += 1;
     }
     a

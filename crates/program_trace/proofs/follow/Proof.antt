@@ -10,15 +10,15 @@ use Rattle.program_trace.proofs.follow.Tie as tie
 
 modules-requires : tie.Need-modules-requires
 modules-requires c κs =
-    let head = c .before .before .before .before .before .before .before .before .before in
+    let head = c .before .before .before .before .before .before in
     let ran = head .before .before .before .before .before .before .before in
     let s = ran .before .before .before .before .before in
-    let a = accepted (s .args .t1) (s .pre .0) in
+    let a = accepted _ (s .pre .0) in
     (a .modulesOk, a .linksOk)
 
 -- the call that counted the waiting words
 abbrev counted : tie.After-modules → tie.After-waiting
-counted c = c .before .before .before .before .before .before .before .before .before .before .before .before
+counted c = c .before .before .before .before .before .before .before .before .before
 
 slice-reshare-prefix-words : tie.Need-slice-reshare-prefix-words
 slice-reshare-prefix-words c = within _ _ (counted (c .before .before) .waiting .ensures)
@@ -31,7 +31,7 @@ returns : tie.Need-returns
 returns c =
     let third = c .before .before in
     let second = third .before .before .before .before .before in
-    let first = second .before .before .before .before .before .before .before .before .before .before in
+    let first = second .before .before .before .before .before .before .before in
     let n = first .before .before in
     let ran = n .before .before .before .before .before in
     ran-parts _ (ran .set-up-and-run .ensures) _

@@ -3,6 +3,7 @@ use native.Mathlib.Omega.{arith}
 use mathlib.Core.Path.{_≡_, sym, ap, _∙_}
 use lib.Seq.{length-take-le}
 use borrow.Author.Needs.{needs}
+use Rattle.base.specs.Limits.{maxWords}
 use Rattle.format_text.specs.Put.{put}
 use Rattle.plan.specs.Refusal.{planRefusal}
 use Rattle.plan.specs.Ceiling.{ceiling-small}
@@ -29,24 +30,24 @@ taken c =
     read-taken _ (r .read .result) (r .read .ensures) (c .before .if1 .left)
 
 -- the array has the words of the largest plan
-room : (c : tie.After-ceiling) → c .ceiling .result ≤ 7920
-room c = omega (arith, c .ceiling .ensures, ceiling-small (c .before .before .before .before .read .result .plan) (taken (c .before)))
+room : (c : tie.After-ceiling-of) → c .ceiling-of .result ≤ maxWords
+room c = omega (arith, c .ceiling-of .ensures, ceiling-small (c .before .before .before .before .before .read .result .plan) (taken (c .before .before)))
 
 array-borrow-prefix-lent : tie.Need-array-borrow-prefix-lent
-array-borrow-prefix-lent c = room c
+array-borrow-prefix-lent c = room (c .before)
 
 slice-aggregate-follow : tie.Need-slice-aggregate-follow
-slice-aggregate-follow c = sym (length-take-le _ _ (room (c .before)))
+slice-aggregate-follow c = sym (length-take-le _ _ (room (c .before .before)))
 
 follow-requires : tie.Need-follow-requires
 follow-requires c κs =
-    let m = c .before .before .before in
-    (taken (m .before), length-take-le _ _ (room m) ∙ m .ceiling .ensures)
+    let m = c .before .before .before .before in
+    (taken (m .before .before), length-take-le _ _ (room m) ∙ m .ceiling-of .ensures)
 
 returns-2 : tie.Need-returns-2
 returns-2 c =
     let call = c .before .before .before in
-    let test = call .before .before .before .before .before .before in
+    let test = call .before .before .before .before .before .before .before .before in
     let got = test .before .before in
     call .follow .ensures
     ∙ ap (put _) (sym (traced-ran _ _ (got .before .before .plan-part .ensures) _ (got .read .ensures) (test .if1 .left)))

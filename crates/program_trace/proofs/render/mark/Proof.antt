@@ -11,7 +11,7 @@ use Rattle.program_trace.proofs.render.mark.Tie as tie
 returns : tie.Need-returns
 returns c =
     let own = sym (c .before .owns .ensures) ∙ not-true _ (c .if1 .taken) in
-    sym (ap (put _) (mark-none _ _ _ _ _ _ own) ∙ put-none _)
+    sym (ap (put _) (mark-none _ _ _ _ own) ∙ put-none _)
 
 returns-2 : tie.Need-returns-2
 returns-2 c =
@@ -21,7 +21,7 @@ returns-2 c =
     let test = told .before in
     let own = sym (test .before .owns .ensures) ∙ not-false _ (test .if1 .left) in
     put-on _ (item _) (named ":" _) (first .item .ensures) (last .put-named .ensures)
-    ∙ ap (put _) (sym (mark-own _ _ _ _ _ _ _ own (told .mark-of .ensures _ _ own ∙ marked-same _ 0 _)))
+    ∙ ap (put _) (sym (mark-own _ _ _ _ _ own (told .mark-of .ensures own ∙ marked-same _ 0 _)))
 
 pub mark-spec : {M : Type 1} → statement M
 mark-spec =

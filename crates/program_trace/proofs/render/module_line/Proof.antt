@@ -15,8 +15,8 @@ returns c =
     let second = third .before .before .before .before in
     let first = second .before .before .before .before in
     let node = first .before .before .before in
-    put-on _ (named "module " _ ++ valuesText _ ++ marksText _ _ _ _ _ _) (ascii "\n")
-    (put-on _ (named "module " _ ++ valuesText _) (marksText _ _ _ _ _ _)
+    put-on _ (named "module " _ ++ valuesText _ ++ marksText _ _ _ _) (ascii "\n")
+    (put-on _ (named "module " _ ++ valuesText _) (marksText _ _ _ _)
     (put-on _ (named "module " _) (valuesText _) (first .put-named .ensures) (second .values .ensures ∙ ap (put _) (ap valuesText (node .load .ensures))))
     (third .own-marks .ensures))
     (fourth .put .ensures)

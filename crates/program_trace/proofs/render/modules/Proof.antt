@@ -9,15 +9,15 @@ use Rattle.program_trace.proofs.render.modules.Statement.{statement}
 use Rattle.program_trace.proofs.render.modules.Tie as tie
 
 abbrev Inv-loop : tie.InvT-loop
-Inv-loop n links lower higher cells marks out₀ at a₀ v₀ out a v =
-    (v ≤ n) × (length out ≡ length out₀) × (page a out ≡ put (page at out₀) (modulesText links lower higher cells marks v))
+Inv-loop plan cells marks out₀ at n a₀ v₀ out a v =
+    (v ≤ n) × (length out ≡ length out₀) × (page a out ≡ put (page at out₀) (modulesText plan cells marks v))
 
 abbrev μ-loop : tie.MeasureT-loop
-μ-loop n links lower higher cells marks out₀ at a₀ v₀ out a v = n - v
+μ-loop plan cells marks out₀ at n a₀ v₀ out a v = n - v
 
 loop-holds : tie.Need-loop-holds Inv-loop μ-loop
 loop-holds c =
-    (omega arith, refl, sym (ap (put _) (modules-none _ _ _ _ _) ∙ put-none _))
+    (omega arith, refl, sym (ap (put _) (modules-none _ _ _) ∙ put-none _))
 
 loop-again : tie.Need-loop-again Inv-loop μ-loop
 loop-again c =
@@ -25,15 +25,15 @@ loop-again c =
     let at = call .before .before .before in (
       omega arith,
       search needs,
-      put-on _ (modulesText _ _ _ _ _ _) _ (at .loop .inv .2) (call .module-line .ensures)
-          ∙ ap (put _) (modules-turn _ _ _ _ _ _),
+      put-on _ (modulesText _ _ _ _) _ (at .loop .inv .2) (call .module-line .ensures)
+          ∙ ap (put _) (modules-turn _ _ _ _),
     )
 
 returns : tie.Need-returns Inv-loop μ-loop
 returns c =
     let at = c .before in
-    let end : at .loop .v ≡ at .before .before .args .n = omega arith in
-    at .loop .inv .2 ∙ ap (put _) (ap (modulesText _ _ _ _ _) end)
+    let end : at .loop .v ≡ at .before .modules .result = omega arith in
+    at .loop .inv .2 ∙ ap (put _) (ap (modulesText _ _ _) (end ∙ at .before .modules .ensures))
 
 pub modules-spec : {M : Type 1} → statement M
 modules-spec =
@@ -41,6 +41,7 @@ modules-spec =
     (tie.spec
     Inv-loop
     μ-loop
+    (λ c κs. search needs)
     loop-holds
     (λ c κs. search needs)
     (λ c. search needs)

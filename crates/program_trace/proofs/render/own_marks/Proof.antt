@@ -9,15 +9,15 @@ use Rattle.program_trace.proofs.render.own_marks.Statement.{statement}
 use Rattle.program_trace.proofs.render.own_marks.Tie as tie
 
 abbrev Inv-loop : tie.InvT-loop
-Inv-loop links lower higher marks out₀ at v a₀ k₀ out a k =
-    (k ≤ links) × (length out ≡ length out₀) × (page a out ≡ put (page at out₀) (marksText links lower higher marks v k))
+Inv-loop plan marks out₀ at v links a₀ k₀ out a k =
+    (k ≤ links) × (length out ≡ length out₀) × (page a out ≡ put (page at out₀) (marksText plan marks v k))
 
 abbrev μ-loop : tie.MeasureT-loop
-μ-loop links lower higher marks out₀ at v a₀ k₀ out a k = links - k
+μ-loop plan marks out₀ at v links a₀ k₀ out a k = links - k
 
 loop-holds : tie.Need-loop-holds Inv-loop μ-loop
 loop-holds c =
-    (omega arith, refl, sym (ap (put _) (marks-none _ _ _ _ _) ∙ put-none _))
+    (omega arith, refl, sym (ap (put _) (marks-none _ _ _) ∙ put-none _))
 
 loop-again : tie.Need-loop-again Inv-loop μ-loop
 loop-again c =
@@ -25,15 +25,15 @@ loop-again c =
     let at = call .before .before .before in (
       omega arith,
       search needs,
-      put-on _ (marksText _ _ _ _ _ _) (markText _ _ _ _ _ _) (at .loop .inv .2) (call .mark .ensures)
-          ∙ ap (put _) (marks-turn _ _ _ _ _ _),
+      put-on _ (marksText _ _ _ _) (markText _ _ _ _) (at .loop .inv .2) (call .mark .ensures)
+          ∙ ap (put _) (marks-turn _ _ _ _),
     )
 
 returns : tie.Need-returns Inv-loop μ-loop
 returns c =
     let at = c .before in
-    let end : at .loop .k ≡ at .before .before .args .links = omega arith in
-    at .loop .inv .2 ∙ ap (put _) (ap (marksText _ _ _ _ _) end)
+    let end : at .loop .k ≡ at .before .links .result = omega arith in
+    at .loop .inv .2 ∙ ap (put _) (ap (marksText _ _ _) (end ∙ at .before .links .ensures))
 
 pub own-marks-spec : {M : Type 1} → statement M
 own-marks-spec =
@@ -41,6 +41,7 @@ own-marks-spec =
     (tie.spec
     Inv-loop
     μ-loop
+    (λ c κs. search needs)
     loop-holds
     (λ c κs. search needs)
     (λ c. search needs)
