@@ -4,12 +4,13 @@ use mathlib.Core.Bool.{Bool, cond, not, _&&_}
 use mathlib.Core.List.{List, [], _++_}
 use lib.Dec.{eqb}
 
--- what a turn answers, 0 for taken or the refusal's number, and what it leaves
+-- what a turn answers, 0 for taken or the refusal's number, and what it leaves. (`answer` is that number wherever something was done; `..Refusal`
+-- names the first refusal that applies to a value.)
 pub record After (S : Type 0) : Type 0 where
   pub answer : ℕ
   pub state : S
 
--- turns done, the refusal that ended them or 0, and what they leave
+-- turns done, what they answer, 0 or the refusal that ended them, and what they leave
 pub record Ran (S : Type 0) : Type 0 where
   pub done : ℕ
   pub answer : ℕ

@@ -49,11 +49,11 @@ unfoldable pub after : List Call → Held → Held
 after [] h = h
 after (c ∷ cs) h = after cs (does c h .state)
 
--- a call, and the refusal that it answered or 0
+-- a call, and what it answered: 0 for taken or the refusal's number
 pub record Answer : Type 0 where
   pub call : Call
-  pub refusal : ℕ
+  pub answer : ℕ
 
 unfoldable pub answers : List Call → Held → List Answer
 answers [] h = []
-answers (c ∷ cs) h = record { call = c; refusal = does c h .answer } ∷ answers cs (does c h .state)
+answers (c ∷ cs) h = record { call = c; answer = does c h .answer } ∷ answers cs (does c h .state)

@@ -67,7 +67,7 @@ pub record Claim (p : Plan) (start : Held) (calls : List Call) : Type 0 where
   -- "and is at most the ceiling, 5 × N × ⌊log2 N⌋ + 2 × L;"
   pub ceiling : stateOf (after calls start) .sent ≤ ceilingOf p
   -- "and nothing in the list was refused by 31, 32 or 33."
-  pub refusals : All (λ a. Allowed (a .call) (a .refusal)) (answers calls start)
+  pub refusals : All (λ a. Allowed (a .call) (a .answer)) (answers calls start)
   -- "If a module was woken and the field is at rest, .."
   pub agreed : wokenIn p (trail calls start) ≢ [] → stateOf (after calls start) .words ≡ [] → Agreed p (stateOf (after calls start))
   -- "Whatever such a list leaves, a run of rounds from there, its limit the ceiling plus N or more, comes to rest .."

@@ -115,7 +115,7 @@ module _ (p : Plan) (a : Accepted p) (Good : State → Type 0) (proto : Protocol
     sound-held : Sound p (stateOf h)
     sound-held = subst (λ q. Sound q (stateOf h)) e (live-sound h i)
 
-  allowed : (cs : List Call) (h : Held) → Live h → h .field .plan ≡ p → Good (stateOf h) → All (λ r. Allowed (r .call) (r .refusal)) (answers cs h)
+  allowed : (cs : List Call) (h : Held) → Live h → h .field .plan ≡ p → Good (stateOf h) → All (λ r. Allowed (r .call) (r .answer)) (answers cs h)
   unfolding answers
   allowed [] h i e g = nil
   allowed (c ∷ cs) h i e g =
