@@ -17,7 +17,6 @@ use Rattle.format_message.specs.Listed as message2
 use Rattle.plan.specs.Refusal as plan1
 use Rattle.plan.specs.Weights as plan2
 use Rattle.plan.specs.Links.{Plan}
-use Rattle.field.specs.Edges.{isOwn, marksIn}
 use Rattle.node.specs.Rules as node1
 use Rattle.node.specs.Work as node2
 use Rattle.field.specs.Edges as field0

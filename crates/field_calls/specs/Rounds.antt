@@ -2,7 +2,6 @@
 use Prim.Native.Nat.{ℕ, _*_}
 use Rattle.base.specs.Keep.{many}
 use mathlib.Core.Bool.{Bool}
-use mathlib.Core.List.{[]}
 use lib.ListN.{length}
 use lib.Dec.{eqb}
 use Rattle.base.specs.Loop.{After, Ran, then, loop, runs}

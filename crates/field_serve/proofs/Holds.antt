@@ -2,7 +2,7 @@
 use Prim.Native.Nat.{ℕ, _+_, _≤_, _<_}
 use native.Mathlib.Omega.{arith}
 use mathlib.Core.Path.{_≡_, refl, sym, ap, _∙_}
-use mathlib.Core.List.{List, [], _∷_, _++_, append-nil, append-assoc}
+use mathlib.Core.List.{List, [], _∷_, _++_, append-nil}
 use lib.ListN.{length, take, length-append}
 use lib.Seq.{length-take-le}
 use Rattle.field.specs.Held.{layout}
@@ -31,7 +31,3 @@ module _ (lent : List ℕ) (n : ℕ) (h : Laid lent n) where
 pub holds-on : {mid last : List ℕ} {r t m : ℕ} {ws : List ℕ} (us : List ℕ)
     → Holds mid r m ws → Holds last t (length mid) (take r mid ++ us) → Holds last t m (ws ++ us)
 holds-on us p q = record { waits = q .waits ∙ ap (λ (l : List ℕ). l ++ us) (p .waits); laid = q .laid; size = q .size ∙ p .size }
-
-pub holds-then : {mid last : List ℕ} {r t m : ℕ} (first ws us : List ℕ)
-    → Holds mid r m (first ++ ws) → Holds last t (length mid) (take r mid ++ us) → Holds last t m (first ++ (ws ++ us))
-holds-then first ws us p q = rw (← append-assoc first ws us) (holds-on us p q)

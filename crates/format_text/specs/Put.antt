@@ -96,6 +96,3 @@ module _ (at : ℕ) (b t : List ℕ) (fits : at + length t ≤ length b) where
 module _ (b t : List ℕ) (fits : length t ≤ length b) (at : ℕ) (b′ : List ℕ) (e : page at b′ ≡ put (page 0 b) t) where
   pub whole-text : take at b′ ≡ t
   whole-text = ap (λ (p : Page). take (p .place) (p .bytes)) e ∙ put-front 0 b t (omega arith)
-
-  pub whole-inside : at ≤ length b′
-  whole-inside = omega (arith, ap (λ (p : Page). p .place) e, put-place (page 0 b) t, ap (λ (p : Page). length (p .bytes)) e, put-length (page 0 b) t)

@@ -1,6 +1,6 @@
 // Schedules as bytes: the check 51 to 54, and step i's kind and number.
 ghost use mathlib.Core.Path.{_≡_};
-ghost use Prim.Native.Nat.{_+_, _*_, _<_, _≤_};
+ghost use Prim.Native.Nat.{_+_, _*_, _<_};
 ghost use lib.ListN.{length};
 ghost use Rattle.field_calls.specs.Schedule.{kindOf, numberOf, kindListed, scheduleRefusal};
 ghost use Rattle.host_schedule.specs.Kinds.{kindsFrom};

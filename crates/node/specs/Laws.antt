@@ -1,12 +1,10 @@
 -- One law for each outcome of each part of the rules, for any response so far. Code and proof of the protocol both cite these.
 use Prim.Native.Nat.{ℕ, _+_, _-_, _≤_, _<_}
-use mathlib.Core.Path.{_≡_, refl}
+use mathlib.Core.Path.{_≡_}
 use mathlib.Core.Logic.{_≢_}
-use mathlib.Core.Bool.{Bool, true, false, cond, _&&_, and-false}
-use lib.Dec.{eqb, ltb, leb}
+use mathlib.Core.Bool.{true, false, and-false}
 use borrow.Author.Tests.{eq-eqb, ne-eqb, lt-ltb, le-ltb, le-leb, lt-leb}
-use Rattle.format_message.specs.Msg.{Msg, none, connect, initiate, test, accept, reject, report, change}
-use Rattle.node.specs.declared.Node.{Node}
+use Rattle.format_message.specs.Msg.{none, connect, initiate, test, accept, reject, report, change}
 use Rattle.node.specs.Work.{Own, Work, ASLEEP, FIND, FOUND, BASIC, BRANCH, before, putBack, refused, send, setMark, withNode, setStatus, setTest, setCount, setHalted, number, branches, degree}
 use Rattle.node.specs.Rules.{woken, wakeOn, wakeup, awake, doReport, testOn, doTest, changeRoot, countUp, joinOver, absorb, coreEnd, onConnect, told, seek, onInitiate, strike, onTest, better, childReport, coreReport, onReport, unlessAsleep}
 

@@ -16,7 +16,6 @@ use Rattle.graph.specs.Labels.{rename}
 use Rattle.plan_tree.specs.Forest.{Ends, Forest, Joined, joined-coarser, joined-inside, joined-range, joined-forest, grows-then}
 use Rattle.plan_tree.specs.Phase.{Leaves, First, first-pick, first-some, apart, apart-none, apart-some, apart-falls}
 use Rattle.plan_tree.specs.Lent.{at, Parts, Takes, TakesTo, Phased}
-use Rattle.plan.specs.Weights.{earlier}
 
 -- each node a part of its own
 pub own-label : (s : List ℕ) → s ≡ tabulate maxModules (λ v. v) → (v : ℕ) → v < maxModules → at s v ≡ v

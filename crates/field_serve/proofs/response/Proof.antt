@@ -1,9 +1,4 @@
-use Prim.Native.Nat.{ℕ}
-use mathlib.Core.Path.{sym, ap, ap₂, subst, _∙_}
 use borrow.Author.Needs.{needs}
-use Rattle.node.specs.declared.Node.{Node}
-use Rattle.node_response.specs.declared.Packet.{Packet}
-use Rattle.node_dispatch.specs.Receives.{Receives}
 use Rattle.field_serve.proofs.Steps.{receives-as, responds-as}
 use Rattle.field_serve.proofs.response.Statement.{statement}
 use Rattle.field_serve.proofs.response.Tie as tie

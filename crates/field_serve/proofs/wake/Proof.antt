@@ -1,5 +1,4 @@
 use native.Mathlib.Omega.{arith}
-use mathlib.Core.Path.{sym, _∙_}
 use borrow.Author.Needs.{needs}
 use Rattle.field_serve.proofs.Steps.{waking-41, waking-43, waking-feasible, waking}
 use Rattle.field_serve.proofs.wake.Statement.{statement}

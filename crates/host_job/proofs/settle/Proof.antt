@@ -2,11 +2,6 @@ use borrow.Author.Needs.{needs}
 use Rattle.host_job.specs.Settled.{not-set, not-woken, all-run}
 use Rattle.host_job.proofs.settle.Statement.{statement}
 use Rattle.host_job.proofs.settle.Tie as tie
-use Rattle.host_job.proofs.settle.Reads as reads
-use Rattle.host_job.proofs.settle.Lts as lts
-use Rattle.host_rounds.proofs.run.Reads as run-reads
-use Rattle.host_run.proofs.step.Reads as step-reads
-use Rattle.host_setup.proofs.setup.Reads as setup-reads
 
 returns : tie.Need-returns
 returns c =

@@ -1,5 +1,4 @@
 use native.Mathlib.Omega.{arith}
-use borrow.Author.Needs.{needs}
 use Rattle.host_schedule.specs.Kinds.{unlisted}
 use Rattle.host_schedule.proofs.is_kind.Statement.{statement}
 use Rattle.host_schedule.proofs.is_kind.Tie as tie
