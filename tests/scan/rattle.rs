@@ -131,10 +131,10 @@ fn function(lines: &[&str], from: usize, to: usize, out: &mut Source) {
     out.parsed.items.push(found);
 }
 
-/// A struct, an enum or a constant.
+/// A struct, an enum, a constant or a name for a type.
 fn declared(lines: &[&str], from: usize, to: usize, out: &mut Source) {
     let all = tokens(&lines[from..to].join("\n"), from + 1, Language::Rattle);
-    let at = all.iter().position(|t| ["struct", "enum", "const"].iter().any(|w| t.is(w))).unwrap_or(0);
+    let at = all.iter().position(|t| ["struct", "enum", "const", "type"].iter().any(|w| t.is(w))).unwrap_or(0);
     let Some(name) = all.get(at + 1).and_then(Placed::name) else {
         return;
     };
@@ -160,7 +160,7 @@ pub fn parse(text: &str) -> Source {
                 out.ghosts.extend(ghost_import(&lines[i..end].join(" "), i + 1))
             }
             Some("use") => out.parsed.uses.push(code_import(lines[i], i + 1)),
-            Some("struct" | "enum" | "const") => declared(&lines, i, end, &mut out),
+            Some("struct" | "enum" | "const" | "type") => declared(&lines, i, end, &mut out),
             Some("fn") => function(&lines, i, end, &mut out),
             _ => {
                 i += 1;

@@ -9,13 +9,13 @@ mod faults;
 #[cfg(test)]
 mod tests;
 
-/// How many faults of each kind there are today. The aim is 0.
+/// How many faults of each kind there may be.
 const ALLOWED: [(&str, usize); 7] = [
-    ("imports that nothing uses", 147),
-    ("definitions that nothing uses and no page names", 47),
-    ("dependencies of crates.txt that nothing uses", 1),
-    ("functions with more than 8 arguments", 29),
-    ("functions of more than 45 lines", 3),
+    ("imports that nothing uses", 0),
+    ("definitions that nothing uses and no page names", 0),
+    ("dependencies of crates.txt that nothing uses", 0),
+    ("functions with more than 8 arguments", 0),
+    ("functions of more than 45 lines", 0),
     ("files of antt without a head", 0),
     ("crates that crates.txt and crates/ do not share", 0),
 ];

@@ -51,9 +51,6 @@ module _ (p : Plan) (a : Accepted p) (marks : List ℕ) (v : ℕ) where
       sym (mark-own p v (linkOf d) marks (subst (λ u. isOwn p u (linkOf d) ≡ true) e (from-own p a d l))
       ∙ ap (λ i. getD marks i 0) (subst (λ u. endOf p u (linkOf d) ≡ d) e (over-from p a d l)))
 
-  pub kept : marks ≡ putMarks p marks v (marksIn p marks v)
-  kept = agree (marksIn p marks v) marks refl (λ d b. new-cases p v (marksIn p marks v) d (getD marks d 0) (getD marks d 0) (own-is d) (λ f. refl))
-
   module _ (sized : 2 * linksOf p ≤ length marks) (k : ℕ) (o : isOwn p v k ≡ true) (c : ℕ) where
     here : (d : ℕ) → d ≡ endOf p v k → getD (set marks (endOf p v k) c) d 0 ≡ newMark p v (upd (marksIn p marks v) k c) d (getD marks d 0)
     here d e = new-cases p v (upd (marksIn p marks v) k c) d (getD marks d 0) (getD (set marks (endOf p v k) c) d 0)
