@@ -55,6 +55,22 @@ fn header(kind: u8, level: u16, find: bool) -> u8 {
 }
 
 impl Record {
+    pub fn modules(&self) -> u16 {
+        self.plan[0]
+    }
+
+    pub fn links(&self) -> u16 {
+        self.plan[1]
+    }
+
+    fn lower(&self, k: u16) -> u16 {
+        self.plan[2 + 4 * k as usize]
+    }
+
+    fn higher(&self, k: u16) -> u16 {
+        self.plan[3 + 4 * k as usize]
+    }
+
     fn owns(&self, v: u16, k: u16) -> bool {
         self.lower(k) == v || self.higher(k) == v
     }

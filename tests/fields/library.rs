@@ -29,22 +29,6 @@ extern "C" {
 }
 
 impl Record {
-    pub fn modules(&self) -> u16 {
-        self.plan[0]
-    }
-
-    pub fn links(&self) -> u16 {
-        self.plan[1]
-    }
-
-    pub fn lower(&self, k: u16) -> u16 {
-        self.plan[2 + 4 * k as usize]
-    }
-
-    pub fn higher(&self, k: u16) -> u16 {
-        self.plan[3 + 4 * k as usize]
-    }
-
     /// The record of a field, with anything past its modules and links.
     pub fn of(field: &Field, rng: &mut Rng) -> Record {
         let mut number = || rng.next() as u16;
