@@ -58,14 +58,14 @@ fn ends_in_type(item: &Item, at: usize) -> bool {
 /// All definitions that these rest on, themselves among them, and the names of the toolchain's libraries.
 pub fn closure(tree: &Tree, roots: &[Key]) -> (BTreeSet<Key>, BTreeSet<(String, String)>) {
     let (mut seen, mut outside) = (BTreeSet::new(), BTreeSet::new());
-    let mut todo = roots.to_vec();
-    while let Some((f, i)) = todo.pop() {
+    let mut worklist = roots.to_vec();
+    while let Some((f, i)) = worklist.pop() {
         if !seen.insert((f, i)) {
             continue;
         }
         for target in tree.names(f, &tree.files[f].items[i]) {
             match target {
-                Target::Item(g, j) if defines(&tree.files[g].items[j]) => todo.push((g, j)),
+                Target::Item(g, j) if defines(&tree.files[g].items[j]) => worklist.push((g, j)),
                 Target::Item(..) => {}
                 Target::Outside(module, name) => drop(outside.insert((module, name))),
             }

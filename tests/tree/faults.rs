@@ -77,13 +77,13 @@ pub fn definitions(tree: &Tree, pages: &BTreeSet<String>) -> Vec<Fault> {
     let begins = |file: &File, item: &scan::antt::Item| {
         item.sort == Sort::Function || (item.public && file.path.ends_with("/Proof.antt")) || pages.contains(&item.name)
     };
-    let mut todo: Vec<(usize, usize)> =
+    let mut worklist: Vec<(usize, usize)> =
         tree.all().filter(|(_, _, file, item)| begins(file, item)).map(|(f, i, ..)| (f, i)).collect();
     let mut reached = BTreeSet::new();
-    while let Some((f, i)) = todo.pop() {
+    while let Some((f, i)) = worklist.pop() {
         if reached.insert((f, i)) {
             let names = tree.names(f, &tree.files[f].items[i]).into_iter();
-            todo.extend(names.filter_map(|t| if let Target::Item(f, i) = t { Some((f, i)) } else { None }));
+            worklist.extend(names.filter_map(|t| if let Target::Item(f, i) = t { Some((f, i)) } else { None }));
         }
     }
     let idle = tree.all().filter(|(f, i, file, _)| file.path.ends_with(".antt") && !reached.contains(&(*f, *i)));
