@@ -48,28 +48,33 @@ fn quoted(cell: &str) -> Vec<&str> {
     cell.split('`').skip(1).step_by(2).filter(|t| !t.contains([' ', '*', ':', '/'])).collect()
 }
 
-/// The files that a cell names, each with its crate if the cell gives it: `crate/File`, `crate/specs/File`, `crate, specs/File`,
+/// The files that a cell names, each with its crate if the cell gives it: `crate/File`, `crate/laws/File`, `crate, laws/File`,
 /// or `File` alone. A crate that is given holds for the files behind it too, up to the next `;`.
 fn files_named(cell: &str) -> Vec<(Option<String>, String)> {
     let mut found = Vec::new();
     for part in cell.split(';') {
         let mut of = None;
-        for word in part.split([',', ' ', '/']).map(|w| w.trim_end_matches(".antt")).filter(|w| !w.is_empty()) {
-            if word.starts_with(char::is_uppercase) {
-                found.push((of.clone(), word.to_string()));
-            } else if !["specs", "proofs", "laws", "crates"].contains(&word) {
-                of = Some(word.to_string());
+        for path in part.split([',', ' ']).map(|w| w.trim_end_matches(".antt")).filter(|w| !w.is_empty()) {
+            let law = if path.split('/').any(|word| word == "laws") { "laws/" } else { "" };
+            for word in path.split('/').filter(|word| !["specs", "proofs", "laws", "crates"].contains(word)) {
+                if word.starts_with(char::is_uppercase) {
+                    found.push((of.clone(), format!("{law}{word}")));
+                } else {
+                    of = Some(word.to_string());
+                }
             }
         }
     }
     found
 }
 
-/// The names that each file defines, fields and constructors among them, by crate and by the file's name.
+/// The names that each file defines, fields and constructors among them, by crate and by the file's name; a file of specs/laws/
+/// has `laws/` in front of it.
 pub fn defined(tree: &Tree) -> Names {
     let mut by = Names::new();
     for (_, _, file, item) in tree.all().filter(|(_, _, file, _)| file.path.ends_with(".antt")) {
-        let stem = file.module.last().cloned().unwrap_or_default();
+        let law = if file.path.contains("/specs/laws/") { "laws/" } else { "" };
+        let stem = format!("{law}{}", file.module.last().cloned().unwrap_or_default());
         let names = by.entry((file.of.clone(), stem)).or_default();
         names.insert(item.name.clone());
         names.extend(item.members.iter().cloned());

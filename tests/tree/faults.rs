@@ -125,6 +125,22 @@ pub fn heads(tree: &Tree) -> Vec<Fault> {
     bare.map(|f| fault(&f.path, 1, "no head")).collect()
 }
 
+/// Rows of docs/TRUST.md whose file is one of laws: what must be believed stands outside specs/laws/.
+pub fn believed_laws(believed: &[(usize, String)]) -> Vec<Fault> {
+    let laws = believed.iter().filter(|(_, path)| path.contains("/specs/laws/"));
+    laws.map(|(line, path)| fault("docs/TRUST.md", *line, path)).collect()
+}
+
+/// Theorems outside specs/laws/ in the crates that docs/TRUST.md names. What is neither `abbrev` nor `unfoldable` is one: nobody can see
+/// more of it than its type.
+pub fn loose_laws(tree: &Tree, believed: &[(usize, String)]) -> Vec<Fault> {
+    let crates: BTreeSet<&str> = believed.iter().filter_map(|(_, path)| path.split('/').next()).collect();
+    let loose = |file: &File| file.path.contains("/specs/") && !file.path.contains("/specs/laws/");
+    let here = tree.all().filter(|(_, _, file, _)| loose(file) && crates.contains(file.of.as_str()));
+    let laws = here.filter(|(_, _, _, item)| item.sort == Sort::Value && !item.open);
+    laws.map(|(_, _, file, item)| fault(&file.path, item.line, &item.name)).collect()
+}
+
 /// Crates that stand in crates.txt or in crates/ alone.
 pub fn crates(tree: &Tree) -> Vec<Fault> {
     let listed: BTreeSet<&String> = tree.listed.iter().map(|(_, name, _)| name).collect();

@@ -96,8 +96,8 @@ fn a_file_without_a_head() {
 
 #[test]
 fn crates_that_are_not_listed() {
-    assert_eq!(only(with("crates/c/src/lib.rt", "// Head.\n").top(), 6), ["crates/c:1: c"]);
-    assert_eq!(only(with("crates.txt", &format!("{LISTED}d:\n")).top(), 6), ["crates.txt:4: d"]);
+    assert_eq!(only(with("crates/c/src/lib.rt", "// Head.\n").top(), 8), ["crates/c:1: c"]);
+    assert_eq!(only(with("crates.txt", &format!("{LISTED}d:\n")).top(), 8), ["crates.txt:4: d"]);
 }
 
 #[test]
@@ -112,4 +112,13 @@ fn names_in_two_crates() {
 fn the_number_is_exact() {
     assert!(verdict(3, 3).1 && !verdict(4, 3).1 && !verdict(2, 3).1);
     assert!(verdict(2, 3).0.contains("lower the number"));
+}
+
+#[test]
+fn laws_stand_apart() {
+    let page = "| crates/a/specs/A.antt | `f` | 2 |\n";
+    let said = only(with("docs/TRUST.md", page).top(), 7);
+    assert_eq!(said, ["crates/a/specs/A.antt:8: f-law"]);
+    let said = only(with("docs/TRUST.md", "| crates/c/specs/laws/C.antt | `f` | 2 |\n").top(), 6);
+    assert_eq!(said, ["docs/TRUST.md:1: c/specs/laws/C.antt"]);
 }

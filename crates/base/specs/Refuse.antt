@@ -1,12 +1,7 @@
 -- Refused "by the first number that applies": tests one after the other, each with its number; 0 is none.
-use Prim.Native.Nat.{ℕ, suc}
-use native.Mathlib.Omega.{arith}
-use mathlib.Core.Path.{_≡_, refl}
-use mathlib.Core.Bool.{Bool, true, false, cond, _||_, true≢false}
+use Prim.Native.Nat.{ℕ}
+use mathlib.Core.Bool.{Bool, cond}
 use lib.Dec.{eqb}
-use mathlib.Core.Logic.{_≢_}
-use Rattle.base.specs.Cond.{eqb-cases, eqb-diff}
-use Rattle.base.specs.Loop.{takenTo, refusedBy, answering}
 
 -- the number where the test says so, else what follows
 abbrev pub orElse : Bool → ℕ → ℕ → ℕ
@@ -15,27 +10,3 @@ orElse bad number rest = cond bad number rest
 -- the first refusal of two
 abbrev pub firstRefusal : ℕ → ℕ → ℕ
 firstRefusal r rest = cond (eqb r 0) rest r
-
--- no refusal: the test says no, and nor does what follows
-pub fine : (b : Bool) (n : ℕ) {r : ℕ} → orElse b (suc n) r ≡ 0 → (b ≡ false) × (r ≡ 0)
-fine true n e = absurd (omega arith)
-fine false n e = (refl, e)
-
-pub fine-first : (r : ℕ) {s : ℕ} → firstRefusal r s ≡ 0 → (r ≡ 0) × (s ≡ 0)
-fine-first r {s} = eqb-cases r 0 (λ b. cond b s r ≡ 0 → (r ≡ 0) × (s ≡ 0)) (λ e h. (e, h)) (λ d h. absurd (d h))
-
-pub first-fine : {r s : ℕ} → r ≡ 0 → s ≡ 0 → firstRefusal r s ≡ 0
-first-fine {r} {s} e f = rw e f
-
--- neither of two tests
-pub or-false : (a b : Bool) → (a || b) ≡ false → (a ≡ false) × (b ≡ false)
-or-false true b e = absurd (true≢false e)
-or-false false b e = (refl, e)
-
--- what a call leaves that answers: refused, what it was given
-module _ {S : Type 0} (r : ℕ) (x left : S) where
-  pub answers-refused : r ≢ 0 → refusedBy r x ≡ answering r x left
-  answers-refused d = rw (eqb-diff r 0 d)
-
-  pub answers-taken : r ≡ 0 → takenTo left ≡ answering r x left
-  answers-taken z = rw z

@@ -4,8 +4,8 @@ use mathlib.Core.Path.{_≡_, refl, sym, ap, ap₂, subst, _∙_}
 use mathlib.Core.Bool.{false, true≢false}
 use mathlib.Core.List.{List}
 use lib.ListN.{length, replicate}
-use Rattle.base.specs.Cond.{by-eq}
-use Rattle.plan.specs.Accepted.{Accepted}
+use Rattle.base.specs.laws.Cond.{by-eq}
+use Rattle.plan.specs.laws.Accepted.{Accepted}
 use Rattle.plan.specs.Links.{Plan, modulesOf}
 use Rattle.node.specs.Work.{Own, Work}
 use Rattle.field.specs.Edges.{isOwn, ownOf, marksIn}

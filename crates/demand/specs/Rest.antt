@@ -4,12 +4,13 @@ use mathlib.Core.Path.{_≡_, refl, sym, ap, ap₂, subst, _∙_}
 use mathlib.Core.Logic.{_≢_, ⊎-elim}
 use mathlib.Core.Bool.{Bool, true, not, _&&_}
 use mathlib.Core.List.{List, [], _∷_, _++_}
-use Rattle.base.specs.Cond.{bool-cases, eqb-same}
+use Rattle.base.specs.laws.Cond.{bool-cases, eqb-same}
 use Rattle.base.specs.Pool.{All, nil, con}
-use Rattle.base.specs.Keep.{keep, keep-yes, keep-no, keep-nil}
+use Rattle.base.specs.Keep.{keep}
+use Rattle.base.specs.laws.Keep.{keep-yes, keep-no, keep-nil}
 use Rattle.format_message.specs.Msg.{Msg}
 use Rattle.format_word.specs.Word.{linkIn, handedIn}
-use Rattle.plan.specs.Accepted.{Accepted}
+use Rattle.plan.specs.laws.Accepted.{Accepted}
 use Rattle.node.specs.Work.{Work}
 use Rattle.node.specs.Rules.{respond}
 use Rattle.field.specs.Edges.{ownOf, linkOf, from, dest, limitOf, endOf}
@@ -21,7 +22,7 @@ use Rattle.field_laws.specs.Places.{link-over, over-from}
 use Rattle.field_laws.specs.Fits.{word-link}
 use Rattle.field_laws.specs.Keeps.{Sound}
 use Rattle.field_roundlaws.specs.Progress.{BlockedWord}
-use Rattle.graph.specs.Ways.{flip}
+use Rattle.graph.specs.laws.Ways.{flip}
 use Rattle.plan.specs.Links.{Plan}
 use Rattle.protocol.specs.Network.{Edge, end-lt}
 use Rattle.protocol.specs.Chan.{In, first, in-nil, in-cons, in-app, in-right}

@@ -8,13 +8,14 @@ use mathlib.Core.List.{List, [], _∷_, _++_}
 use lib.ListN.{length}
 use lib.Dec.{leb}
 use borrow.Author.Tests.{leb-false, eq-eqb, ne-eqb, le-ltb}
-use Rattle.base.specs.Cond.{bool-cases, eqb-cases, by-eq, eqb-diff}
+use Rattle.base.specs.laws.Cond.{bool-cases, eqb-cases, by-eq, eqb-diff}
 use Rattle.base.specs.Loop.{After, takenTo, refusedBy}
-use Rattle.base.specs.Pool.{All-here}
-use Rattle.base.specs.Keep.{FirstThat, first-out, first-passes, place, place-first}
+use Rattle.base.specs.laws.Pool.{All-here}
+use Rattle.base.specs.Keep.{place}
+use Rattle.base.specs.laws.Keep.{FirstThat, first-out, first-passes, place-first}
 use Rattle.format_message.specs.Msg.{Msg}
 use Rattle.format_word.specs.Word.{linkIn, handOver}
-use Rattle.plan.specs.Accepted.{Accepted}
+use Rattle.plan.specs.laws.Accepted.{Accepted}
 use Rattle.plan.specs.Links.{Plan, modulesOf, linksOf}
 use Rattle.node.specs.Work.{Work, ASLEEP, BACK, REFUSED}
 use Rattle.node.specs.Rules.{respond, wakes}

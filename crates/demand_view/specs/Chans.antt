@@ -4,12 +4,13 @@ use mathlib.Core.Path.{_≡_, refl, sym, ap, ap₂, subst, _∙_, fun-ext}
 use mathlib.Core.Logic.{_≢_, _⊎_, inl, inr, ⊎-elim}
 use mathlib.Core.Bool.{true, false, cond, true≢false}
 use mathlib.Core.List.{List, [], _∷_, _++_, append-assoc, append-nil}
-use Rattle.base.specs.Cond.{bool-cases, upd2, upd2-elim}
+use Rattle.base.specs.Cond.{upd2}
+use Rattle.base.specs.laws.Cond.{bool-cases, upd2-elim}
 use Rattle.base.specs.Pool.{All, nil, con}
-use Rattle.base.specs.Keep.{FirstThat, first-passes}
+use Rattle.base.specs.laws.Keep.{FirstThat, first-passes}
 use Rattle.format_message.specs.Msg.{Msg}
 use Rattle.format_word.specs.Word.{linkIn, shaped, handOver}
-use Rattle.plan.specs.Accepted.{Accepted}
+use Rattle.plan.specs.laws.Accepted.{Accepted}
 use Rattle.plan.specs.Links.{Plan, linksOf}
 use Rattle.node.specs.Work.{Send}
 use Rattle.field.specs.Edges.{isOwn, linkOf, from, endOf}

@@ -5,12 +5,12 @@ use mathlib.Core.Path.{_≡_, refl, subst, _∙_}
 use mathlib.Core.Logic.{⊎-elim}
 use mathlib.Core.Bool.{true, cond}
 use borrow.Author.Tests.{eq-eqb}
-use Rattle.base.specs.Cond.{eqb-cases}
+use Rattle.base.specs.laws.Cond.{eqb-cases}
 use Rattle.graph.specs.Graph.{up, down}
-use Rattle.graph.specs.Ways.{ends-same}
+use Rattle.graph.specs.laws.Ways.{ends-same}
 use Rattle.plan.specs.Links.{Plan, graphOf, modulesOf, linksOf, lowerOf, higherOf}
-use Rattle.plan.specs.Weights.{orderOf}
-use Rattle.plan.specs.Accepted.{Accepted}
+use Rattle.plan.specs.laws.Weights.{orderOf}
+use Rattle.plan.specs.laws.Accepted.{Accepted}
 use Rattle.field.specs.laws.Edges.{own-lower, own-higher}
 use Rattle.field.specs.Edges.{isOwn, ownOf, linkOf, from, dest, endOf}
 use Rattle.field_laws.specs.Places.{own-link-below, own-end, from-over, link-over, over-below}

@@ -4,11 +4,12 @@ use mathlib.Core.Path.{_≡_, sym, ap, ap₂, _∙_}
 use mathlib.Core.Bool.{true, false}
 use mathlib.Core.List.{List, [], _∷_, _++_, append-nil}
 use Rattle.base.specs.Cond.{upd}
-use Rattle.base.specs.Pool.{All, All-map}
-use Rattle.base.specs.Keep.{FirstThat}
+use Rattle.base.specs.Pool.{All}
+use Rattle.base.specs.laws.Pool.{All-map}
+use Rattle.base.specs.laws.Keep.{FirstThat}
 use Rattle.format_message.specs.Msg.{Msg}
 use Rattle.format_word.specs.Word.{linkIn}
-use Rattle.plan.specs.Accepted.{Accepted}
+use Rattle.plan.specs.laws.Accepted.{Accepted}
 use Rattle.plan.specs.Links.{Plan, modulesOf, linksOf}
 use Rattle.node.specs.Work.{Work}
 use Rattle.field.specs.Edges.{isOwn, ownOf, linkOf, from, limitOf, marksIn}

@@ -5,8 +5,8 @@ use mathlib.Core.Path.{_≡_, refl, ap, ap₂, _∙_, fun-ext}
 use mathlib.Core.Bool.{cond}
 use mathlib.Core.List.{List, []}
 use lib.ListN.{length, replicate, getD-replicate}
-use Rattle.base.specs.Cond.{ltb-cases, bool-cases}
-use Rattle.plan.specs.Accepted.{Accepted}
+use Rattle.base.specs.laws.Cond.{ltb-cases, bool-cases}
+use Rattle.plan.specs.laws.Accepted.{Accepted}
 use Rattle.node.specs.Work.{setup}
 use Rattle.field.specs.Edges.{isOwn, endOf, marksIn}
 use Rattle.field.specs.State.{nodeIn}

@@ -7,7 +7,8 @@ use mathlib.Core.List.{List, []}
 use lib.ListN.{length}
 use lib.Dec.{ltb}
 use borrow.Author.Tests.{lt-ltb}
-use Rattle.base.specs.Cond.{bool-cases, upd, upd-elim, upd-same, upd-other}
+use Rattle.base.specs.Cond.{upd}
+use Rattle.base.specs.laws.Cond.{bool-cases, upd-elim, upd-same, upd-other}
 use Rattle.format_message.specs.Msg.{Msg}
 use Rattle.plan.specs.Links.{Plan, modulesOf, linksOf}
 use Rattle.field.specs.laws.Edges.{mark-not}

@@ -7,7 +7,7 @@ use lib.Dec.{eqb, ltb}
 use Rattle.base.specs.Log.{log2}
 use Rattle.plan.specs.Links.{Plan, modulesOf, linksOf, lowerOf, higherOf}
 use Rattle.plan.specs.Weights.{earlier}
-use Rattle.plan.specs.Ceiling.{ceiling}
+use Rattle.base.specs.Ceiling.{ceiling}
 use Rattle.node.specs.Work.{Own}
 
 -- link k ends at module v

@@ -1,7 +1,5 @@
 -- A field and the words lent with it: what the host holds. Setup, and a step given alone.
-use Prim.Native.Nat.{ℕ, zero, suc, _-_, _*_}
-use native.Mathlib.Omega.{arith}
-use mathlib.Core.Path.{_≡_, refl}
+use Prim.Native.Nat.{ℕ, zero, suc, _-_}
 use mathlib.Core.Bool.{Bool, cond, not, _&&_}
 use mathlib.Core.List.{List, [], _++_}
 use lib.ListN.{length, replicate}
@@ -13,7 +11,7 @@ use Rattle.plan.specs.Links.{Plan, blank}
 use Rattle.node.specs.Work.{setup}
 use Rattle.field.specs.declared.Field.{Field}
 use Rattle.field.specs.Edges.{ceilingOf}
-use Rattle.field.specs.State.{State, WIDTH, CELLS, values}
+use Rattle.field.specs.State.{State, CELLS, values}
 use Rattle.field.specs.Step.{step}
 use Rattle.field.specs.Valid.{waitingIn, zeroAfter, enough, fits}
 
@@ -46,11 +44,6 @@ valid h =
 unfoldable pub freshCells : ℕ → List ℕ
 freshCells zero = []
 freshCells (suc n) = values setup ++ freshCells n
-
-pub fresh-length : (n : ℕ) → length (freshCells n) ≡ n * WIDTH
-unfolding freshCells
-fresh-length zero = refl
-fresh-length (suc n) = omega (arith, fresh-length n)
 
 -- "The sent count starts at 0": all marks Basic, nothing sent
 abbrev pub unmarked : Plan → List ℕ → Field

@@ -3,5 +3,4 @@ pub mod State
 pub mod Step
 pub mod Valid
 pub mod Held
-pub mod Samples
 pub mod laws

@@ -1,1 +1,3 @@
 pub mod Edges
+pub mod Held
+pub mod Samples

@@ -3,4 +3,4 @@ pub mod Rounds
 pub mod Call
 pub mod Trail
 pub mod Demand
-pub mod Samples
+pub mod laws

@@ -9,13 +9,14 @@ use lib.ListN.{length, getD, set, length-set}
 use lib.Seq.{ext-getD, getD-set-same, getD-set-other}
 use lib.Dec.{eqb}
 use borrow.Author.Tests.{ne-eqb}
-use Rattle.base.specs.Cond.{bool-cases, upd, upd-same, upd-other, by-eq, ltb-cases, eqb-cases}
+use Rattle.base.specs.Cond.{upd}
+use Rattle.base.specs.laws.Cond.{bool-cases, upd-same, upd-other, by-eq, ltb-cases, eqb-cases}
 use Rattle.base.specs.None.{none}
 use Rattle.node_edges.specs.Own.{marked}
-use Rattle.node_edges.specs.Laws.{marked-other}
+use Rattle.node_edges.specs.laws.Own.{marked-other}
 use Rattle.field.specs.Edges.{isOwn, from, linkOf, endOf, marksIn}
 use Rattle.field.specs.State.{newMark, putMarks}
-use Rattle.plan.specs.Accepted.{Accepted}
+use Rattle.plan.specs.laws.Accepted.{Accepted}
 use Rattle.plan.specs.Links.{Plan, linksOf}
 use Rattle.field.specs.laws.Edges.{mark-own}
 use Rattle.field_laws.specs.Places.{putMarks-at, length-new, over-from, from-own, link-over, over-below, from-over, own-link-below}

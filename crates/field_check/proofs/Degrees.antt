@@ -8,7 +8,7 @@ use mathlib.Core.List.{List}
 use lib.ListN.{length, getD, set, length-set}
 use lib.Seq.{getD-set-same, getD-set-other}
 use borrow.Author.Tests.{eq-eqb, ne-eqb}
-use Rattle.base.specs.Cond.{bit-le, by-eq}
+use Rattle.base.specs.laws.Cond.{bit-le, by-eq}
 use Rattle.base.specs.Limits.{maxModules}
 use Rattle.plan.specs.Links.{Plan, linksOf, lowerOf, higherOf}
 use Rattle.field.specs.Edges.{ownOf}

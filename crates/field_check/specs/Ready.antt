@@ -4,7 +4,7 @@ use mathlib.Core.Path.{_≡_}
 use mathlib.Core.List.{List}
 use lib.ListN.{length}
 use Rattle.plan.specs.Links.{Plan, planSize}
-use Rattle.plan.specs.Accepted.{Accepted}
+use Rattle.plan.specs.laws.Accepted.{Accepted}
 use Rattle.field.specs.Edges.{ceilingOf}
 use Rattle.field_laws.specs.Keeps.{Sound}
 use Rattle.field_words.specs.Laid.{Laid}

@@ -13,7 +13,7 @@ ghost use mathlib.Core.Bool.{true};
 ghost use lib.ListN.{length, getD};
 ghost use lib.Dec.{eqb, leb};
 ghost use Rattle.base.specs.Test.{every};
-ghost use Rattle.plan.specs.Accepted.{Accepted};
+ghost use Rattle.plan.specs.laws.Accepted.{Accepted};
 ghost use Rattle.base.specs.Limits.{maxModules, maxLinks};
 ghost use Rattle.plan.specs.Links.{modulesOf, linksOf};
 ghost use Rattle.field.specs.Edges.{ownOf};

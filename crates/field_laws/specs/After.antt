@@ -9,19 +9,20 @@ use lib.ListN.{length, getD, replicate, List·getD-append, length-replicate, get
 use lib.Seq.{getD-append-add}
 use lib.Dec.{ltb}
 use borrow.Author.Tests.{le-leb, eq-eqb}
-use Rattle.base.specs.Cond.{eqb-cases, ltb-cases}
+use Rattle.base.specs.laws.Cond.{eqb-cases, ltb-cases}
 use Rattle.base.specs.Loop.{After, takenTo}
 use Rattle.base.specs.Pool.{nil}
 use Rattle.plan.specs.Refusal.{planRefusal}
-use Rattle.plan.specs.Accepted.{Accepted, accepted}
+use Rattle.plan.specs.laws.Accepted.{Accepted, accepted}
 use Rattle.plan.specs.Links.{Plan}
 use Rattle.node.specs.Work.{setup, ASLEEP}
 use Rattle.field.specs.Edges.{ownOf, limitOf, ceilingOf}
-use Rattle.node.specs.Values.{node-by}
+use Rattle.node.specs.laws.Values.{node-by}
 use Rattle.field.specs.State.{State, WIDTH, values, cellOf, nodeIn}
 use Rattle.field.specs.Step.{step}
 use Rattle.field.specs.Valid.{zeroAfter}
-use Rattle.field.specs.Held.{Held, stateOf, valid, freshCells, fresh-length, fresh, notSetUp, setUp}
+use Rattle.field.specs.Held.{Held, stateOf, valid, freshCells, fresh, notSetUp, setUp}
+use Rattle.field.specs.laws.Held.{fresh-length}
 use Rattle.field_calls.specs.Call.{Call, does, after}
 use Rattle.field_calls.specs.Trail.{Taken, stepsOf, trail, ifTaken}
 use Rattle.field_laws.specs.Lists.{NodeOk, ok-fresh}

@@ -8,9 +8,10 @@ use mathlib.Core.List.{List, [], _∷_, _++_}
 use lib.ListN.{length, getD}
 use lib.Dec.{eqb, ltb, leb}
 use borrow.Author.Tests.{leb-false, lt-leb}
-use Rattle.base.specs.Cond.{bool-cases, eqb-cases, ltb-cases, eqb-diff, by-eq}
+use Rattle.base.specs.laws.Cond.{bool-cases, eqb-cases, ltb-cases, eqb-diff, by-eq}
 use Rattle.base.specs.Loop.{After, takenTo, refusedBy}
-use Rattle.base.specs.Keep.{keep, FirstThat, place, place-first, place-some}
+use Rattle.base.specs.Keep.{keep, place}
+use Rattle.base.specs.laws.Keep.{FirstThat, place-first, place-some}
 use Rattle.format_word.specs.Word.{handOver}
 use Rattle.plan.specs.Links.{Plan, modulesOf, linksOf}
 use Rattle.node.specs.Work.{Work, ASLEEP, REFUSED}

@@ -6,12 +6,13 @@ use mathlib.Core.Bool.{Bool, true, false, not, _&&_, and-eq-true-iff, true≢fal
 use mathlib.Core.List.{List, [], _∷_, _++_, map, append-assoc, append-nil}
 use lib.Dec.{eqb}
 use borrow.Author.Tests.{eqb-true, eq-eqb}
-use Rattle.base.specs.Cond.{bool-cases, eqb-diff, by-eq}
-use Rattle.base.specs.Keep.{keep, keep-app, keep-one, keep-none, FirstThat, first-passes, head-of, others}
+use Rattle.base.specs.laws.Cond.{bool-cases, eqb-diff, by-eq}
+use Rattle.base.specs.Keep.{keep}
+use Rattle.base.specs.laws.Keep.{keep-app, keep-one, keep-none, FirstThat, first-passes, head-of, others}
 use Rattle.format_message.specs.Msg.{Msg}
 use Rattle.format_message.specs.Header.{kindAt, levelAt, findAt, msgOf}
 use Rattle.format_word.specs.Word.{headerIn, carriedIn, linkIn, handedIn, shaped, handOver}
-use Rattle.format_word.specs.Laws.{Unpacked, over}
+use Rattle.format_word.specs.laws.Word.{Unpacked, over}
 use Rattle.plan.specs.Links.{Plan}
 use Rattle.field.specs.Edges.{dest}
 use Rattle.field.specs.State.{msgIn}

@@ -5,13 +5,14 @@ use mathlib.Core.Logic.{_≢_}
 use mathlib.Core.Bool.{true}
 use mathlib.Core.List.{List, [], _∷_, _++_, append-nil}
 use borrow.Author.Tests.{eq-eqb, ne-eqb}
-use Rattle.base.specs.Cond.{by-eq}
+use Rattle.base.specs.laws.Cond.{by-eq}
 use Rattle.base.specs.Loop.{After}
-use Rattle.base.specs.Pool.{All, All-map, All-here}
-use Rattle.base.specs.Keep.{first-out, first-passes}
+use Rattle.base.specs.Pool.{All}
+use Rattle.base.specs.laws.Pool.{All-map, All-here}
+use Rattle.base.specs.laws.Keep.{first-out, first-passes}
 use Rattle.format_message.specs.Msg.{Msg}
 use Rattle.format_word.specs.Word.{linkIn}
-use Rattle.plan.specs.Accepted.{Accepted}
+use Rattle.plan.specs.laws.Accepted.{Accepted}
 use Rattle.plan.specs.Links.{Plan, linksOf}
 use Rattle.node.specs.Work.{Work, BACK}
 use Rattle.field.specs.Edges.{isOwn, ownOf, from, limitOf}

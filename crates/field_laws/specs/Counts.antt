@@ -7,11 +7,12 @@ use mathlib.Core.Bool.{not, cond}
 use mathlib.Core.List.{List, [], _∷_, _++_, append-assoc, map, flatMap}
 use lib.ListN.{length, length-append, length-map}
 use lib.Dec.{eqb}
-use Rattle.base.specs.Cond.{eqb-diff}
+use Rattle.base.specs.laws.Cond.{eqb-diff}
 use Rattle.base.specs.Loop.{After}
-use Rattle.base.specs.LoopLaws.{by-test}
-use Rattle.base.specs.Pool.{sumL, sumL-app, sumL-out}
-use Rattle.base.specs.Keep.{first-out}
+use Rattle.base.specs.laws.Loop.{by-test}
+use Rattle.base.specs.Pool.{sumL}
+use Rattle.base.specs.laws.Pool.{sumL-app, sumL-out}
+use Rattle.base.specs.laws.Keep.{first-out}
 use Rattle.format_word.specs.Word.{handOver}
 use Rattle.plan.specs.Links.{Plan}
 use Rattle.node.specs.Work.{Work, BACK}

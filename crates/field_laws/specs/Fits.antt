@@ -8,24 +8,26 @@ use mathlib.Core.List.{List, [], _∷_}
 use lib.ListN.{length, getD}
 use lib.Dec.{eqb, ltb, leb}
 use borrow.Author.Tests.{ltb-true, leb-true, eqb-true, eqb-false, not-true, lt-ltb, le-leb, eq-eqb, ne-eqb}
-use Rattle.base.specs.Cond.{eqb-cases}
+use Rattle.base.specs.laws.Cond.{eqb-cases}
 use Rattle.base.specs.None.{none}
-use Rattle.base.specs.Test.{every, every-all, all-every}
-use Rattle.base.specs.Pool.{All, nil, con, All-map}
+use Rattle.base.specs.Test.{every}
+use Rattle.base.specs.laws.Test.{every-all, all-every}
+use Rattle.base.specs.Pool.{All, nil, con}
+use Rattle.base.specs.laws.Pool.{All-map}
 use Rattle.format_message.specs.Msg.{Msg, connect, initiate, test, accept, reject, report, change}
 use Rattle.format_message.specs.Header.{partsOf, carriedOf, levelAt}
 use Rattle.format_message.specs.Listed.{Listed, listed}
-use Rattle.format_message.specs.Byte.{parts-of-byte}
-use Rattle.format_message.specs.Means.{Means, means, in-bits}
+use Rattle.format_message.specs.laws.Byte.{parts-of-byte}
+use Rattle.format_message.specs.laws.Means.{Means, means, in-bits}
 use Rattle.format_word.specs.Word.{headerIn, carriedIn, linkIn, laidOut, shaped, handOver}
-use Rattle.format_word.specs.Laws.{over, over-laid-out, packs-laid-out}
+use Rattle.format_word.specs.laws.Word.{over, over-laid-out, packs-laid-out}
 use Rattle.node.specs.declared.Node.{Node}
 use Rattle.node.specs.Work.{Own, Send, FOUND, REJECTED}
 use Rattle.field.specs.Edges.{isOwn, ownOf, limitOf, ceilingOf, endOf}
 use Rattle.field.specs.State.{State, nodeAt, msgIn, wordOf, posted}
 use Rattle.field.specs.Valid.{allOf, linkOrNone, ownOrNone, carriedFits, linkFits, levelFits, wordFits, valuesListed, levelWithin, countWithin, identityFits, nodeFits, markFits, fits}
-use Rattle.plan.specs.Accepted.{Accepted}
-use Rattle.plan.specs.Ceiling.{level-small}
+use Rattle.plan.specs.laws.Accepted.{Accepted}
+use Rattle.plan.specs.laws.Ceiling.{level-small}
 use Rattle.plan.specs.Links.{Plan, modulesOf, linksOf}
 use Rattle.field_laws.specs.Places.{own-link-below, over-below}
 use Rattle.field_laws.specs.Sends.{Packs, over-16, word-parts}

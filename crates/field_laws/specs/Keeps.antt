@@ -6,18 +6,19 @@ use mathlib.Core.Bool.{true, cond, _&&_}
 use mathlib.Core.List.{List, [], _∷_, _++_}
 use lib.ListN.{length, getD, length-append}
 use lib.Dec.{eqb, ltb}
-use Rattle.base.specs.Cond.{bool-cases, by-eq}
+use Rattle.base.specs.laws.Cond.{bool-cases, by-eq}
 use Rattle.base.specs.Loop.{After}
-use Rattle.base.specs.LoopLaws.{by-test}
-use Rattle.base.specs.Pool.{All, nil, All-app, All-one, All-here, All-rest, Out, here, there}
-use Rattle.base.specs.Keep.{first-out, first-passes}
+use Rattle.base.specs.laws.Loop.{by-test}
+use Rattle.base.specs.Pool.{All, nil}
+use Rattle.base.specs.laws.Pool.{All-app, All-one, All-here, All-rest, Out, here, there}
+use Rattle.base.specs.laws.Keep.{first-out, first-passes}
 use Rattle.format_word.specs.Word.{linkIn, handOver}
 use Rattle.node.specs.Work.{Work, REJECTED, BACK}
 use Rattle.field.specs.Edges.{isOwn, ownOf, linkOf, from, limitOf, ceilingOf, endOf}
 use Rattle.field.specs.State.{State, WIDTH, nodeAt, markAt, placed, posted}
 use Rattle.field.specs.Step.{inQueue, wakeWork, serveWork, backOf, step}
 use Rattle.field.specs.Valid.{wordFits}
-use Rattle.plan.specs.Accepted.{Accepted}
+use Rattle.plan.specs.laws.Accepted.{Accepted}
 use Rattle.plan.specs.Links.{Plan, modulesOf, linksOf}
 use Rattle.field.specs.laws.Edges.{mark-own, mark-not}
 use Rattle.field_laws.specs.Chan.{queue-parts}

@@ -10,11 +10,12 @@ use lib.ListN.{length, drop, replicate, length-append, length-replicate}
 use lib.Seq.{drop-append-seam}
 use lib.Dec.{eqb, leb}
 use borrow.Author.Tests.{eqb-true, leb-true, eq-eqb, ne-eqb}
-use Rattle.base.specs.Cond.{bool-cases, eqb-cases, eqb-diff}
+use Rattle.base.specs.laws.Cond.{bool-cases, eqb-cases, eqb-diff}
 use Rattle.base.specs.Loop.{After}
-use Rattle.base.specs.Pool.{All, nil, con, All-map}
+use Rattle.base.specs.Pool.{All, nil, con}
+use Rattle.base.specs.laws.Pool.{All-map}
 use Rattle.plan.specs.Refusal.{planRefusal}
-use Rattle.plan.specs.Accepted.{Accepted, accepted}
+use Rattle.plan.specs.laws.Accepted.{Accepted, accepted}
 use Rattle.plan.specs.Links.{Plan}
 use Rattle.field.specs.Edges.{ceilingOf}
 use Rattle.field.specs.State.{State, CELLS}

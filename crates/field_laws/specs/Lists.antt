@@ -7,9 +7,10 @@ use mathlib.Core.Bool.{Bool, true, false, cond, _&&_}
 use mathlib.Core.List.{List, [], _∷_}
 use lib.Dec.{eqb, ltb, leb}
 use borrow.Author.Tests.{leb-false}
-use Rattle.base.specs.Cond.{bool-cases, eqb-cases, ltb-cases, upd-elim}
-use Rattle.base.specs.LoopLaws.{by-test}
-use Rattle.base.specs.Pool.{All, nil, All-app, All-one}
+use Rattle.base.specs.laws.Cond.{bool-cases, eqb-cases, ltb-cases, upd-elim}
+use Rattle.base.specs.laws.Loop.{by-test}
+use Rattle.base.specs.Pool.{All, nil}
+use Rattle.base.specs.laws.Pool.{All-app, All-one}
 use Rattle.format_message.specs.Msg.{Msg, none, connect, initiate, test, accept, reject, report, change}
 use Rattle.node.specs.declared.Node.{Node}
 use Rattle.node.specs.Work.{Own, Work, Send, ASLEEP, FIND, FOUND, BASIC, BRANCH, REJECTED, before, putBack, refused, send, setMark, withNode, setStatus, setBest, setTest, setCount, setHalted, earliest, number, onEach, anyEdge, basic, branches, degree}

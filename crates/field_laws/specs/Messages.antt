@@ -6,12 +6,14 @@ use mathlib.Core.Bool.{cond}
 use mathlib.Core.List.{List, [], _∷_, _++_, append-nil, map, flatMap, map-append}
 use lib.ListN.{length, length-map}
 use lib.Dec.{eqb}
-use Rattle.base.specs.Cond.{bit, eqb-diff}
+use Rattle.base.specs.Cond.{bit}
+use Rattle.base.specs.laws.Cond.{eqb-diff}
 use Rattle.base.specs.Loop.{After}
-use Rattle.base.specs.Pool.{sumL, All-here}
-use Rattle.base.specs.Keep.{first-out, first-passes}
+use Rattle.base.specs.Pool.{sumL}
+use Rattle.base.specs.laws.Pool.{All-here}
+use Rattle.base.specs.laws.Keep.{first-out, first-passes}
 use Rattle.format_word.specs.Word.{handOver}
-use Rattle.plan.specs.Accepted.{Accepted}
+use Rattle.plan.specs.laws.Accepted.{Accepted}
 use Rattle.plan.specs.Links.{Plan}
 use Rattle.field.specs.State.{State, posted}
 use Rattle.field.specs.Step.{serveWork, step}

@@ -10,12 +10,12 @@ use lib.ListN.{length, getD, set, length-set}
 use lib.Seq.{sets, length-sets, getD-set-same, getD-set-other, ext-getD}
 use lib.Dec.{eqb, ltb}
 use borrow.Author.Tests.{ltb-true, eqb-true, eq-eqb, ne-eqb, lt-ltb}
-use Rattle.base.specs.Cond.{bool-cases, eqb-cases, ltb-cases, by-eq}
+use Rattle.base.specs.laws.Cond.{bool-cases, eqb-cases, ltb-cases, by-eq}
 use Rattle.node.specs.declared.Node.{Node}
 use Rattle.field.specs.Edges.{isOwn, linkOf, from, dest, endOf, marksIn}
-use Rattle.node.specs.Values.{node-by, values-by}
+use Rattle.node.specs.laws.Values.{node-by, values-by}
 use Rattle.field.specs.State.{WIDTH, values, cellOf, nodeIn, putNode, newMark, newMarks, putMarks}
-use Rattle.plan.specs.Accepted.{Accepted}
+use Rattle.plan.specs.laws.Accepted.{Accepted}
 use Rattle.plan.specs.Links.{Plan, modulesOf, linksOf, lowerOf, higherOf}
 use Rattle.field.specs.laws.Edges.{own-lower, own-higher, mark-own, mark-not, end-lower, end-higher}
 

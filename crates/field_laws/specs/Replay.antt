@@ -8,9 +8,9 @@ use mathlib.Core.List.{List, [], _∷_, _++_}
 use lib.ListN.{length, length-append}
 use lib.Dec.{eqb}
 use borrow.Author.Tests.{eq-eqb, ne-eqb}
-use Rattle.base.specs.Cond.{bool-cases, eqb-diff}
+use Rattle.base.specs.laws.Cond.{bool-cases, eqb-diff}
 use Rattle.base.specs.Loop.{After, Ran, takenTo, refusedBy, loop, countedTurn, runs, runsTrace}
-use Rattle.base.specs.LoopLaws.{by-test, then-elim}
+use Rattle.base.specs.laws.Loop.{by-test, then-elim}
 use Rattle.plan.specs.Links.{Plan, modulesOf, linksOf}
 use Rattle.field.specs.State.{State}
 use Rattle.field.specs.Step.{inAir, inQueue, hand, serve, step}

@@ -7,14 +7,14 @@ use mathlib.Core.Bool.{true, false, cond}
 use mathlib.Core.List.{List, [], _∷_, _++_, append-assoc, append-nil, map}
 use lib.ListN.{length}
 use lib.Dec.{eqb}
-use Rattle.base.specs.Cond.{eqb-cases, eqb-same, eqb-diff}
+use Rattle.base.specs.laws.Cond.{eqb-cases, eqb-same, eqb-diff}
 use Rattle.base.specs.Pool.{All, nil, con}
 use Rattle.format_message.specs.Msg.{Msg}
 use Rattle.format_message.specs.Header.{headerOf, carriedOf}
 use Rattle.format_message.specs.Listed.{Listed}
-use Rattle.format_message.specs.Means.{in-bits, header-lt}
+use Rattle.format_message.specs.laws.Means.{in-bits, header-lt}
 use Rattle.format_word.specs.Word.{Waiting, linkIn, handedIn}
-use Rattle.format_word.specs.Laws.{Unpacked, unpacked, waiting-back}
+use Rattle.format_word.specs.laws.Word.{Unpacked, unpacked, waiting-back}
 use Rattle.plan.specs.Links.{Plan}
 use Rattle.field.specs.laws.Edges.{end-small}
 use Rattle.node.specs.Work.{Send}

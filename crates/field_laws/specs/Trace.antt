@@ -4,7 +4,7 @@ use mathlib.Core.Bool.{cond}
 use mathlib.Core.List.{List, [], _++_}
 use lib.Dec.{eqb}
 use Rattle.base.specs.Loop.{Ran, then, countedTurn, loopTrace, runsTrace}
-use Rattle.base.specs.LoopLaws.{by-test, loop-tells, runs-tell}
+use Rattle.base.specs.laws.Loop.{by-test, loop-tells, runs-tell}
 use Rattle.plan.specs.Links.{Plan, modulesOf, linksOf}
 use Rattle.field.specs.State.{State}
 use Rattle.field.specs.Step.{inAir, inQueue, hand, serve, step}

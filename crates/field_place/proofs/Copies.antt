@@ -6,7 +6,7 @@ use mathlib.Core.Path.{_≡_, refl, sym, ap, _∙_}
 use mathlib.Core.Bool.{Bool, true, false, cond, _&&_}
 use mathlib.Core.List.{[], _∷_, _++_, map-append, append-nil}
 use lib.ListN.{length, length-append}
-use Rattle.base.specs.Cond.{bool-cases, by-eq}
+use Rattle.base.specs.laws.Cond.{bool-cases, by-eq}
 use Rattle.format_message.specs.Msg.{Msg}
 use Rattle.format_message.specs.Header.{headerOf, carriedOf}
 use Rattle.format_word.specs.Word.{packed}

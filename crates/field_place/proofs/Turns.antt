@@ -6,7 +6,7 @@ use mathlib.Core.Path.{_≡_, refl, sym, ap, subst, _∙_}
 use mathlib.Core.Bool.{Bool, true, false, cond}
 use mathlib.Core.List.{List, [], _∷_}
 use lib.ListN.{length, length-append}
-use Rattle.format_message.specs.Means.{Means}
+use Rattle.format_message.specs.laws.Means.{Means}
 use Rattle.format_word.specs.Word.{packed, headerIn, carriedIn}
 use Rattle.plan.specs.Links.{Plan, linksOf}
 use Rattle.node.specs.Work.{onEach}

@@ -13,7 +13,7 @@ ghost use mathlib.Core.Bool.{true, cond};
 ghost use mathlib.Core.List.{[], _∷_};
 ghost use lib.ListN.{length};
 ghost use Rattle.base.specs.Limits.{maxModules, maxLinks};
-ghost use Rattle.format_message.specs.Means.{Means};
+ghost use Rattle.format_message.specs.laws.Means.{Means};
 ghost use Rattle.format_word.specs.Word.{packed, headerIn, carriedIn, linkIn};
 ghost use Rattle.plan.specs.Links.{linksOf};
 ghost use Rattle.node_response.specs.Response.{packetSends, copiesOf};

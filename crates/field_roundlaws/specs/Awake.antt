@@ -7,13 +7,14 @@ use mathlib.Core.Bool.{true, cond, _||_}
 use mathlib.Core.List.{List, [], _∷_, _++_, List·Memᴰ, List·Memᴰ·head, List·Memᴰ·tail, List·Memᴰ·not-nil, Memᴰ·append-left, Memᴰ·append-right}
 use lib.Dec.{eqb}
 use borrow.Author.Tests.{eq-eqb, ne-eqb}
-use Rattle.base.specs.Cond.{by-eq, eqb-diff}
+use Rattle.base.specs.laws.Cond.{by-eq, eqb-diff}
 use Rattle.base.specs.Loop.{After}
-use Rattle.base.specs.LoopLaws.{by-test}
-use Rattle.base.specs.Pool.{All, nil, con, All-map, All-app, All-one}
+use Rattle.base.specs.laws.Loop.{by-test}
+use Rattle.base.specs.Pool.{All, nil, con}
+use Rattle.base.specs.laws.Pool.{All-map, All-app, All-one}
 use Rattle.format_message.specs.Header.{kindAt, levelAt, findAt}
 use Rattle.format_word.specs.Word.{headerIn, carriedIn, linkIn}
-use Rattle.plan.specs.Accepted.{Accepted, accepted}
+use Rattle.plan.specs.laws.Accepted.{Accepted, accepted}
 use Rattle.plan.specs.Links.{Plan, modulesOf}
 use Rattle.node.specs.declared.Node.{Node}
 use Rattle.node.specs.Work.{ASLEEP, start}

@@ -8,7 +8,7 @@ use mathlib.Core.List.{List, [], _∷_}
 use lib.ListN.{length}
 use Rattle.base.specs.Cond.{bit}
 use Rattle.base.specs.Sum.{sum}
-use Rattle.base.specs.LoopLaws.{by-test}
+use Rattle.base.specs.laws.Loop.{by-test}
 use Rattle.base.specs.Pool.{All}
 use Rattle.base.specs.Keep.{keep}
 use Rattle.format_word.specs.Word.{linkIn}

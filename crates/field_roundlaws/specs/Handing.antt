@@ -9,14 +9,16 @@ use mathlib.Core.List.{List, [], _∷_, _++_, append-nil}
 use lib.ListN.{length, length-append}
 use lib.Dec.{eqb}
 use borrow.Author.Tests.{eqb-true, eq-eqb}
-use Rattle.base.specs.Cond.{bool-cases}
-use Rattle.base.specs.Search.{lt-suc-cases}
-use Rattle.base.specs.LoopLaws.{Ok, loop-ok}
-use Rattle.base.specs.Pool.{All, nil, con, All-here, Out, here, there}
-use Rattle.base.specs.Keep.{keep, keep-yes, keep-app, keep-none, keep-no, first-out, first-passes, head-of, others}
+use Rattle.base.specs.laws.Cond.{bool-cases}
+use Rattle.base.specs.laws.Search.{lt-suc-cases}
+use Rattle.base.specs.laws.Loop.{Ok, loop-ok}
+use Rattle.base.specs.Pool.{All, nil, con}
+use Rattle.base.specs.laws.Pool.{All-here, Out, here, there}
+use Rattle.base.specs.Keep.{keep}
+use Rattle.base.specs.laws.Keep.{keep-yes, keep-app, keep-none, keep-no, first-out, first-passes, head-of, others}
 use Rattle.format_word.specs.Word.{headerIn, carriedIn, linkIn, handedIn, shaped, handOver}
-use Rattle.format_word.specs.Laws.{Unpacked, over}
-use Rattle.plan.specs.Accepted.{Accepted}
+use Rattle.format_word.specs.laws.Word.{Unpacked, over}
+use Rattle.plan.specs.laws.Accepted.{Accepted}
 use Rattle.plan.specs.Links.{Plan, linksOf}
 use Rattle.field.specs.State.{State}
 use Rattle.field.specs.Step.{inAir, hand, step}

@@ -8,11 +8,13 @@ use mathlib.Core.List.{[], _∷_, _++_, append-nil}
 use lib.ListN.{length, length-append}
 use lib.Dec.{eqb}
 use borrow.Author.Tests.{eq-eqb, ne-eqb}
-use Rattle.base.specs.Cond.{bit, eqb-cases, eqb-diff, by-eq}
-use Rattle.base.specs.Sum.{sum, sum-le, sum-lt, sum-const}
-use Rattle.base.specs.Keep.{first-out, first-passes}
+use Rattle.base.specs.Cond.{bit}
+use Rattle.base.specs.laws.Cond.{eqb-cases, eqb-diff, by-eq}
+use Rattle.base.specs.Sum.{sum}
+use Rattle.base.specs.laws.Sum.{sum-le, sum-lt, sum-const}
+use Rattle.base.specs.laws.Keep.{first-out, first-passes}
 use Rattle.format_word.specs.Word.{linkIn}
-use Rattle.plan.specs.Accepted.{Accepted}
+use Rattle.plan.specs.laws.Accepted.{Accepted}
 use Rattle.plan.specs.Links.{Plan, modulesOf}
 use Rattle.node.specs.declared.Node.{Node}
 use Rattle.node.specs.Work.{Work, ASLEEP, BACK, start, putBack}

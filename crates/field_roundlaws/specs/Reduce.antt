@@ -7,12 +7,12 @@ use mathlib.Core.Bool.{Bool, true, false, not, cond}
 use mathlib.Core.List.{List, [], _∷_}
 use lib.ListN.{length, getD, replicate}
 use lib.Dec.{eqb, ltb}
-use Rattle.base.specs.Cond.{eqb-cases}
+use Rattle.base.specs.laws.Cond.{eqb-cases}
 use Rattle.base.specs.Loop.{After, Ran}
-use Rattle.base.specs.LoopLaws.{runs-answer}
+use Rattle.base.specs.laws.Loop.{runs-answer}
 use Rattle.base.specs.Pool.{All, nil, con}
 use Rattle.base.specs.Test.{every}
-use Rattle.plan.specs.Accepted.{Accepted, accepted}
+use Rattle.plan.specs.laws.Accepted.{Accepted, accepted}
 use Rattle.plan.specs.Links.{Plan, modulesOf}
 use Rattle.node.specs.Work.{BRANCH}
 use Rattle.field.specs.Edges.{ceilingOf}

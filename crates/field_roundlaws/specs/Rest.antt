@@ -8,15 +8,17 @@ use mathlib.Core.List.{List, [], _∷_}
 use lib.ListN.{length}
 use lib.Dec.{eqb}
 use borrow.Author.Tests.{eqb-true, eq-eqb}
-use Rattle.base.specs.Cond.{bool-cases, eqb-cases}
+use Rattle.base.specs.laws.Cond.{bool-cases, eqb-cases}
 use Rattle.base.specs.Loop.{Ran, runs, countedTurn}
-use Rattle.base.specs.LoopLaws.{Ok, then-on}
-use Rattle.base.specs.Pool.{All, nil, con, All-map}
-use Rattle.base.specs.Keep.{keep, keep-yes, keep-no}
+use Rattle.base.specs.laws.Loop.{Ok, then-on}
+use Rattle.base.specs.Pool.{All, nil, con}
+use Rattle.base.specs.laws.Pool.{All-map}
+use Rattle.base.specs.Keep.{keep}
+use Rattle.base.specs.laws.Keep.{keep-yes, keep-no}
 use Rattle.format_message.specs.Header.{kindAt, levelAt, findAt, msgOf}
 use Rattle.format_word.specs.Word.{headerIn, carriedIn, linkIn, handedIn, shaped, handOver}
-use Rattle.format_word.specs.Laws.{Unpacked, over}
-use Rattle.plan.specs.Accepted.{Accepted}
+use Rattle.format_word.specs.laws.Word.{Unpacked, over}
+use Rattle.plan.specs.laws.Accepted.{Accepted}
 use Rattle.plan.specs.Links.{Plan, modulesOf, linksOf}
 use Rattle.node.specs.Work.{ASLEEP, BACK}
 use Rattle.node.specs.Rules.{respond}

@@ -8,12 +8,14 @@ use mathlib.Core.Logic.{_≢_, _⊎_, inl, inr}
 use mathlib.Core.Bool.{false}
 use mathlib.Core.List.{List, [], _∷_, _++_, append-nil, append-assoc}
 use lib.ListN.{length, length-append}
-use Rattle.base.specs.Search.{lt-suc-cases}
-use Rattle.base.specs.LoopLaws.{Ok, loop-ok}
-use Rattle.base.specs.Pool.{All, nil, con, All-app, All-one, All-map, All-here}
-use Rattle.base.specs.Keep.{keep, keep-nil, keep-app, keep-none, keep-no, first-out, first-passes, head-of, others}
+use Rattle.base.specs.laws.Search.{lt-suc-cases}
+use Rattle.base.specs.laws.Loop.{Ok, loop-ok}
+use Rattle.base.specs.Pool.{All, nil, con}
+use Rattle.base.specs.laws.Pool.{All-app, All-one, All-map, All-here}
+use Rattle.base.specs.Keep.{keep}
+use Rattle.base.specs.laws.Keep.{keep-nil, keep-app, keep-none, keep-no, first-out, first-passes, head-of, others}
 use Rattle.format_word.specs.Word.{linkIn, handedIn}
-use Rattle.plan.specs.Accepted.{Accepted}
+use Rattle.plan.specs.laws.Accepted.{Accepted}
 use Rattle.plan.specs.Links.{Plan, modulesOf}
 use Rattle.node.specs.Work.{Work, Send}
 use Rattle.field.specs.Edges.{dest}

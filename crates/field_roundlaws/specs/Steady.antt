@@ -5,14 +5,14 @@ use mathlib.Core.Path.{_≡_, refl, sym, subst}
 use mathlib.Core.Logic.{_≢_, _⊎_, inl, inr}
 use mathlib.Core.Bool.{Bool, true, false, cond, _&&_}
 use lib.Dec.{eqb, ltb, leb}
-use Rattle.base.specs.Cond.{eqb-cases, ltb-cases, eqb-diff}
-use Rattle.base.specs.LoopLaws.{by-test}
+use Rattle.base.specs.laws.Cond.{eqb-cases, ltb-cases, eqb-diff}
+use Rattle.base.specs.laws.Loop.{by-test}
 use Rattle.format_message.specs.Msg.{Msg, none, connect, initiate, test, accept, reject, report, change}
 use Rattle.format_message.specs.Header.{msgOf}
 use Rattle.node.specs.declared.Node.{Node}
 use Rattle.node.specs.Work.{Own, Work, ASLEEP, FIND, FOUND, BASIC, BRANCH, BACK, REFUSED, before, putBack, refused, send, withNode, setTest, setCount, number, earliest, anyEdge, branches, degree}
 use Rattle.node.specs.Rules.{wakeOn, wakeup, doReport, testOn, doTest, changeRoot, countUp, absorb, coreEnd, onConnect, told, seek, onInitiate, strike, onTest, childReport, coreReport, onReport, unlessAsleep, respondTo}
-use Rattle.node.specs.Laws.{awake-wakes, awake-is, asleep-refused, asleep-not}
+use Rattle.node.specs.laws.Rules.{awake-wakes, awake-is, asleep-refused, asleep-not}
 
 -- not put back, and awake
 pub record Steady (w : Work) : Type 0 where

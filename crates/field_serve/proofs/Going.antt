@@ -6,7 +6,7 @@ use mathlib.Core.Bool.{Bool, true, false}
 use mathlib.Core.List.{List}
 use lib.ListN.{length}
 use Rattle.base.specs.Loop.{After, Ran, runs}
-use Rattle.base.specs.LoopLaws.{went, rests, goes, breaks, limit}
+use Rattle.base.specs.laws.Loop.{went, rests, goes, breaks, limit}
 use Rattle.plan.specs.Links.{Plan}
 use Rattle.field.specs.State.{State}
 use Rattle.field_words.specs.Hands.{lentState}

@@ -9,14 +9,15 @@ use lib.ListN.{length, getD, take}
 use lib.Seq.{length-take-le, getD-take}
 use lib.Dec.{eqb, ltb}
 use borrow.Author.Tests.{le-leb, lt-leb, eq-eqb, ne-eqb}
-use Rattle.base.specs.Cond.{bool-cases}
+use Rattle.base.specs.laws.Cond.{bool-cases}
 use Rattle.base.specs.Loop.{After, refusedBy}
-use Rattle.base.specs.Keep.{FirstThat, first-passes, first-out, place, place-first}
-use Rattle.base.specs.Pool.{All-here}
+use Rattle.base.specs.Keep.{place}
+use Rattle.base.specs.laws.Keep.{FirstThat, first-passes, first-out, place-first}
+use Rattle.base.specs.laws.Pool.{All-here}
 use Rattle.base.specs.None.{none}
 use Rattle.format_message.specs.Header.{kindAt, levelAt, findAt}
 use Rattle.format_message.specs.Listed.{bare, listedAs, listed}
-use Rattle.format_message.specs.Means.{Means, means}
+use Rattle.format_message.specs.laws.Means.{Means, means}
 use Rattle.format_word.specs.Word.{headerIn, carriedIn, linkIn, laidOut, shaped}
 use Rattle.plan.specs.Links.{Plan, modulesOf}
 use Rattle.node.specs.declared.Node.{Node}
@@ -25,7 +26,7 @@ use Rattle.node.specs.Rules.{respond, wakeOn, wakes}
 use Rattle.node_response.specs.declared.Packet.{Packet}
 use Rattle.node_response.specs.declared.Response.{Response}
 use Rattle.node_response.specs.Response.{packetMsg, workOf, Formed}
-use Rattle.node_joining.specs.Copies.{copiesIn}
+use Rattle.node_joining.specs.laws.Copies.{copiesIn}
 use Rattle.node_dispatch.specs.Receives.{Receives}
 use Rattle.field.specs.Edges.{ownOf, linkOf, limitOf}
 use Rattle.field.specs.State.{State, nodeIn, nodeAt, markAt, msgIn}

@@ -7,7 +7,7 @@ use mathlib.Core.List.{List, [], _∷_, _++_, append-nil}
 use lib.ListN.{length, getD, take, length-append, drop-of-length-le}
 use lib.Seq.{length-take-le, take-all}
 use borrow.Author.Tests.{le-leb, lt-leb, eq-eqb, ne-eqb}
-use Rattle.base.specs.Cond.{ltb-cases}
+use Rattle.base.specs.laws.Cond.{ltb-cases}
 use Rattle.plan.specs.Links.{Plan}
 use Rattle.node.specs.Work.{Send, Work, BACK}
 use Rattle.field.specs.Step.{without, backOf}

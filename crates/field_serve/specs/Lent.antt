@@ -9,15 +9,15 @@ use lib.Dec.{leb}
 use Rattle.base.specs.Limits.{maxModules, maxLinks}
 use Rattle.base.specs.Loop.{After, Ran}
 use Rattle.format_message.specs.Header.{kindAt, levelAt, findAt}
-use Rattle.format_message.specs.Means.{Means}
+use Rattle.format_message.specs.laws.Means.{Means}
 use Rattle.format_word.specs.Word.{headerIn, carriedIn, linkIn}
 use Rattle.plan.specs.Links.{Plan, linksOf}
-use Rattle.plan.specs.Accepted.{Accepted}
+use Rattle.plan.specs.laws.Accepted.{Accepted}
 use Rattle.node.specs.Work.{Work, BACK}
 use Rattle.node_response.specs.declared.Packet.{Packet}
 use Rattle.node_response.specs.declared.Response.{Response}
 use Rattle.node_response.specs.Response.{workOf, Formed}
-use Rattle.node_joining.specs.Copies.{copiesIn}
+use Rattle.node_joining.specs.laws.Copies.{copiesIn}
 use Rattle.field.specs.Edges.{ownOf, linkOf, ceilingOf}
 use Rattle.field.specs.State.{State, markAt, msgIn}
 use Rattle.field.specs.Step.{without, carryOut, backOf, serveWork}

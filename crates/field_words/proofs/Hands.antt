@@ -6,7 +6,7 @@ use mathlib.Core.Logic.{_≢_}
 use mathlib.Core.List.{List}
 use lib.ListN.{length}
 use Rattle.base.specs.Loop.{After, loop}
-use Rattle.base.specs.LoopLaws.{loop-zero, on, off}
+use Rattle.base.specs.laws.Loop.{loop-zero, on, off}
 use Rattle.field.specs.State.{State}
 use Rattle.field_words.specs.Laid.{Laid}
 use Rattle.field_words.specs.Hands.{lentState, Hands}

@@ -1,2 +1,2 @@
 pub mod Int16
-pub mod Laws
+pub mod laws

@@ -1,5 +1,4 @@
 pub mod Msg
 pub mod Header
-pub mod Byte
 pub mod Listed
-pub mod Means
+pub mod laws

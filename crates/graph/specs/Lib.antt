@@ -1,13 +1,6 @@
 pub mod Graph
 pub mod Order
-pub mod Ways
-pub mod Rank
-pub mod Cut
 pub mod Labels
 pub mod Decide
-pub mod Sample
-pub mod Span
-pub mod Cycle
 pub mod Least
-pub mod Size
-pub mod Kruskal
+pub mod laws

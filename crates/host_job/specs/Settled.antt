@@ -1,12 +1,9 @@
 -- The whole job on one plan: setup, a wake of module 0, rounds. ("The reporting program reads a plan on standard input, wakes module 0, runs
 -- rounds with limit 65535.")
 use Prim.Native.Nat.{ℕ}
-use mathlib.Core.Path.{_≡_, refl, sym}
-use mathlib.Core.Logic.{_≢_}
 use mathlib.Core.Bool.{cond, not}
 use mathlib.Core.List.{List}
 use lib.Dec.{eqb}
-use Rattle.base.specs.Cond.{eqb-diff}
 use Rattle.base.specs.Loop.{After, Ran}
 use Rattle.plan.specs.Links.{Plan}
 use Rattle.field.specs.Held.{Held, setUp, stepAlone}
@@ -18,18 +15,3 @@ next a f = cond (not (eqb (a .answer) 0)) (refusedRun (a .answer) (a .state)) (f
 
 unfoldable pub settled : Plan → List ℕ → Ran Held
 settled p lent = next (setUp p lent) (λ h. next (stepAlone 1 0 h) (runRounds 65535))
-
--- it stops at the first call that is refused
-module _ (p : Plan) (lent : List ℕ) (s : After Held) (set : s ≡ setUp p lent) where
-  pub not-set : s .answer ≢ 0 → refusedRun (s .answer) (s .state) ≡ settled p lent
-  unfolding settled next
-  not-set n = rw (sym set, eqb-diff _ 0 n) refl
-
-  module _ (z : s .answer ≡ 0) (w : After Held) (woken : w ≡ stepAlone 1 0 (s .state)) where
-    pub not-woken : w .answer ≢ 0 → refusedRun (w .answer) (w .state) ≡ settled p lent
-    unfolding settled next
-    not-woken n = rw (sym set, z, sym woken, eqb-diff _ 0 n) refl
-
-    pub all-run : w .answer ≡ 0 → (r : Ran Held) → r ≡ runRounds 65535 (w .state) → r ≡ settled p lent
-    unfolding settled next
-    all-run y r e = rw (sym set, z, sym woken, y) e

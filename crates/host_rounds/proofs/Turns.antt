@@ -9,9 +9,9 @@ use lib.Seq.{length-take-le}
 use lib.Dec.{eqb}
 use borrow.Author.Tests.{eq-eqb, ne-eqb}
 use Rattle.base.specs.Loop.{After, then, loop}
-use Rattle.base.specs.LoopLaws.{then-on, then-off, loop-keeps}
+use Rattle.base.specs.laws.Loop.{then-on, then-off, loop-keeps}
 use Rattle.plan.specs.Links.{Plan, modulesOf, linksOf}
-use Rattle.plan.specs.Accepted.{Accepted}
+use Rattle.plan.specs.laws.Accepted.{Accepted}
 use Rattle.field.specs.State.{State}
 use Rattle.field.specs.Step.{inAir, inQueue, hand, serve}
 use Rattle.base.specs.Keep.{many}

@@ -26,8 +26,7 @@ fn serve_turn<'a>(
     let mut s = b;
     let mut j: usize = 0;
     while j < q {
-        s = field_serve::serve(plan, cells, marks, lent, s, v,
-        );
+        s = field_serve::serve(plan, cells, marks, lent, s, v);
         if s.answer != 0 {
             return s;
         }
@@ -52,8 +51,7 @@ pub fn serve_phase<'a>(
     let modules = plan::modules(plan);
     let mut v: u16 = 0;
     while v < modules {
-        s = serve_turn(plan, cells, marks, lent, s, v,
-        );
+        s = serve_turn(plan, cells, marks, lent, s, v);
         if s.answer != 0 {
             return s;
         }

@@ -65,7 +65,13 @@ pub fn steps<'a>(
     let mut s = b;
     let mut k: usize = 0;
     while k < count {
-        s = step(plan, cells, marks, lent, s, host_schedule::kind(bytes, k),
+        s = step(
+            plan,
+            cells,
+            marks,
+            lent,
+            s,
+            host_schedule::kind(bytes, k),
             host_schedule::number(bytes, k),
         );
         if s.answer != 0 {

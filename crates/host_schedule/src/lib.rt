@@ -3,7 +3,7 @@ ghost use mathlib.Core.Path.{_≡_};
 ghost use Prim.Native.Nat.{_+_, _*_, _<_};
 ghost use lib.ListN.{length};
 ghost use Rattle.field_calls.specs.Schedule.{kindOf, numberOf, kindListed, scheduleRefusal};
-ghost use Rattle.host_schedule.specs.Kinds.{kindsFrom};
+ghost use Rattle.host_schedule.specs.laws.Kinds.{kindsFrom};
 
 // Whether a kind is 1 (wake), 2 (hand over) or 3 (serve).
 fn is_kind(kind: u8) -> bool

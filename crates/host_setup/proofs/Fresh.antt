@@ -8,7 +8,8 @@ use lib.ListN.{length, drop, replicate, length-append, length-replicate}
 use lib.Seq.{sets-eq, take-at, drop-append-add}
 use Rattle.node.specs.Work.{setup}
 use Rattle.field.specs.State.{WIDTH, values, putNode}
-use Rattle.field.specs.Held.{freshCells, fresh-length}
+use Rattle.field.specs.Held.{freshCells}
+use Rattle.field.specs.laws.Held.{fresh-length}
 use Rattle.field_words.proofs.Laid.{drop-zeros}
 
 behind : (n : ℕ) → freshCells n ++ values setup ≡ freshCells (suc n)

@@ -1,2 +1,2 @@
 pub mod Receives
-pub mod Laws
+pub mod laws

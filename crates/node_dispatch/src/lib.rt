@@ -16,7 +16,7 @@ ghost use Rattle.field.specs.Edges.{ownOf, marksIn, limitOf};
 ghost use Rattle.node.specs.Work.{ASLEEP, Send};
 ghost use Rattle.node.specs.Rules.{respondTo, respond, wakes};
 ghost use Rattle.node_response.specs.Response.{Does, Formed, packetMsg, workOf};
-ghost use Rattle.node_joining.specs.Copies.{copiesIn};
+ghost use Rattle.node_joining.specs.laws.Copies.{copiesIn};
 ghost use Rattle.node_dispatch.specs.Receives.{Receives, Fresh};
 
 // Whether a node of this status refuses this kind: a sleeper takes Connect (1) and Test (3) only.

@@ -22,7 +22,7 @@ ghost use Rattle.field.specs.Edges.{isOwn, ownOf, marksIn, limitOf};
 ghost use Rattle.node.specs.Work.{Send};
 ghost use Rattle.node.specs.Rules.{joinOver, absorb, coreEnd, onConnect, onInitiate};
 ghost use Rattle.node_response.specs.Response.{Does};
-ghost use Rattle.node_joining.specs.Copies.{copiesIn};
+ghost use Rattle.node_joining.specs.laws.Copies.{copiesIn};
 
 // Edge j becomes a branch and its other end is told, with the Find bit.
 fn join(j: u16, find: u8, a: Response) -> Response

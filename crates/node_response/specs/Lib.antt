@@ -1,2 +1,2 @@
 pub mod Response
-pub mod Laws
+pub mod laws

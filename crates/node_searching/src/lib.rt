@@ -23,7 +23,7 @@ ghost use Rattle.field.specs.Edges.{isOwn, ownOf, marksIn};
 ghost use Rattle.node.specs.Work.{BASIC, REJECTED, Send};
 ghost use Rattle.node.specs.Rules.{strike, onTest, onAccept, onReject, childReport, coreReport, onReport};
 ghost use Rattle.node_response.specs.Response.{Does};
-ghost use Rattle.node_searching.specs.Laws.{bettered};
+ghost use Rattle.node_searching.specs.laws.Searching.{bettered};
 
 // The mark of a rejected edge, x before: a branch stays a branch.
 fn struck(x: u8) -> u8

@@ -4,7 +4,7 @@ use mathlib.Core.Path.{_≡_, sym, _∙_}
 use mathlib.Core.Logic.{_≢_}
 use lib.Dec.{ltb}
 use Rattle.plan.specs.Links.{Plan}
-use Rattle.plan.specs.Keys.{key-same, key-other}
+use Rattle.plan.specs.laws.Keys.{key-same, key-other}
 use Rattle.plan.specs.Weights.{cost, earlier}
 
 module _ (plan : Plan) (a b x y : ℕ) (p : x ≡ cost plan a) (q : y ≡ cost plan b) where

@@ -2,6 +2,5 @@ pub mod Links
 pub mod Keys
 pub mod Weights
 pub mod Refusal
-pub mod Accepted
 pub mod Same
-pub mod Ceiling
+pub mod laws

@@ -1,12 +1,9 @@
 -- The order of the links, by cost and then by number.
-use Prim.Native.Nat.{ℕ, _+_, _<_, _≤_}
-use mathlib.Core.Path.{_≡_}
-use mathlib.Core.Logic.{_≢_, _⊎_}
-use mathlib.Core.Bool.{Bool, true, false}
+use Prim.Native.Nat.{ℕ, _+_}
+use mathlib.Core.Bool.{Bool}
 use lib.Dec.{ltb}
-use Rattle.graph.specs.Order.{Order}
-use Rattle.plan.specs.Links.{Plan, linksOf, nearOf, farOf}
-use Rattle.plan.specs.Keys.{byKey, keyed, keyOrder, numberOrder}
+use Rattle.plan.specs.Links.{Plan, nearOf, farOf}
+use Rattle.plan.specs.Keys.{byKey}
 
 -- "A link's cost is the sum of its readings."
 abbrev pub costOf : ℕ → ℕ → ℕ
@@ -18,28 +15,3 @@ cost p k = costOf (nearOf p k) (farOf p k)
 -- "Link a is earlier than b if its cost is less, or costs are equal and its number is less"
 unfoldable pub earlier : Plan → ℕ → ℕ → Bool
 earlier p = byKey (cost p) ltb
-
-module _ (p : Plan) where
-  abbrev keys : Order (linksOf p)
-  keys = keyOrder (cost p) numberOrder
-
-  pub earlier-irrefl : (a : ℕ) → earlier p a a ≡ false
-  unfolding earlier
-  earlier-irrefl = keys .irrefl
-
-  pub earlier-trans : (a b c : ℕ) → earlier p a b ≡ true → earlier p b c ≡ true → earlier p a c ≡ true
-  unfolding earlier
-  earlier-trans = keys .trans
-
-  pub earlier-total : (a b : ℕ) → a < linksOf p → b < linksOf p → a ≢ b → (earlier p a b ≡ true) ⊎ (earlier p b a ≡ true)
-  unfolding earlier
-  earlier-total = keys .total
-
-  -- an earlier link costs no more
-  pub earlier-cost : (a b : ℕ) → earlier p a b ≡ true → cost p a ≤ cost p b
-  unfolding earlier
-  earlier-cost a b e = keyed (cost p) ltb a b e .first
-
-  -- a strict order of the links without ties
-  abbrev pub orderOf : Order (linksOf p)
-  orderOf = record { earlier = earlier p; irrefl = earlier-irrefl; trans = earlier-trans; total = earlier-total }

@@ -6,8 +6,10 @@ use mathlib.Core.Bool.{true}
 use mathlib.Core.List.{List}
 use lib.Dec.{eqb}
 use lib.ListN.{getD}
-use Rattle.base.specs.Table.{tabulate, getD-tabulate}
-use Rattle.base.specs.Test.{every, every-ext}
+use Rattle.base.specs.Table.{tabulate}
+use Rattle.base.specs.laws.Table.{getD-tabulate}
+use Rattle.base.specs.Test.{every}
+use Rattle.base.specs.laws.Test.{every-ext}
 use Rattle.graph.specs.Graph.{Graph}
 use Rattle.graph.specs.Decide.{label, joinedOver, connected}
 

@@ -7,11 +7,11 @@ use mathlib.Core.Logic.{_≢_}
 use mathlib.Core.Bool.{Bool, true, false}
 use lib.Dec.{ltb}
 use borrow.Author.Tests.{lt-ltb, le-ltb, le-leb, lt-leb, eq-eqb, ne-eqb}
-use Rattle.base.specs.Cond.{bool-cases}
+use Rattle.base.specs.laws.Cond.{bool-cases}
 use Rattle.graph.specs.Decide.{connected}
 use Rattle.base.specs.Limits.{maxModules, maxLinks, maxReading}
 use Rattle.plan.specs.Links.{Plan, modulesOf, linksOf, lowerOf, higherOf, nearOf, farOf, graphOf}
-use Rattle.plan.specs.Accepted.{Counts, counted, link-accepted, links-accepted}
+use Rattle.plan.specs.laws.Accepted.{Counts, counted, link-accepted, links-accepted}
 use Rattle.plan.specs.Refusal.{countsRefusal, ascends, inOrder, linkVerdict, linkRefusal, linksRefusal, planRefusal}
 
 -- THE ORDER OF TWO LINKS

@@ -8,13 +8,14 @@ use lib.ListN.{length, getD, set, replicate, length-append, length-replicate, ge
 use lib.Seq.{getD-append-add}
 use borrow.Author.Tests.{eq-eqb, ne-eqb}
 use Rattle.base.specs.Limits.{maxLinks}
-use Rattle.base.specs.Cond.{ltb-cases}
-use Rattle.base.specs.Table.{tabulate, tabulated, length-tabulate, upto, upto-in, upto-out, fill-start, fill-turn}
+use Rattle.base.specs.laws.Cond.{ltb-cases}
+use Rattle.base.specs.Table.{tabulate, upto}
+use Rattle.base.specs.laws.Table.{tabulated, length-tabulate, upto-in, upto-out, fill-start, fill-turn}
 use Rattle.plan.specs.Links.{Plan}
 use Rattle.plan.specs.Refusal.{planRefusal}
 use Rattle.plan_file.specs.declared.Outcome.{Outcome}
 use Rattle.plan_file.specs.Layout.{planNumbers, padded, decode, blank}
-use Rattle.plan_file.specs.Numbers.{padded-at}
+use Rattle.plan_file.specs.laws.Numbers.{padded-at}
 use Rattle.plan_file.specs.Reading.{headRefusal, readRefusal, readPlan, Loaded}
 
 -- THE LOOP THAT FILLS: i numbers are read; its start, a turn, its end

@@ -10,15 +10,16 @@ use lib.Seq.{sets, sets-eq}
 use borrow.Author.Tests.{lt-ltb, le-ltb, ne-eqb}
 use Rattle.base.specs.Limits.{maxLinks}
 use Rattle.base.specs.Loop.{After, takenTo, answering}
-use Rattle.base.specs.Refuse.{answers-refused}
-use Rattle.base.specs.Table.{tabulate, length-tabulate}
+use Rattle.base.specs.laws.Refuse.{answers-refused}
+use Rattle.base.specs.Table.{tabulate}
+use Rattle.base.specs.laws.Table.{length-tabulate}
 use Rattle.format_int16.specs.Int16.{put16}
-use Rattle.plan.specs.Accepted.{accepted}
+use Rattle.plan.specs.laws.Accepted.{accepted}
 use Rattle.plan.specs.Links.{Plan, linksOf}
 use Rattle.plan.specs.Refusal.{planRefusal}
 use Rattle.plan_file.specs.Layout.{planNumbers, bytesOf, encode}
 use Rattle.plan_file.specs.Writing.{size, writeRefusal, writePlan}
-use Rattle.plan_file.specs.Lengths.{bytesOf-append, length-bytesOf, length-encode}
+use Rattle.plan_file.specs.laws.Lengths.{bytesOf-append, length-bytesOf, length-encode}
 
 sets-append : (s : List ℕ) (i : ℕ) (xs ys : List ℕ) → sets s i (xs ++ ys) ≡ sets (sets s i xs) (i + length xs) ys
 sets-append s i [] ys = ap (λ n. sets s n ys) (let e : i ≡ i + 0 = omega arith in e)

@@ -8,7 +8,7 @@ ghost use lib.Seq.{sets};
 ghost use Rattle.base.specs.Limits.{maxLinks};
 ghost use Rattle.plan.specs.Links.{linksOf};
 ghost use Rattle.plan_file.specs.Layout.{number, decode, encode, blank};
-ghost use Rattle.plan_file.specs.Head.{HeadOk};
+ghost use Rattle.plan_file.specs.laws.Head.{HeadOk};
 ghost use Rattle.plan_file.specs.Reading.{headRefusal, readRefusal, readPlan, Loaded};
 ghost use Rattle.plan_file.specs.Writing.{size, writePlan};
 

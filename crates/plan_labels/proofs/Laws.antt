@@ -4,9 +4,11 @@ use mathlib.Core.Path.{_≡_, refl, _∙_}
 use mathlib.Core.Bool.{Bool, true}
 use mathlib.Core.List.{List}
 use lib.ListN.{length, getD}
-use Rattle.base.specs.Table.{tabulate, tabulated, tabulate-ext, getD-tabulate}
+use Rattle.base.specs.Table.{tabulate}
+use Rattle.base.specs.laws.Table.{tabulated, tabulate-ext, getD-tabulate}
 use Rattle.graph.specs.Graph.{Graph}
-use Rattle.graph.specs.Labels.{rename, rename-elim}
+use Rattle.graph.specs.Labels.{rename}
+use Rattle.graph.specs.laws.Labels.{rename-elim}
 use Rattle.graph.specs.Decide.{label}
 
 -- a part that joins itself

@@ -7,14 +7,15 @@ use mathlib.Core.Bool.{Bool}
 use mathlib.Core.List.{List}
 use lib.ListN.{length, set}
 use lib.Seq.{getD-set-same, getD-set-other}
-use Rattle.base.specs.Cond.{by-eq}
+use Rattle.base.specs.laws.Cond.{by-eq}
 use Rattle.base.specs.None.{none}
 use Rattle.base.specs.Limits.{maxModules, maxLinks}
-use Rattle.base.specs.Table.{tabulate, length-tabulate, getD-tabulate}
+use Rattle.base.specs.Table.{tabulate}
+use Rattle.base.specs.laws.Table.{length-tabulate, getD-tabulate}
 use Rattle.graph.specs.Graph.{Graph}
 use Rattle.graph.specs.Labels.{rename}
-use Rattle.plan_tree.specs.Forest.{Ends, Forest, Joined, joined-coarser, joined-inside, joined-range, joined-forest, grows-then}
-use Rattle.plan_tree.specs.Phase.{Leaves, First, first-pick, first-some, apart, apart-none, apart-some, apart-falls}
+use Rattle.plan_tree.specs.laws.Forest.{Ends, Forest, Joined, joined-coarser, joined-inside, joined-range, joined-forest, grows-then}
+use Rattle.plan_tree.specs.laws.Phase.{Leaves, First, first-pick, first-some, apart, apart-none, apart-some, apart-falls}
 use Rattle.plan_tree.specs.Lent.{at, Parts, Takes, TakesTo, Phased}
 
 -- each node a part of its own

@@ -6,7 +6,7 @@ use mathlib.Core.Path.{_≡_, sym, _∙_}
 use mathlib.Core.List.{List}
 use lib.ListN.{length, set}
 use lib.Seq.{getD-set-same, getD-set-other}
-use Rattle.base.specs.Cond.{by-eq}
+use Rattle.base.specs.laws.Cond.{by-eq}
 use Rattle.base.specs.Sum.{sum}
 use Rattle.plan_tree.specs.Lent.{at}
 

@@ -6,12 +6,13 @@ use mathlib.Core.Logic.{_≢_, _⊎_, inl, inr, ⊎-elim}
 use mathlib.Core.List.{List}
 use lib.ListN.{length, set, replicate, length-set, length-replicate, getD-replicate}
 use lib.Seq.{getD-set-same, getD-set-other}
-use Rattle.base.specs.Cond.{by-eq}
+use Rattle.base.specs.laws.Cond.{by-eq}
 use Rattle.base.specs.None.{none}
 use Rattle.base.specs.Limits.{maxModules, maxLinks}
 use Rattle.plan.specs.Links.{Plan, lowerOf, higherOf, graphOf}
-use Rattle.plan.specs.Weights.{earlier, orderOf}
-use Rattle.plan_tree.specs.Phase.{Leaves, First, sooner, first-bound, first-none, first-skip, first-offer}
+use Rattle.plan.specs.Weights.{earlier}
+use Rattle.plan.specs.laws.Weights.{orderOf}
+use Rattle.plan_tree.specs.laws.Phase.{Leaves, First, sooner, first-bound, first-none, first-skip, first-offer}
 use Rattle.plan_tree.specs.Lent.{at, Firsts}
 
 -- before the scan no part has an edge

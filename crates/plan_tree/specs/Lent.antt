@@ -10,8 +10,8 @@ use Rattle.base.specs.Limits.{maxModules, maxLinks}
 use Rattle.graph.specs.Graph.{Graph}
 use Rattle.plan.specs.Links.{Plan, linksOf, graphOf}
 use Rattle.plan.specs.Weights.{earlier}
-use Rattle.plan_tree.specs.Forest.{Ends, Inside, Forest, Grows}
-use Rattle.plan_tree.specs.Phase.{Leaves, First, Pick, apart}
+use Rattle.plan_tree.specs.laws.Forest.{Ends, Inside, Forest, Grows}
+use Rattle.plan_tree.specs.laws.Phase.{Leaves, First, Pick, apart}
 
 abbrev pub at : List ℕ → ℕ → ℕ
 at l k = getD l k 0

@@ -1,7 +1,3 @@
-pub mod Forest
-pub mod Phase
 pub mod Lent
 pub mod Tree
-pub mod Laws
-pub mod Theorems
-pub mod Samples
+pub mod laws

@@ -13,8 +13,8 @@ ghost use Rattle.base.specs.None.{none};
 ghost use Rattle.plan.specs.Links.{linksOf, lowerOf, higherOf, graphOf};
 ghost use Rattle.plan.specs.Weights.{earlier};
 ghost use Rattle.plan_tree.specs.Tree.{centralTree};
-ghost use Rattle.plan_tree.specs.Forest.{Joined, Forest, Exact, Ends};
-ghost use Rattle.plan_tree.specs.Phase.{sooner, apartAt, apart};
+ghost use Rattle.plan_tree.specs.laws.Forest.{Joined, Forest, Exact, Ends};
+ghost use Rattle.plan_tree.specs.laws.Phase.{sooner, apartAt, apart};
 ghost use Rattle.plan_tree.specs.Lent.{at, Parts, Fit, Takes, TakesTo, Firsts, Phased};
 
 // For each part the edge to join by, or none.

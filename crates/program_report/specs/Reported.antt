@@ -1,19 +1,17 @@
 -- What the reporting program prints for the bytes that it reads.
 use Prim.Native.Nat.{ℕ}
-use mathlib.Core.Path.{_≡_, refl, sym}
-use mathlib.Core.Logic.{_≢_}
 use mathlib.Core.Bool.{cond}
 use mathlib.Core.List.{List}
 use lib.ListN.{replicate}
 use lib.Dec.{eqb}
-use borrow.Author.Tests.{eq-eqb, ne-eqb}
 use Rattle.base.specs.Loop.{Ran}
 use Rattle.plan_file.specs.declared.Outcome.{Outcome}
 use Rattle.plan_file.specs.Reading.{readPlan}
 use Rattle.field.specs.Edges.{ceilingOf}
 use Rattle.field.specs.Held.{Held}
 use Rattle.host_job.specs.Settled.{settled}
-use Rattle.program_report.specs.Text.{line, reportText}
+use Rattle.program_report.specs.Text.{reportText}
+use Rattle.format_text.specs.Lines.{line}
 
 -- "A refused plan prints one line, as "refused 19"."
 abbrev pub refusedText : ℕ → List ℕ
@@ -30,22 +28,3 @@ planText g = cond (eqb (g .refusal) 0) (settledText (settled (g .plan) (replicat
 -- "The reporting program reads a plan on standard input, wakes module 0, runs rounds with limit 65535."
 abbrev pub reported : List ℕ → List ℕ
 reported s = planText (readPlan s)
-
--- For code: which of the two.
-module _ (r x : Ran Held) (e : r ≡ x) where
-  pub settled-refused : r .answer ≢ 0 → settledText x ≡ refusedText (r .answer)
-  unfolding settledText
-  settled-refused h = rw (sym e, ne-eqb (r .answer) 0 h) refl
-
-  pub settled-shown : r .answer ≡ 0 → settledText x ≡ reportText (r .state .field) (r .done)
-  unfolding settledText
-  settled-shown h = rw (sym e, eq-eqb (r .answer) 0 h) refl
-
-module _ (g x : Outcome) (e : g ≡ x) where
-  pub plan-refused : g .refusal ≢ 0 → planText x ≡ refusedText (g .refusal)
-  unfolding planText
-  plan-refused h = rw (sym e, ne-eqb (g .refusal) 0 h) refl
-
-  pub plan-taken : g .refusal ≡ 0 → (lent : List ℕ) → lent ≡ replicate (ceilingOf (g .plan)) 0 → planText x ≡ settledText (settled (g .plan) lent)
-  unfolding planText
-  plan-taken h lent l = rw (sym e, l, eq-eqb (g .refusal) 0 h) refl

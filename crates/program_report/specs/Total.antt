@@ -1,13 +1,9 @@
 -- What the report sums.
 use Prim.Native.Nat.{ℕ, zero, suc, _+_, _*_}
-use native.Mathlib.Numerals.{add-one}
-use mathlib.Core.Path.{_≡_}
-use mathlib.Core.Logic.{_≢_}
 use mathlib.Core.Bool.{cond}
 use mathlib.Core.List.{List}
 use lib.ListN.{getD}
 use lib.Dec.{eqb}
-use borrow.Author.Tests.{eq-eqb, ne-eqb}
 use Rattle.plan.specs.Weights.{cost}
 use Rattle.plan.specs.Links.{Plan}
 
@@ -15,13 +11,3 @@ use Rattle.plan.specs.Links.{Plan}
 unfoldable pub total : Plan → List ℕ → ℕ → ℕ
 total p marks zero = 0
 total p marks (suc k) = cond (eqb (getD marks (2 * k) 0) 1) (total p marks k + cost p k) (total p marks k)
-
--- one link further
-module _ (p : Plan) (marks : List ℕ) (k : ℕ) where
-  pub total-branch : getD marks (2 * k) 0 ≡ 1 → total p marks (k + 1) ≡ total p marks k + cost p k
-  unfolding total
-  total-branch h = rw (add-one k) (simp (eq-eqb _ _ h))
-
-  pub total-other : getD marks (2 * k) 0 ≢ 1 → total p marks (k + 1) ≡ total p marks k
-  unfolding total
-  total-other h = rw (add-one k) (simp (ne-eqb _ _ h))

@@ -1,78 +1,19 @@
--- The lines of a field whose marks are the tree's, and of which two modules have halted.
-use Prim.Native.Nat.{ℕ, zero, suc, _*_, _≤_, _<_, min}
-use native.Mathlib.Omega.{arith}
-use mathlib.Core.Path.{_≡_, refl, sym, ap, _∙_}
-use mathlib.Core.Logic.{_≢_}
+-- The lines that a tree gives, and two halted modules.
+use Prim.Native.Nat.{ℕ, zero, suc}
 use mathlib.Core.Bool.{cond}
-use mathlib.Core.List.{List, [], _++_, append-nil}
-use lib.ListN.{getD}
-use lib.Dec.{eqb}
-use Rattle.base.specs.Cond.{bool-cases, by-eq}
-use Rattle.base.specs.Sum.{sum}
+use mathlib.Core.List.{List, [], _++_}
 use Rattle.format_text.specs.Ascii.{ascii}
 use Rattle.plan.specs.Weights.{cost}
 use Rattle.plan_tree.specs.Tree.{treeLink}
 use Rattle.plan.specs.Links.{Plan, lowerOf, higherOf}
-use Rattle.base.specs.Limits.{maxModules}
-use Rattle.field.specs.State.{nodeIn}
-use Rattle.program_report.specs.Total.{total}
-use Rattle.program_report.specs.Text.{named, branchLine, branchText, branchLines, endsText, coreText, end-none, end-one, core-some}
+use Rattle.program_report.specs.Text.{branchLine}
+use Rattle.format_text.specs.Lines.{named}
 
 -- the lines of the tree's links below k, by number: `treeLink` is what the central builder writes
 unfoldable pub treeLines : Plan → ℕ → List ℕ
 treeLines p zero = []
 treeLines p (suc k) = treeLines p k ++ cond (treeLink p k) (branchLine (lowerOf p k) (higherOf p k) (cost p k)) []
 
-module _ (p : Plan) (marks : List ℕ) where
-  -- of the links below n, lower ends mark those of the tree
-  abbrev pub Marked : ℕ → Type 0
-  Marked n = (k : ℕ) → k < n → eqb (getD marks (2 * k) 0) 1 ≡ treeLink p k
-
-  pub lines-tree : (n : ℕ) → Marked n → branchLines p marks n ≡ treeLines p n
-  unfolding branchLines branchText treeLines
-  lines-tree zero m = refl
-  lines-tree (suc n) m = rw (lines-tree n (λ k l. m k (omega arith)), m n (omega arith)) refl
-
-  pub total-tree : (n : ℕ) → Marked n → total p marks n ≡ sum n (λ k. cond (treeLink p k) (cost p k) 0)
-  unfolding total
-  total-tree zero m = refl
-  total-tree (suc n) m = rw (m n (omega arith), total-tree n (λ k l. m k (omega arith)))
-      (bool-cases (treeLink p n) (λ t. rw t (omega arith)) (λ f. rw f (omega arith)))
-
 -- "core names the halted ends"
 abbrev pub coreLine : ℕ → ℕ → List ℕ
 coreLine a b = ascii "core" ++ (named " " a ++ named " " b) ++ ascii "\n"
-
-module _ (cells : List ℕ) where
-  abbrev halted : ℕ → ℕ
-  halted v = nodeIn cells v .halted
-
-  ends-skip : (m n : ℕ) → m ≤ n → ((v : ℕ) → m ≤ v → v < n → halted v ≢ 1) → endsText cells n ≡ endsText cells m
-  unfolding endsText
-  ends-skip m zero l h = ap (endsText cells) (let e : 0 ≡ m = omega arith in e)
-  ends-skip m (suc n) l h = by-eq m (suc n) (λ e. ap (endsText cells) (sym e))
-      (λ d. let k : m ≤ n = omega arith in
-      ap (λ t. endsText cells n ++ t) (end-none (halted n) n (h n k (omega arith))) ∙ append-nil (endsText cells n)
-      ∙ ends-skip m n k (λ v a b. h v a (omega arith)))
-
-  ends-more : (v : ℕ) → halted v ≡ 1 → endsText cells (suc v) ≡ endsText cells v ++ named " " v
-  unfolding endsText
-  ends-more v e = ap (λ t. endsText cells v ++ t) (end-one (halted v) v e)
-
-  module _ (a b n : ℕ) (order : a < b) (inside : b < n) (first : halted a ≡ 1) (second : halted b ≡ 1)
-      (others : (v : ℕ) → v < n → v ≢ a → v ≢ b → halted v ≢ 1) where
-    ends-two : endsText cells n ≡ named " " a ++ named " " b
-    unfolding endsText
-    ends-two =
-        ends-skip (suc b) n (omega arith) (λ v l m. others v m (λ e. omega arith) (λ e. omega arith))
-        ∙ ends-more b second
-        ∙ ap (λ t. t ++ named " " b)
-        (ends-skip (suc a) b (omega arith) (λ v l m. others v (omega arith) (λ e. omega arith) (λ e. omega arith))
-        ∙ ends-more a first
-        ∙ ap (λ t. t ++ named " " a) (ends-skip 0 a (omega arith) (λ v l m. others v (omega arith) (λ e. omega arith) (λ e. omega arith))))
-
-    pub core-two : n ≤ maxModules → coreText n cells ≡ coreLine a b
-    core-two l =
-        core-some n cells (omega arith)
-        ∙ ap (λ k. ascii "core" ++ endsText cells k ++ ascii "\n") (let e : min n maxModules ≡ n = omega arith in e)
-        ∙ ap (λ t. ascii "core" ++ t ++ ascii "\n") ends-two

@@ -1,4 +1,3 @@
 pub mod Text
 pub mod Traced
-pub mod Fits
-pub mod Long
+pub mod laws

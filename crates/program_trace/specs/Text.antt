@@ -1,19 +1,13 @@
 -- What `trace` prints of a run: "one item a line".
-use Prim.Native.Nat.{ℕ, zero, suc, _+_, _≤_, _<_}
-use native.Mathlib.Numerals.{add-one}
-use mathlib.Core.Path.{_≡_, refl, sym, ap, _∙_}
-use mathlib.Core.Logic.{_≢_}
-use mathlib.Core.Bool.{true, false, cond}
+use Prim.Native.Nat.{ℕ, zero, suc}
+use mathlib.Core.Bool.{cond}
 use mathlib.Core.List.{List, [], _∷_, _++_}
-use lib.ListN.{length, getD, drop, drop-of-length-le}
-use lib.Seq.{drop-cons}
+use lib.ListN.{length}
 use lib.Dec.{eqb}
-use borrow.Author.Tests.{eq-eqb, ne-eqb}
 use Rattle.base.specs.None.{none}
 use Rattle.base.specs.Loop.{Ran}
 use Rattle.format_text.specs.Ascii.{ascii}
 use Rattle.format_text.specs.Lines.{named, line}
-use Rattle.format_text.specs.Put.{Page, put, put-none, put-on, put-two}
 use Rattle.plan.specs.Links.{Plan, modulesOf, linksOf}
 use Rattle.field.specs.Edges.{isOwn, marksIn}
 use Rattle.node.specs.declared.Node.{Node}
@@ -79,73 +73,3 @@ ranText p r =
     headText (r .done) (r .answer) (f .sent) (length words)
     ++ modulesText p (f .cells) (f .marks) (modulesOf p)
     ++ wordsText words
-
--- For code: which text, one turn more.
-module _ (x : ℕ) where
-  pub link-none : x ≡ none → linkItem x ≡ ascii " -"
-  unfolding linkItem
-  link-none h = simp (eq-eqb _ _ h)
-
-  pub link-some : x ≢ none → linkItem x ≡ item x
-  unfolding linkItem
-  link-some h = simp (ne-eqb _ _ h)
-
-  pub refusal-none : x ≡ 0 → refusalText x ≡ ascii "refusal none\n"
-  unfolding refusalText
-  refusal-none h = simp (eq-eqb _ _ h)
-
-  pub refusal-some : x ≢ 0 → refusalText x ≡ line "refusal " x
-  unfolding refusalText
-  refusal-some h = simp (ne-eqb _ _ h)
-
-module _ (p : Plan) (marks : List ℕ) (v : ℕ) where
-  pub mark-none : (k : ℕ) → isOwn p v k ≡ false → markText p marks v k ≡ []
-  unfolding markText
-  mark-none k h = rw h refl
-
-  pub mark-own : (k x : ℕ) → isOwn p v k ≡ true → x ≡ marksIn p marks v k
-      → markText p marks v k ≡ item k ++ named ":" x
-  unfolding markText
-  mark-own k x h e = rw (h, e) refl
-
-  pub marks-none : marksText p marks v 0 ≡ []
-  unfolding marksText
-  marks-none = refl
-
-  pub marks-turn : (k : ℕ) → marksText p marks v k ++ markText p marks v k ≡ marksText p marks v (k + 1)
-  unfolding marksText
-  marks-turn k = rw (add-one k) refl
-
-module _ (p : Plan) (cells marks : List ℕ) where
-  pub modules-none : modulesText p cells marks 0 ≡ []
-  unfolding modulesText
-  modules-none = refl
-
-  pub modules-turn : (v : ℕ) → modulesText p cells marks v ++ moduleText p cells marks v ≡ modulesText p cells marks (v + 1)
-  unfolding modulesText
-  modules-turn v = rw (add-one v) refl
-
--- the words from i on
-module _ (q : Page) (ws : List ℕ) (i : ℕ) where
-  pub words-turn : i < length ws → {q′ : Page} → q′ ≡ put q (line "word " (getD ws i 0))
-      → put q (wordsText (drop i ws)) ≡ put q′ (wordsText (drop (i + 1) ws))
-  unfolding wordsText
-  words-turn l e =
-      ap (λ t. put q (wordsText t)) (drop-cons ws i 0 l ∙ ap (λ j. getD ws i 0 ∷ drop j ws) (sym (add-one i)))
-      ∙ sym (ap (λ x. put x (wordsText (drop (i + 1) ws))) e ∙ put-two q (line "word " (getD ws i 0)) (wordsText (drop (i + 1) ws)))
-
-  pub words-over : length ws ≤ i → put q (wordsText (drop i ws)) ≡ q
-  unfolding wordsText
-  words-over l = ap (λ t. put q (wordsText t)) (drop-of-length-le ws l) ∙ put-none q
-
--- the three parts of the whole, each put on what the part before left, for what a run is known to answer and leave
-pub ran-parts : (p : Plan) {r x : Ran Held} → r ≡ x → (q : Page) {q₁ q₂ q₃ : Page}
-    → q₁ ≡ put q (headText (r .done) (r .answer) (r .state .field .sent) (length (waitingIn (r .state .words))))
-    → q₂ ≡ put q₁ (modulesText p (r .state .field .cells) (r .state .field .marks) (modulesOf p))
-    → q₃ ≡ put q₂ (wordsText (waitingIn (r .state .words)))
-    → q₃ ≡ put q (ranText p x)
-unfolding ranText
-ran-parts p {r} e q e₁ e₂ e₃ =
-    let h = headText (r .done) (r .answer) (r .state .field .sent) (length (waitingIn (r .state .words))) in
-    let m = modulesText p (r .state .field .cells) (r .state .field .marks) (modulesOf p) in
-    put-on q (h ++ m) _ (put-on q h m e₁ e₂) e₃ ∙ ap (λ (y : Ran Held). put q (ranText p y)) e

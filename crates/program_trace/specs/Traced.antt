@@ -1,17 +1,11 @@
 -- What `trace` prints for the bytes that it reads.
-use Prim.Native.Nat.{ℕ, _+_, _-_, min}
-use native.Mathlib.Omega.{arith}
-use mathlib.Core.Path.{_≡_, refl, sym}
-use mathlib.Core.Logic.{_≢_}
+use Prim.Native.Nat.{ℕ, _+_, min}
 use mathlib.Core.Bool.{cond}
 use mathlib.Core.List.{List}
-use lib.ListN.{length, take, drop, replicate, length-drop}
-use lib.Seq.{take-all}
+use lib.ListN.{length, take, drop, replicate}
 use lib.Dec.{eqb}
-use borrow.Author.Tests.{eq-eqb, ne-eqb}
 use Rattle.format_int16.specs.Int16.{at16}
 use Rattle.format_text.specs.Lines.{line}
-use Rattle.plan_file.specs.declared.Outcome.{Outcome}
 use Rattle.plan_file.specs.Reading.{readPlan}
 use Rattle.plan.specs.Links.{Plan}
 use Rattle.field.specs.Edges.{ceilingOf}
@@ -36,13 +30,3 @@ unfoldable pub traced : List ℕ → List ℕ
 traced s =
     let g = readPlan (take (planPart s) s) in
     cond (eqb (g .refusal) 0) (ranText (g .plan) (runBytes (drop (planPart s) s) (start (g .plan)))) (refusedText (g .refusal))
-
--- For code: which of the two, where the plan's part is read.
-module _ (s : List ℕ) (part : ℕ) (e : part ≡ planPart s) (g : Outcome) (f : g ≡ readPlan (take part s)) where
-  pub traced-refused : g .refusal ≢ 0 → traced s ≡ refusedText (g .refusal)
-  unfolding traced
-  traced-refused h = rw (sym e, sym f, ne-eqb (g .refusal) 0 h) refl
-
-  pub traced-ran : g .refusal ≡ 0 → traced s ≡ ranText (g .plan) (runBytes (take (length s - part) (drop part s)) (start (g .plan)))
-  unfolding traced
-  traced-ran h = rw (sym e, sym f, eq-eqb (g .refusal) 0 h, take-all (length s - part) (drop part s) (omega (arith, length-drop part s))) refl

@@ -4,8 +4,10 @@ use native.Mathlib.Omega.{arith}
 use mathlib.Core.Path.{_≡_, refl, sym, ap, subst, _∙_}
 use mathlib.Core.Logic.{_≢_, _⊎_, inl, inr, ⊎-elim}
 use mathlib.Core.List.{List, [], _∷_, _++_}
-use Rattle.base.specs.Cond.{upd2, upd2-elim, by-eq}
-use Rattle.base.specs.Pool.{All, nil, con, All-app, sumL, sumL-app}
+use Rattle.base.specs.Cond.{upd2}
+use Rattle.base.specs.laws.Cond.{upd2-elim, by-eq}
+use Rattle.base.specs.Pool.{All, sumL, nil, con}
+use Rattle.base.specs.laws.Pool.{All-app, sumL-app}
 
 module _ {A : Type 0} where
   -- x is a member

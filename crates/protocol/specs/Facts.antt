@@ -4,9 +4,9 @@ use native.Mathlib.Omega.{arith}
 use mathlib.Core.Path.{_≡_, refl, sym, ap, subst, _∙_}
 use mathlib.Core.Logic.{_≢_, ⊎-elim}
 use mathlib.Core.List.{List, _∷_}
-use Rattle.base.specs.Cond.{by-eq}
+use Rattle.base.specs.laws.Cond.{by-eq}
 use Rattle.base.specs.Pool.{sumL}
-use Rattle.graph.specs.Ways.{flip}
+use Rattle.graph.specs.laws.Ways.{flip}
 use Rattle.format_message.specs.Msg.{Msg, none, connect, initiate, test, report}
 use Rattle.protocol.specs.Network.{Network, Edge, edge-some, ends-irr}
 use Rattle.protocol.specs.State.{ProtocolState}

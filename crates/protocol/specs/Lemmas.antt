@@ -6,11 +6,14 @@ use mathlib.Core.Logic.{_≢_, _⊎_, inl, inr, ⊎-elim}
 use mathlib.Core.Bool.{Bool, true, false, not, cond, _&&_}
 use mathlib.Core.List.{List, [], _∷_, _++_}
 use lib.Dec.{eqb}
-use Rattle.base.specs.Cond.{eqb-cases, eqb-same, eqb-diff, by-eq, bit, upd, upd-same, upd-other, upd2, upd2-elim}
-use Rattle.base.specs.Pool.{sumL, sumL-app}
-use Rattle.base.specs.Sum.{sum, sum-change, sum-eq, le-sum}
+use Rattle.base.specs.Cond.{bit, upd, upd2}
+use Rattle.base.specs.laws.Cond.{eqb-cases, eqb-same, eqb-diff, by-eq, upd-same, upd-other, upd2-elim}
+use Rattle.base.specs.Pool.{sumL}
+use Rattle.base.specs.laws.Pool.{sumL-app}
+use Rattle.base.specs.Sum.{sum}
+use Rattle.base.specs.laws.Sum.{sum-change, sum-eq, le-sum}
 use Rattle.graph.specs.Graph.{Graph, Joins, up, down}
-use Rattle.graph.specs.Ways.{ends-same, ends-two}
+use Rattle.graph.specs.laws.Ways.{ends-same, ends-two}
 use Rattle.format_message.specs.Msg.{Msg, connect, initiate, test, accept, reject, report, change}
 use Rattle.protocol.specs.Network.{Network, Edge}
 use Rattle.protocol.specs.State.{ProtocolState}

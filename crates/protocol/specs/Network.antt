@@ -5,11 +5,11 @@ use mathlib.Core.Path.{_≡_, refl}
 use mathlib.Core.Logic.{_≢_}
 use mathlib.Core.Bool.{cond}
 use lib.Dec.{eqb}
-use Rattle.base.specs.Cond.{eqb-cases}
+use Rattle.base.specs.laws.Cond.{eqb-cases}
 use Rattle.graph.specs.Graph.{Graph, Joins, up, down}
 use Rattle.graph.specs.Order.{Order, InTree}
-use Rattle.graph.specs.Ways.{joins-lt, ends-diff}
-use Rattle.graph.specs.Rank.{rank-bound, rankIn, rankIn-inj}
+use Rattle.graph.specs.laws.Ways.{joins-lt, ends-diff}
+use Rattle.graph.specs.laws.Rank.{rank-bound, rankIn, rankIn-inj}
 use Rattle.format_message.specs.Msg.{none}
 
 pub record Network : Type 0 where

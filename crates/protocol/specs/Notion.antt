@@ -3,7 +3,7 @@ use Prim.Native.Nat.{ℕ, suc, _≤_, _<_}
 use mathlib.Core.Path.{_≡_}
 use mathlib.Core.Logic.{_≢_, _⊎_}
 use Rattle.base.specs.Pool.{sumL}
-use Rattle.graph.specs.Size.{partSize}
+use Rattle.graph.specs.laws.Size.{partSize}
 use Rattle.format_message.specs.Msg.{Msg, none, initiate, report}
 use Rattle.protocol.specs.Network.{Network, Edge, key, rank}
 use Rattle.protocol.specs.State.{ProtocolState}

@@ -6,15 +6,19 @@ pub use mathlib.Core.Logic.{_≢_, _⊎_, inl, inr, ⊎-elim}
 pub use mathlib.Core.Bool.{Bool, true, false, not, cond, _&&_}
 pub use mathlib.Core.List.{List, [], _∷_, _++_}
 pub use lib.Dec.{eqb}
-pub use Rattle.base.specs.Cond.{bit, by-eq, bool-cases, eqb-same, eqb-diff, upd-elim, upd-same, upd-other, upd2-elim}
-unfoldable pub use Rattle.base.specs.Cond.{eqb-cases, upd, upd2}
-pub use Rattle.base.specs.Pool.{All, nil, con, All-app, sumL, sumL-app}
-pub use Rattle.base.specs.Sum.{sum, sum-le, sum-eq, sum-add, le-sum}
-pub use Rattle.base.specs.Search.{strong}
+pub use Rattle.base.specs.Cond.{bit}
+pub use Rattle.base.specs.laws.Cond.{by-eq, bool-cases, eqb-same, eqb-diff, upd-elim, upd-same, upd-other, upd2-elim}
+unfoldable pub use Rattle.base.specs.Cond.{upd, upd2}
+unfoldable pub use Rattle.base.specs.laws.Cond.{eqb-cases}
+pub use Rattle.base.specs.Pool.{All, sumL, nil, con}
+pub use Rattle.base.specs.laws.Pool.{All-app, sumL-app}
+pub use Rattle.base.specs.Sum.{sum}
+pub use Rattle.base.specs.laws.Sum.{sum-le, sum-eq, sum-add, le-sum}
+pub use Rattle.base.specs.laws.Search.{strong}
 pub use Rattle.graph.specs.Graph.{Graph, Joins, up, down, Way, stop, go}
-pub use Rattle.graph.specs.Ways.{joins-lt, flip, ends-two, ends-same, join, hop, wider}
-pub use Rattle.graph.specs.Cut.{cut-rank}
-pub use Rattle.graph.specs.Size.{size-mono}
+pub use Rattle.graph.specs.laws.Ways.{joins-lt, flip, ends-two, ends-same, join, hop, wider}
+pub use Rattle.graph.specs.laws.Cut.{cut-rank}
+pub use Rattle.graph.specs.laws.Size.{size-mono}
 pub use Rattle.format_message.specs.Msg.{Msg, none, connect, initiate, test, accept, reject, report, change}
 pub use Rattle.protocol.specs.Network.{Network, Edge, Tree, rank, key-none, key-edge, rank-lt, rank-inj, edge-some, ends-irr, ends-key, ends-rank, end-lt}
 unfoldable pub use Rattle.protocol.specs.Network.{key}

@@ -3,11 +3,11 @@ use Prim.Native.Nat.{ℕ, _<_}
 use native.Mathlib.Omega.{arith}
 use mathlib.Core.Path.{_≡_, refl, sym, ap, subst, _∙_}
 use mathlib.Core.Logic.{_≢_, inl, inr, ⊎-elim}
-use Rattle.base.specs.Cond.{by-eq}
-use Rattle.base.specs.Sum.{le-sum}
-use Rattle.base.specs.Search.{strong}
+use Rattle.base.specs.laws.Cond.{by-eq}
+use Rattle.base.specs.laws.Sum.{le-sum}
+use Rattle.base.specs.laws.Search.{strong}
 use Rattle.graph.specs.Graph.{Way, stop, go}
-use Rattle.graph.specs.Ways.{joins-lt, flip, ends-two}
+use Rattle.graph.specs.laws.Ways.{joins-lt, flip, ends-two}
 use Rattle.protocol.specs.Network.{Network, Edge}
 use Rattle.protocol.specs.State.{ProtocolState}
 use Rattle.protocol.specs.Lemmas.{joined-both}

@@ -3,9 +3,9 @@ use Prim.Native.Nat.{zero-le}
 use native.Mathlib.Omega.{arith}
 use mathlib.Core.Path.{refl, sym}
 use Rattle.base.specs.Pool.{nil}
-use Rattle.base.specs.Sum.{sum-zero}
-use Rattle.graph.specs.Size.{size-start}
-use Rattle.graph.specs.Ways.{here}
+use Rattle.base.specs.laws.Sum.{sum-zero}
+use Rattle.graph.specs.laws.Size.{size-start}
+use Rattle.graph.specs.laws.Ways.{here}
 use Rattle.protocol.specs.Network.{Network, edge-some}
 use Rattle.protocol.specs.State.{setupState}
 use Rattle.protocol.specs.Chan.{in-nil, bef-nil}

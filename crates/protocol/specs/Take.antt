@@ -4,7 +4,8 @@ use native.Mathlib.Omega.{arith}
 use mathlib.Core.Path.{_≡_, refl, sym, ap, subst, _∙_}
 use mathlib.Core.Logic.{inl, inr, ⊎-elim}
 use mathlib.Core.List.{List, [], _∷_}
-use Rattle.base.specs.Cond.{upd2, upd2-elim}
+use Rattle.base.specs.Cond.{upd2}
+use Rattle.base.specs.laws.Cond.{upd2-elim}
 use Rattle.base.specs.Pool.{sumL}
 use Rattle.format_message.specs.Msg.{Msg, test, accept, reject}
 use Rattle.protocol.specs.Network.{Network}

@@ -1,7 +1,8 @@
 -- A sleeper is as at setup: waking changes its status alone.
 use Prim.Native.Nat.{ℕ}
 use mathlib.Core.Path.{_≡_, refl, sym, ap, _∙_, fun-ext}
-use Rattle.base.specs.Cond.{upd, upd-elim}
+use Rattle.base.specs.Cond.{upd}
+use Rattle.base.specs.laws.Cond.{upd-elim}
 use Rattle.format_message.specs.Msg.{none}
 use Rattle.protocol.specs.Network.{Network}
 use Rattle.protocol.specs.State.{ProtocolState, set-st, set-lev, set-id, set-bw, set-be, set-te, set-ib, set-fc}

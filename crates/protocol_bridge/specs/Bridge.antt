@@ -6,13 +6,13 @@ use mathlib.Core.Path.{_≡_, refl, sym, ap, _∙_}
 use mathlib.Core.Logic.{_≢_, _⊎_, inl, inr, ⊎-elim}
 use mathlib.Core.List.{List, _∷_, _++_}
 use lib.ListN.{length}
-use Rattle.base.specs.Cond.{by-eq}
+use Rattle.base.specs.laws.Cond.{by-eq}
 use Rattle.base.specs.Log.{log2}
 use Rattle.format_message.specs.Msg.{Msg, none, connect, initiate, test, accept, reject, report, change}
 use Rattle.node.specs.declared.Node.{Node}
 use Rattle.node.specs.Work.{Own, Work, start, putBack, earliest, anyEdge}
 use Rattle.node.specs.Rules.{wakeup, wakes, respond, respondTo, onConnect, onInitiate, onTest, onAccept, onReject, onReport, onChange}
-use Rattle.node.specs.Laws.{wake-alone, wake-edge, awake-wakes, awake-is, asleep-not}
+use Rattle.node.specs.laws.Rules.{wake-alone, wake-edge, awake-wakes, awake-is, asleep-not}
 use Rattle.protocol.specs.Prelude.{Network, Edge, flip, end-lt, ends-irr, ProtocolState, Idle, Blocked, Inv, Rouse, pop, pop-head}
 use Rattle.protocol.specs.Step.{back}
 use Rattle.protocol_invariant.specs.Safe.{to-sleeper}

@@ -6,13 +6,13 @@ use mathlib.Core.Path.{_≡_, refl, sym, ap, ap₂, subst, _∙_}
 use mathlib.Core.Logic.{_≢_, _⊎_, inl, inr, by-cases}
 use mathlib.Core.List.{List}
 use lib.ListN.{length}
-use Rattle.base.specs.Cond.{by-eq, upd-same}
+use Rattle.base.specs.laws.Cond.{by-eq, upd-same}
 use Rattle.base.specs.Log.{log2}
 use Rattle.format_message.specs.Msg.{Msg, connect, initiate}
 use Rattle.node.specs.Work.{Work, BRANCH, putBack, withNode, setMark, setCount, degree, Own, send}
 use Rattle.node.specs.Rules.{joinOver, countUp, onConnect}
 use Rattle.node.specs.Rules as N
-use Rattle.node.specs.Laws.{count-rises, absorb-find, absorb-found, core-answers, connect-absorbed, connect-waits, connect-core}
+use Rattle.node.specs.laws.Rules.{count-rises, absorb-find, absorb-found, core-answers, connect-absorbed, connect-waits, connect-core}
 use Rattle.protocol.specs.Prelude.{Network, ProtocolState, Step, Blocked, pop-head, pop, absorbed}
 use Rattle.protocol.specs.Step.{absorb, core-reply}
 use Rattle.protocol_invariant.specs.Safe.{reply-le}

@@ -6,9 +6,11 @@ use mathlib.Core.Logic.{_≢_, _⊎_, inl, inr, ⊎-elim}
 use mathlib.Core.Bool.{Bool, true, false, _&&_, true≢false}
 use mathlib.Core.List.{List, [], _∷_, _++_, append-nil}
 use lib.ListN.{length, length-append}
-use Rattle.base.specs.Cond.{bit, bool-cases, by-eq, upd2, upd2-elim}
-use Rattle.base.specs.Sum.{sum, sum-eq}
-use Rattle.graph.specs.Ways.{joins-lt}
+use Rattle.base.specs.Cond.{bit, upd2}
+use Rattle.base.specs.laws.Cond.{bool-cases, by-eq, upd2-elim}
+use Rattle.base.specs.Sum.{sum}
+use Rattle.base.specs.laws.Sum.{sum-eq}
+use Rattle.graph.specs.laws.Ways.{joins-lt}
 use Rattle.format_message.specs.Msg.{Msg}
 use Rattle.node.specs.Work.{Own, Send, number, onEach}
 use Rattle.protocol.specs.Network.{Network}

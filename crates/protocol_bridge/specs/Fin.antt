@@ -5,7 +5,7 @@ use mathlib.Core.Path.{_≡_, sym, ap, subst, _∙_}
 use mathlib.Core.Logic.{_≢_}
 use mathlib.Core.List.{List, [], _∷_}
 use lib.ListN.{length, length-append}
-use Rattle.base.specs.Cond.{upd-same}
+use Rattle.base.specs.laws.Cond.{upd-same}
 use Rattle.format_message.specs.Msg.{Msg}
 use Rattle.node.specs.declared.Node.{Node}
 use Rattle.node.specs.Work.{Work, Send, start, withNode, setMark, setStatus, setBest, setTest, setCount, setHalted, send}

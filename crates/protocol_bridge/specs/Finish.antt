@@ -6,11 +6,12 @@ use mathlib.Core.Logic.{_≢_, _⊎_, inl, inr, ⊎-elim}
 use mathlib.Core.Bool.{true}
 use lib.ListN.{length}
 use borrow.Author.Tests.{eq-eqb, eqb-true}
-use Rattle.base.specs.Cond.{by-eq, upd}
+use Rattle.base.specs.Cond.{upd}
+use Rattle.base.specs.laws.Cond.{by-eq}
 use Rattle.format_message.specs.Msg.{none, connect, test, report, change}
 use Rattle.node.specs.Work.{Work, FOUND, BRANCH, basic, withNode, setMark, setStatus, setTest, earliest, send}
 use Rattle.node.specs.Rules.{doReport, doTest, changeRoot}
-use Rattle.node.specs.Laws.{report-counts, report-tests, report-sends, test-over, test-sends, root-told, root-connects}
+use Rattle.node.specs.laws.Rules.{report-counts, report-tests, report-sends, test-over, test-sends, root-told, root-connects}
 use Rattle.protocol.specs.Network.{Network, Edge, edge-some}
 use Rattle.protocol.specs.State.{ProtocolState, set-te, set-ot, set-op}
 use Rattle.protocol.specs.Step.{test-next, test-none, report-now, report-later, root-branch, root-half, root-merge}

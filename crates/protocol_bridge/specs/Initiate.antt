@@ -7,13 +7,14 @@ use mathlib.Core.Bool.{true, cond}
 use mathlib.Core.List.{List, []}
 use lib.ListN.{length, length-append}
 use lib.Dec.{eqb}
-use Rattle.base.specs.Cond.{bit, by-eq, upd-same}
+use Rattle.base.specs.Cond.{bit}
+use Rattle.base.specs.laws.Cond.{by-eq, upd-same}
 use Rattle.base.specs.Sum.{sum}
 use Rattle.format_message.specs.Msg.{Msg, initiate}
 use Rattle.node.specs.Work.{Work, FIND, FOUND, branches, number, onEach, withNode, setCount, degree}
 use Rattle.node.specs.Work as W
 use Rattle.node.specs.Rules.{told, copies, onInitiate, informed}
-use Rattle.node.specs.Laws.{seek-tests, initiate-find, initiate-found}
+use Rattle.node.specs.laws.Rules.{seek-tests, initiate-find, initiate-found}
 use Rattle.protocol.specs.Prelude.{Network, ProtocolState, Step, Mode, Place, GC, pop-head, pop, copy, fan, initiated, copy-yes}
 use Rattle.protocol.specs.Step.{tell}
 use Rattle.protocol_invariant.specs.Safe.{initiate-ok}

@@ -6,14 +6,15 @@ use mathlib.Core.Logic.{_≢_, _⊎_, inl, inr, ⊎-elim}
 use mathlib.Core.Bool.{Bool, true, false, _&&_, _||_, true≢false}
 use lib.Dec.{eqb}
 use borrow.Author.Tests.{lt-ltb, eq-eqb}
-use Rattle.base.specs.Cond.{bit, eqb-cases, ltb-cases, by-eq}
+use Rattle.base.specs.Cond.{bit}
+use Rattle.base.specs.laws.Cond.{eqb-cases, ltb-cases, by-eq}
 use Rattle.base.specs.Sum.{sum}
 use Rattle.graph.specs.Graph.{up, down}
-use Rattle.graph.specs.Ways.{joins-lt}
-use Rattle.graph.specs.Rank.{rank-not-earlier, rankIn-lt}
+use Rattle.graph.specs.laws.Ways.{joins-lt}
+use Rattle.graph.specs.laws.Rank.{rank-not-earlier, rankIn-lt}
 use Rattle.format_message.specs.Msg.{none}
 use Rattle.node.specs.Work.{before, earliest, number, anyEdge, degree}
-use Rattle.node.specs.First.{first, before-none, before-edges, none-before}
+use Rattle.node.specs.laws.First.{first, before-none, before-edges, none-before}
 use Rattle.protocol.specs.Network.{Network, Edge, key, rank, key-none, key-edge, rank-lt}
 use Rattle.protocol.specs.State.{ProtocolState}
 use Rattle.protocol.specs.Inv.{Inv}

@@ -3,7 +3,8 @@ use Prim.Native.Nat.{ℕ}
 use mathlib.Core.Path.{_≡_, refl, sym, ap, _∙_, fun-ext}
 use mathlib.Core.Logic.{_≢_}
 use mathlib.Core.List.{List, [], _∷_, _++_}
-use Rattle.base.specs.Cond.{upd, upd-elim, upd-same, upd-other, upd2, upd2-elim}
+use Rattle.base.specs.Cond.{upd, upd2}
+use Rattle.base.specs.laws.Cond.{upd-elim, upd-same, upd-other, upd2-elim}
 use Rattle.format_message.specs.Msg.{Msg}
 use Rattle.node.specs.declared.Node.{Node}
 use Rattle.node.specs.Work.{Work, Send, withNode, setMark, setStatus, setBest, setTest, setCount, setHalted, send}

@@ -6,12 +6,13 @@ use mathlib.Core.Logic.{_≢_, _⊎_, inl, inr}
 use mathlib.Core.Bool.{Bool, false, cond}
 use mathlib.Core.List.{List}
 use lib.ListN.{length}
-use Rattle.base.specs.Cond.{by-eq, bool-cases, upd, upd2}
-use Rattle.graph.specs.Ways.{joins-lt}
+use Rattle.base.specs.Cond.{upd, upd2}
+use Rattle.base.specs.laws.Cond.{by-eq, bool-cases}
+use Rattle.graph.specs.laws.Ways.{joins-lt}
 use Rattle.format_message.specs.Msg.{Msg, none, accept, report, change}
 use Rattle.node.specs.Work.{Work, putBack, before, withNode, setCount, Own}
 use Rattle.node.specs.Rules.{onAccept, onReport, onChange, coreReport, better, doReport, changeRoot}
-use Rattle.node.specs.Laws.{child-reports, report-child, report-waits, report-core, core-decides, core-halts, core-edge, core-idle}
+use Rattle.node.specs.laws.Rules.{child-reports, report-child, report-waits, report-core, core-decides, core-halts, core-edge, core-idle}
 use Rattle.protocol.specs.Prelude.{Network, key, ProtocolState, Step, Blocked, Better, In, pop-head, pop, rooted, bested, set-te, set-op, set-owe, set-fc}
 use Rattle.protocol.specs.Step.{accepted, child-report, core-nothing, core-halt, decide, change-root}
 use Rattle.protocol.specs.Run.{sends}

@@ -8,11 +8,11 @@ use mathlib.Core.Bool.{cond}
 use mathlib.Core.List.{List}
 use lib.ListN.{length}
 use lib.Dec.{eqb}
-use Rattle.base.specs.Cond.{by-eq, eqb-cases}
+use Rattle.base.specs.laws.Cond.{by-eq, eqb-cases}
 use Rattle.format_message.specs.Msg.{Msg, test, accept, reject}
 use Rattle.node.specs.Work.{Work, BASIC, REJECTED, putBack, Own}
 use Rattle.node.specs.Rules.{doTest, strike, onTest, onReject}
-use Rattle.node.specs.Laws.{test-waits, test-accepted, test-crossed, test-rejected}
+use Rattle.node.specs.laws.Rules.{test-waits, test-accepted, test-crossed, test-rejected}
 use Rattle.protocol.specs.Prelude.{Network, ProtocolState, Step, Blocked, Strike, pop, remarked, set-ot}
 use Rattle.protocol.specs.Step.{accept-test, reject-test, crossed-test, rejected}
 use Rattle.protocol_bridge.specs.Real.{Real, ownP}

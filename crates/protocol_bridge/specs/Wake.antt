@@ -4,11 +4,11 @@ use native.Mathlib.Omega.{arith}
 use mathlib.Core.Path.{_≡_, refl}
 use mathlib.Core.Logic.{⊎-elim}
 use lib.ListN.{length}
-use Rattle.base.specs.Cond.{by-eq}
+use Rattle.base.specs.laws.Cond.{by-eq}
 use Rattle.format_message.specs.Msg.{connect}
 use Rattle.node.specs.Work.{Work, BRANCH, anyEdge, earliest}
 use Rattle.node.specs.Rules.{wakeup}
-use Rattle.node.specs.Laws.{wake-alone, wake-edge}
+use Rattle.node.specs.laws.Rules.{wake-alone, wake-edge}
 use Rattle.protocol.specs.Network.{Network, edge-some}
 use Rattle.protocol.specs.State.{ProtocolState}
 use Rattle.protocol.specs.Step.{Idle, wake-lone, wake-half, wake-merge}

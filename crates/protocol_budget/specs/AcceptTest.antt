@@ -4,7 +4,7 @@ use Rattle.protocol.specs.Prelude.{List, _∷_, sumL, upd, upd-other, upd2, sum
 use Rattle.protocol.specs.Prelude.{Network, Edge, end-lt, flip, other-end, ProtocolState, Idle, sendOver, pop}
 use Rattle.protocol.specs.Prelude.{isT, isA, isY, pop-head, pop-sum, pop-le, snoc, snoc-sum, snoc-here, snoc-else, GL, Inf, Waits, Inv}
 use Rattle.base.specs.Log.{log2}
-use Rattle.graph.specs.Size.{level-two}
+use Rattle.graph.specs.laws.Size.{level-two}
 use Rattle.protocol_budget.specs.Paid.{LT, Tries, Links, Paid, lt-else, lt-same, yes-le}
 use Rattle.protocol_budget.specs.Height.{heights-pop, heights-send}
 use Rattle.protocol_search.specs.AcceptTest as A

@@ -1,10 +1,12 @@
 -- THE CEILING: at most N × (5 ⌊log2 N⌋ − 2) + 2 L messages for N ≥ 2, none for N ≤ 1; so at most 5 N ⌊log2 N⌋ + 2 L.
 use Rattle.protocol.specs.Prelude.{ℕ, suc, _+_, _*_, _≤_, _<_, arith, _≡_, refl, sym, ap, _∙_, _≢_, _⊎_, inl, inr, by-eq, sum-le, sum-add, none}
 use Rattle.protocol.specs.Prelude.{Network, end-lt, flip, ProtocolState, Step, setupState, GL, DK, Inf, Inv, sends, half-of, changing-of, root-of, edge-some}
-use Rattle.base.specs.Log.{log2, level-le}
-use Rattle.base.specs.Ceiling.{ceiling, within-ceiling}
-use Rattle.base.specs.Sum.{sum-const}
-use Rattle.graph.specs.Size.{level-one, level-two}
+use Rattle.base.specs.Log.{log2}
+use Rattle.base.specs.laws.Log.{level-le}
+use Rattle.base.specs.Ceiling.{ceiling}
+use Rattle.base.specs.laws.Ceiling.{within-ceiling}
+use Rattle.base.specs.laws.Sum.{sum-const}
+use Rattle.graph.specs.laws.Size.{level-one, level-two}
 use Rattle.protocol_budget.specs.Paid.{Paid}
 use Rattle.protocol_budget.specs.Height.{tb-le}
 use Rattle.protocol_budget.specs.Pick.{sum-times}

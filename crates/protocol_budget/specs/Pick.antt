@@ -4,8 +4,10 @@ use native.Mathlib.Omega.{arith}
 use mathlib.Core.Path.{_≡_, refl, sym, ap, _∙_}
 use mathlib.Core.Logic.{_≢_}
 use lib.Dec.{eqb}
-use Rattle.base.specs.Cond.{bit, by-eq, eqb-same, eqb-diff}
-use Rattle.base.specs.Sum.{sum, sum-le, sum-swap, le-sum}
+use Rattle.base.specs.Cond.{bit}
+use Rattle.base.specs.laws.Cond.{by-eq, eqb-same, eqb-diff}
+use Rattle.base.specs.Sum.{sum}
+use Rattle.base.specs.laws.Sum.{sum-le, sum-swap, le-sum}
 
 pub sum-times : (n c : ℕ) (f : ℕ → ℕ) → sum n (λ w. c * f w) ≡ c * sum n f
 sum-times zero c f = omega arith

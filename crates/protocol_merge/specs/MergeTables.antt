@@ -3,7 +3,7 @@ use Rattle.protocol.specs.Prelude.{ℕ, suc, _^_, _≤_, arith, _≡_, sym, ap,
 use Rattle.protocol.specs.Prelude.{upd, upd-elim, upd2-elim, at2, relabel-cases}
 use Rattle.protocol.specs.Prelude.{Network, Edge, Tree, key, rank, Way, go, join, both-joined, joins-lt, flip, same-edge, other-end, end-lt, ProtocolState}
 use Rattle.protocol.specs.Prelude.{Both, Decision, GL, GC, DK, Half, waits-find}
-use Rattle.graph.specs.Size.{partSize, size-mono, level-merge}
+use Rattle.graph.specs.laws.Size.{partSize, size-mono, level-merge}
 use Rattle.protocol.specs.Fragments.{Ranges, Levels, Sizes, Cores, Sleepers, Marks, Inbounds}
 use Rattle.protocol.specs.Decisions.{Halves, ChangeRoots, Rootings, Finishes}
 use Rattle.protocol.specs.Search.{Parents, LowOk, Kids, Finds, Tests, Weights}

@@ -3,8 +3,8 @@ use Rattle.protocol.specs.Prelude.{ℕ, _≤_, _<_, arith, _≡_, refl, sym, ap
 use Rattle.protocol.specs.Prelude.{Msg, connect, initiate, test, accept, reject, report, change, Network, Edge, rank, Way, stop, go, up, down, flip, join, hop, wider, ProtocolState}
 use Rattle.protocol.specs.Prelude.{In, Blocked, GL, DK, Inv, waits-find}
 use native.Mathlib.Decide.{ℕ-discrete}
-use Rattle.base.specs.Search.{least, Least}
-use Rattle.graph.specs.Ways.{Any, back}
+use Rattle.base.specs.laws.Search.{least, Least}
+use Rattle.graph.specs.laws.Ways.{Any, back}
 use Rattle.protocol_stuck.specs.Informed.{Stuck, no-changing, no-rooting, all-inf}
 use Rattle.protocol_stuck.specs.Waiting.{lower, half-meets, half-earlier}
 

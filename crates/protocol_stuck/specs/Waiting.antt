@@ -4,7 +4,7 @@ use Rattle.protocol.specs.Prelude.{none, connect, test, report, Network, Edge, 
 use Rattle.protocol.specs.Prelude.{rank, rank-inj, isT, isR, In, some-test, some-report, GL, GC, DK, Inf, Jn, Half, Waits, Inv, down-core, half-of}
 use mathlib.Core.Logic.{Dec·and}
 use native.Mathlib.Decide.{ℕ-discrete}
-use Rattle.base.specs.Search.{best, Best}
+use Rattle.base.specs.laws.Search.{best, Best}
 use Rattle.protocol_stuck.specs.Informed.{Stuck, no-ans, all-inf, stuck-level, not-low}
 
 -- a sum that is not zero has a term that is not

@@ -1,11 +1,8 @@
 -- Calls on bytes, composed of the readers, writers and the builder.
 use Prim.Native.Nat.{ℕ}
 use mathlib.Core.Bool.{cond}
-use mathlib.Core.Path.{_≡_, refl, sym, _∙_}
-use mathlib.Core.Logic.{_≢_}
 use mathlib.Core.List.{List}
 use lib.Dec.{eqb}
-use Rattle.base.specs.Cond.{eqb-diff}
 use Rattle.base.specs.Loop.{After, refusedBy}
 use Rattle.format_frame.specs.Frame.{frameRead, frameWritten}
 use Rattle.plan_file.specs.Reading.{readPlan}
@@ -24,12 +21,3 @@ planCopied s out = unless (readPlan s .refusal) out (writePlan (readPlan s .plan
 
 abbrev pub frameCopied : List ℕ → List ℕ → After (List ℕ)
 frameCopied s out = unless (frameRead s .refusal) out (frameWritten (frameRead s .header) (frameRead s .carried) out)
-
--- the two outcomes
-pub unless-refused : {r s : ℕ} (out : List ℕ) (rest : After (List ℕ)) → r ≡ s → r ≢ 0 → record { answer = r; state = out } ≡ unless s out rest
-unfolding unless
-unless-refused {r} {s} out rest e n = rw (e, eqb-diff s 0 (λ z. n (e ∙ z)))
-
-pub unless-taken : {r s : ℕ} (out : List ℕ) (rest : After (List ℕ)) → r ≡ s → r ≡ 0 → rest ≡ unless s out rest
-unfolding unless
-unless-taken {r} {s} out rest e z = rw (sym e ∙ z) refl

@@ -3,7 +3,7 @@
 use plan::Plan;
 ghost use mathlib.Core.Path.{_≡_};
 ghost use Rattle.format_frame.specs.Frame.{frameWritten};
-ghost use Rattle.plan.specs.Ceiling.{ceiling};
+ghost use Rattle.base.specs.Ceiling.{ceiling};
 ghost use Rattle.plan_file.specs.Writing.{writePlan};
 ghost use Rattle.plan_tree.specs.Tree.{centralTree};
 ghost use Rattle.test_ground.specs.Bytes.{treeOfBytes, planCopied, frameCopied};

@@ -1,1 +1,1 @@
-pub mod Starred
+pub mod laws

@@ -8,7 +8,7 @@ use mathlib.Core.List.{List}
 use lib.ListN.{getD}
 use lib.Dec.{eqb}
 use borrow.Author.Tests.{eq-eqb, ne-eqb, lt-ltb, ltb-true}
-use Rattle.base.specs.Cond.{eqb-cases}
+use Rattle.base.specs.laws.Cond.{eqb-cases}
 use Rattle.base.specs.Limits.{maxLinks, maxEnds}
 use Rattle.plan.specs.Links.{Plan, linksOf, lowerOf, higherOf}
 use Rattle.field.specs.Edges.{isOwn, endOf, marksIn}

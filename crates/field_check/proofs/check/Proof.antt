@@ -7,7 +7,7 @@ use lib.Seq.{length-take-le}
 use borrow.Author.Tests.{not-true, not-false}
 use borrow.Author.Needs.{needs}
 use Rattle.field.specs.Valid.{allOf, fits}
-use Rattle.plan.specs.Accepted.{accepted}
+use Rattle.plan.specs.laws.Accepted.{accepted}
 use Rattle.field_check.specs.Checked.{stateIn, heldIn}
 use Rattle.field_check.proofs.Outcomes.{checked, valid-plan, valid-few, valid-gap, valid-fits}
 use Rattle.field_check.proofs.Words.{front, behind, within}

@@ -70,8 +70,14 @@ add-degrees-2 c =
     let degrees = i .before .loop .degrees in
     let a = h .before .lower .result in
     let b = h .higher .result in
-    omega (arith, getD-set-other degrees a b (getD degrees a 0 + 1) 0 (λ q. omega (arith, both h .0)), small i b (both h .1),
-    i .loop-test .taken, i .before .loop .inv .1, i .before .before .before .pre .0 .linksOk)
+    omega (
+      arith,
+      getD-set-other degrees a b (getD degrees a 0 + 1) 0 (λ q. omega (arith, both h .0)),
+      small i b (both h .1),
+      i .loop-test .taken,
+      i .before .loop .inv .1,
+      i .before .before .before .pre .0 .linksOk,
+    )
 
 element-write-degrees-2 : tie.Need-element-write-degrees-2 Inv-loop μ-loop
 element-write-degrees-2 c = both (c .before .before) .1

@@ -6,7 +6,8 @@ use lib.Dec.{leb}
 use borrow.Author.Tests.{le-leb, lt-leb}
 use borrow.Author.Needs.{needs}
 use Rattle.node.specs.Work.{REJECTED}
-use Rattle.base.specs.Test.{every, every-goes-on, every-stops, every-of-none}
+use Rattle.base.specs.Test.{every}
+use Rattle.base.specs.laws.Test.{every-goes-on, every-stops, every-of-none}
 use Rattle.plan.specs.Links.{linksOf}
 use Rattle.field_check.proofs.marks_fit.Statement.{statement}
 use Rattle.field_check.proofs.marks_fit.Tie as tie

@@ -5,7 +5,8 @@ use borrow.Author.Tests.{not-true, not-false}
 use borrow.Author.Needs.{needs}
 use Rattle.field.specs.Valid.{nodeFits}
 use Rattle.field.specs.State.{nodeIn}
-use Rattle.base.specs.Test.{every, every-goes-on, every-stops, every-of-none}
+use Rattle.base.specs.Test.{every}
+use Rattle.base.specs.laws.Test.{every-goes-on, every-stops, every-of-none}
 use Rattle.plan.specs.Links.{modulesOf}
 use Rattle.field_check.proofs.nodes_fit.Statement.{statement}
 use Rattle.field_check.proofs.nodes_fit.Tie as tie

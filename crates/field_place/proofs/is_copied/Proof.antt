@@ -1,7 +1,7 @@
 use mathlib.Core.Path.{sym, _∙_}
 use borrow.Author.Tests.{not-true, not-false, eq-eqb, ne-eqb}
 use borrow.Author.Needs.{needs}
-use Rattle.node_edges.specs.Laws.{marked-same}
+use Rattle.node_edges.specs.laws.Own.{marked-same}
 use Rattle.field_place.proofs.is_copied.Statement.{statement}
 use Rattle.field_place.proofs.is_copied.Tie as tie
 

@@ -1,7 +1,7 @@
 use native.Mathlib.Omega.{arith}
 use mathlib.Core.Path.{sym, ap}
 use lib.ListN.{length}
-use Rattle.node_response.specs.Laws.{packet-none}
+use Rattle.node_response.specs.laws.Response.{packet-none}
 use Rattle.field_place.proofs.Parts.{packet-some}
 use Rattle.field_place.proofs.one.Statement.{statement}
 use Rattle.field_place.proofs.one.Tie as tie

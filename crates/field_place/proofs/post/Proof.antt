@@ -10,7 +10,7 @@ use Rattle.node_response.specs.Response.{packetMsg}
 use Rattle.field.specs.Held.{layout}
 use Rattle.format_word.specs.Word.{packed}
 use Rattle.format_message.specs.Listed.{Listed}
-use Rattle.node_response.specs.Laws.{packet-none}
+use Rattle.node_response.specs.laws.Response.{packet-none}
 use Rattle.field.specs.State.{wordOf}
 use Rattle.field_place.proofs.Parts.{packet-header, packet-word, packet-some}
 use Rattle.field_place.proofs.Words.{posted-none, posted-one}

@@ -3,7 +3,7 @@ use Prim.Native.Nat.{ℕ, _+_, _≤_}
 use mathlib.Core.Path.{sym, subst}
 use lib.ListN.{length}
 use borrow.Author.Needs.{needs}
-use Rattle.format_message.specs.Means.{Means}
+use Rattle.format_message.specs.laws.Means.{Means}
 use Rattle.format_word.specs.Word.{headerIn, carriedIn}
 use Rattle.field.specs.State.{msgIn}
 use Rattle.field_serve.proofs.Holds.{holds-on}

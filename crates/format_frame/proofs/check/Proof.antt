@@ -2,7 +2,7 @@
 use mathlib.Core.Path.{sym, ap, _∙_}
 use borrow.Author.Needs.{needs}
 use Rattle.format_message.specs.Listed.{listed}
-use Rattle.format_frame.specs.Laws.{by-size, by-version, by-length, by-list, taken}
+use Rattle.format_frame.specs.laws.Frame.{by-size, by-version, by-length, by-list, taken}
 use Rattle.format_frame.proofs.check.Statement.{statement}
 use Rattle.format_frame.proofs.check.Tie as tie
 

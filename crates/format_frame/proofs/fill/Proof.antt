@@ -1,7 +1,7 @@
 -- Six stores, one after the other.
 use native.Mathlib.Omega.{arith}
 use lib.ListN.{length-set}
-use Rattle.format_frame.specs.Laws.{filled}
+use Rattle.format_frame.specs.laws.Frame.{filled}
 use borrow.Author.Needs.{needs}
 use Rattle.format_frame.proofs.fill.Statement.{statement}
 use Rattle.format_frame.proofs.fill.Tie as tie

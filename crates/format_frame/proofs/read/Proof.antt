@@ -2,7 +2,7 @@
 use mathlib.Core.Path.{sym, ap, _∙_}
 use native.Mathlib.Omega.{arith}
 use borrow.Author.Needs.{needs}
-use Rattle.format_frame.specs.Laws.{accepted, read-refused, read-taken}
+use Rattle.format_frame.specs.laws.Frame.{accepted, read-refused, read-taken}
 use Rattle.format_frame.proofs.read.Statement.{statement}
 use Rattle.format_frame.proofs.read.Tie as tie
 

@@ -1,7 +1,7 @@
 -- Each return is what its test settles (`specs/Laws.antt`).
 use mathlib.Core.Path.{sym, _∙_}
 use borrow.Author.Tests.{not-true, not-false}
-use Rattle.format_frame.specs.Laws.{write-unlisted, write-short, write-done}
+use Rattle.format_frame.specs.laws.Frame.{write-unlisted, write-short, write-done}
 use borrow.Author.Needs.{needs}
 use Rattle.format_frame.proofs.write.Statement.{statement}
 use Rattle.format_frame.proofs.write.Tie as tie

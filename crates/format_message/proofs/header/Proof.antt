@@ -1,7 +1,7 @@
 -- The parts lie apart, so that each `|` is a sum.
 use mathlib.Core.Path.{sym, _∙_}
 use borrow.Author.Needs.{needs}
-use Rattle.format_message.specs.Byte.{joined, from-fits, from-kind, from-level, from-find}
+use Rattle.format_message.specs.laws.Byte.{joined, from-fits, from-kind, from-level, from-find}
 use Rattle.format_message.proofs.header.Statement.{statement}
 use Rattle.format_message.proofs.header.Tie as tie
 

@@ -3,7 +3,8 @@ use native.Mathlib.Omega.{arith}
 use mathlib.Core.Path.{_≡_, sym, ap, _∙_}
 use lib.ListN.{length, drop, drop-of-length-le}
 use borrow.Author.Needs.{needs}
-use Rattle.format_text.specs.Put.{page, put, put-none, put-end, put-turn}
+use Rattle.format_text.specs.Put.{page, put}
+use Rattle.format_text.specs.laws.Put.{put-none, put-end, put-turn}
 use Rattle.format_text.proofs.put.Statement.{statement}
 use Rattle.format_text.proofs.put.Tie as tie
 

@@ -1,5 +1,5 @@
 use borrow.Author.Needs.{needs}
-use Rattle.format_text.specs.Put.{put-on}
+use Rattle.format_text.specs.laws.Put.{put-on}
 use Rattle.format_text.proofs.put_line.Statement.{statement}
 use Rattle.format_text.proofs.put_line.Tie as tie
 

@@ -2,7 +2,7 @@ use native.Mathlib.Omega.{arith}
 use mathlib.Core.Path.{ap, _∙_}
 use borrow.Author.Needs.{needs}
 use Rattle.format_text.specs.Put.{put}
-use Rattle.format_text.specs.Decimal.{decimal-digits}
+use Rattle.format_text.specs.laws.Decimal.{decimal-digits}
 use Rattle.format_text.proofs.put_number.Statement.{statement}
 use Rattle.format_text.proofs.put_number.Tie as tie
 

@@ -1,5 +1,5 @@
 -- Each `|` is a sum.
-use Rattle.format_word.specs.Laws.{joined}
+use Rattle.format_word.specs.laws.Word.{joined}
 use Rattle.format_word.proofs.pack.Statement.{statement}
 use Rattle.format_word.proofs.pack.Tie as tie
 

@@ -1,5 +1,5 @@
 use borrow.Author.Needs.{needs}
-use Rattle.host_job.specs.Settled.{not-set, not-woken, all-run}
+use Rattle.host_job.specs.laws.Settled.{not-set, not-woken, all-run}
 use Rattle.host_job.proofs.settle.Statement.{statement}
 use Rattle.host_job.proofs.settle.Tie as tie
 

@@ -2,7 +2,7 @@ use native.Mathlib.Omega.{arith}
 use mathlib.Core.Path.{refl, sym, _∙_}
 use borrow.Author.Needs.{needs}
 use borrow.Author.Tests.{not-false}
-use Rattle.host_schedule.specs.Kinds.{taken-size}
+use Rattle.host_schedule.specs.laws.Kinds.{taken-size}
 use Rattle.host_run.proofs.Alone.{run-31, run-54, run-done}
 use Rattle.host_run.proofs.run.Statement.{statement}
 use Rattle.host_run.proofs.run.Tie as tie

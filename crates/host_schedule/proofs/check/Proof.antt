@@ -1,7 +1,7 @@
 use Prim.Native.Nat.{ℕ, _+_, _/_, _%_}
 use mathlib.Core.Path.{sym, ap, _∙_}
 use borrow.Author.Needs.{needs}
-use Rattle.host_schedule.specs.Kinds.{kindsFrom, short, version, wrong-length, uneven, of-kinds}
+use Rattle.host_schedule.specs.laws.Kinds.{kindsFrom, short, version, wrong-length, uneven, of-kinds}
 use Rattle.host_schedule.proofs.check.Statement.{statement}
 use Rattle.host_schedule.proofs.check.Tie as tie
 

@@ -1,5 +1,5 @@
 use native.Mathlib.Omega.{arith}
-use Rattle.host_schedule.specs.Kinds.{unlisted}
+use Rattle.host_schedule.specs.laws.Kinds.{unlisted}
 use Rattle.host_schedule.proofs.is_kind.Statement.{statement}
 use Rattle.host_schedule.proofs.is_kind.Tie as tie
 

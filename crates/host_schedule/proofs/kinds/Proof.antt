@@ -6,7 +6,7 @@ use borrow.Author.Count.{below-more}
 use borrow.Author.Needs.{needs}
 use borrow.Author.Tests.{not-true, not-false}
 use Rattle.field_calls.specs.Schedule.{kindOf, kindListed}
-use Rattle.host_schedule.specs.Kinds.{kinds-bad, kinds-fine}
+use Rattle.host_schedule.specs.laws.Kinds.{kinds-bad, kinds-fine}
 use Rattle.host_schedule.proofs.kinds.Statement.{statement}
 use Rattle.host_schedule.proofs.kinds.Tie as tie
 

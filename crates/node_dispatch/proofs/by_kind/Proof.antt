@@ -3,8 +3,8 @@ use mathlib.Core.Logic.{⊎-elim}
 use mathlib.Core.Path.{refl, sym, _∙_}
 use native.Mathlib.Omega.{arith}
 use Rattle.field.specs.laws.Edges.{own-below}
-use Rattle.node_response.specs.Laws.{told-as, does-then}
-use Rattle.node_dispatch.specs.Laws.{listed-level, listed-weight, zero-unlisted, rest-unlisted, hears, as-deaf, as-connect, as-initiate, as-test, as-accept, as-reject, as-report, as-change, msg-initiate}
+use Rattle.node_response.specs.laws.Response.{told-as, does-then}
+use Rattle.node_dispatch.specs.laws.Dispatch.{listed-level, listed-weight, zero-unlisted, rest-unlisted, hears, as-deaf, as-connect, as-initiate, as-test, as-accept, as-reject, as-report, as-change, msg-initiate}
 use Rattle.node_dispatch.proofs.by_kind.Statement.{statement}
 use Rattle.node_dispatch.proofs.by_kind.Tie as tie
 

@@ -1,6 +1,6 @@
 use borrow.Author.Needs.{needs}
-use Rattle.node_response.specs.Laws.{from-begun}
-use Rattle.node_dispatch.specs.Laws.{begun-fresh}
+use Rattle.node_response.specs.laws.Response.{from-begun}
+use Rattle.node_dispatch.specs.laws.Dispatch.{begun-fresh}
 use Rattle.node_dispatch.proofs.respond.Statement.{statement}
 use Rattle.node_dispatch.proofs.respond.Tie as tie
 

@@ -1,7 +1,7 @@
 use borrow.Author.Needs.{needs}
 use mathlib.Core.List.{[]}
-use Rattle.node_response.specs.Laws.{from-begun}
-use Rattle.node_dispatch.specs.Laws.{begun-fresh}
+use Rattle.node_response.specs.laws.Response.{from-begun}
+use Rattle.node_dispatch.specs.laws.Dispatch.{begun-fresh}
 use Rattle.node_dispatch.proofs.wakeup.Statement.{statement}
 use Rattle.node_dispatch.proofs.wakeup.Tie as tie
 

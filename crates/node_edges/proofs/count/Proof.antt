@@ -5,7 +5,7 @@ use native.Mathlib.Omega.{arith}
 use Rattle.plan.specs.Links.{linksOf}
 use Rattle.field.specs.Edges.{ownOf, marksIn}
 use Rattle.node.specs.Work.{number}
-use Rattle.node_edges.specs.Laws.{number-turn, number-end}
+use Rattle.node_edges.specs.laws.Own.{number-turn, number-end}
 use Rattle.node_edges.specs.Own.{counted}
 use Rattle.node_edges.proofs.count.Statement.{statement}
 use Rattle.node_edges.proofs.count.Tie as tie

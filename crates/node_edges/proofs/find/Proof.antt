@@ -8,7 +8,7 @@ use Rattle.base.specs.Limits.{maxLinks}
 use Rattle.plan.specs.Links.{linksOf}
 use Rattle.field.specs.Edges.{ownOf, marksIn}
 use Rattle.node.specs.Work.{earliest}
-use Rattle.node_edges.specs.Laws.{earliest-turn, earliest-end}
+use Rattle.node_edges.specs.laws.Own.{earliest-turn, earliest-end}
 use Rattle.node_edges.specs.Own.{marked, looked}
 use Rattle.node_edges.proofs.find.Statement.{statement}
 use Rattle.node_edges.proofs.find.Tie as tie

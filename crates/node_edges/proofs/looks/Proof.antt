@@ -3,7 +3,7 @@ use borrow.Author.Needs.{needs}
 use borrow.Author.Tests.{not-true, not-false}
 use lib.Dec.{eqb}
 use mathlib.Core.Path.{sym, _∙_, ap}
-use Rattle.node_edges.specs.Laws.{looks-not, looks-all, looks-basic}
+use Rattle.node_edges.specs.laws.Own.{looks-not, looks-all, looks-basic}
 use Rattle.node_edges.proofs.looks.Statement.{statement}
 use Rattle.node_edges.proofs.looks.Tie as tie
 

@@ -4,7 +4,7 @@ use lib.ListN.{getD}
 use mathlib.Core.Path.{sym, _∙_, ap}
 use native.Mathlib.Omega.{arith}
 use Rattle.field.specs.laws.Edges.{end-small, mark-own}
-use Rattle.node_edges.specs.Laws.{marked-here, marked-other}
+use Rattle.node_edges.specs.laws.Own.{marked-here, marked-other}
 use Rattle.node_edges.proofs.mark_of.Statement.{statement}
 use Rattle.node_edges.proofs.mark_of.Tie as tie
 

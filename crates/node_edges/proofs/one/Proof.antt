@@ -2,7 +2,7 @@ use borrow.Author.Needs.{needs}
 use borrow.Author.Tests.{not-true, not-false}
 use mathlib.Core.Path.{sym, _∙_}
 use native.Mathlib.Omega.{arith}
-use Rattle.node_edges.specs.Laws.{counts-not, counts-all, counts-self, counts-branch, counts-other, marked-same}
+use Rattle.node_edges.specs.laws.Own.{counts-not, counts-all, counts-self, counts-branch, counts-other, marked-same}
 use Rattle.node_edges.proofs.one.Statement.{statement}
 use Rattle.node_edges.proofs.one.Tie as tie
 

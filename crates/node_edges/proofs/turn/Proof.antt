@@ -3,7 +3,7 @@ use borrow.Author.Tests.{not-true, not-false}
 use mathlib.Core.Logic.{inl}
 use mathlib.Core.Path.{sym, _∙_}
 use native.Mathlib.Omega.{arith}
-use Rattle.node_edges.specs.Laws.{pick-not, pick-late, pick-new}
+use Rattle.node_edges.specs.laws.Own.{pick-not, pick-late, pick-new}
 use Rattle.node_edges.proofs.turn.Statement.{statement}
 use Rattle.node_edges.proofs.turn.Tie as tie
 

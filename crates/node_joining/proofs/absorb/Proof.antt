@@ -1,8 +1,8 @@
 use borrow.Author.Needs.{needs}
 use mathlib.Core.Path.{sym, _∙_}
 use native.Mathlib.Omega.{arith}
-use Rattle.node.specs.Laws.{absorb-find, absorb-found, count-refused, count-rises}
-use Rattle.node_response.specs.Laws.{told-as, does-then, sets-node}
+use Rattle.node.specs.laws.Rules.{absorb-find, absorb-found, count-refused, count-rises}
+use Rattle.node_response.specs.laws.Response.{told-as, does-then, sets-node}
 use Rattle.node_joining.proofs.absorb.Statement.{statement}
 use Rattle.node_joining.proofs.absorb.Tie as tie
 

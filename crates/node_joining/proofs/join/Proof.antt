@@ -1,6 +1,6 @@
 use borrow.Author.Needs.{needs}
 use mathlib.Core.Path.{refl}
-use Rattle.node_response.specs.Laws.{told-as, does-then, marks-edge}
+use Rattle.node_response.specs.laws.Response.{told-as, does-then, marks-edge}
 use Rattle.node_joining.proofs.join.Statement.{statement}
 use Rattle.node_joining.proofs.join.Tie as tie
 

@@ -3,8 +3,8 @@ use mathlib.Core.Logic.{⊎-elim}
 use mathlib.Core.Path.{sym, _∙_}
 use native.Mathlib.Omega.{arith}
 use Rattle.field.specs.laws.Edges.{own-below}
-use Rattle.node.specs.Laws.{connect-absorbed, connect-waits, connect-core}
-use Rattle.node_response.specs.Laws.{told-as}
+use Rattle.node.specs.laws.Rules.{connect-absorbed, connect-waits, connect-core}
+use Rattle.node_response.specs.laws.Response.{told-as}
 use Rattle.node_joining.proofs.on_connect.Statement.{statement}
 use Rattle.node_joining.proofs.on_connect.Tie as tie
 

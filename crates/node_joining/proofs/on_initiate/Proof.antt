@@ -1,9 +1,9 @@
 use borrow.Author.Needs.{needs}
 use mathlib.Core.Path.{sym, _∙_}
 use native.Mathlib.Omega.{arith}
-use Rattle.node.specs.Laws.{initiate-found}
-use Rattle.node_response.specs.Laws.{told-as, does-then, sets-node}
-use Rattle.node_joining.specs.Copies.{tell-find, tell-found, initiate-refused, initiate-searches}
+use Rattle.node.specs.laws.Rules.{initiate-found}
+use Rattle.node_response.specs.laws.Response.{told-as, does-then, sets-node}
+use Rattle.node_joining.specs.laws.Copies.{tell-find, tell-found, initiate-refused, initiate-searches}
 use Rattle.node_joining.proofs.on_initiate.Statement.{statement}
 use Rattle.node_joining.proofs.on_initiate.Tie as tie
 

@@ -2,9 +2,9 @@ use borrow.Author.Needs.{needs}
 use mathlib.Core.Path.{sym, _∙_}
 use native.Mathlib.Omega.{arith}
 use Rattle.field.specs.laws.Edges.{own-below}
-use Rattle.node.specs.Laws.{root-refused, root-told, root-connects}
-use Rattle.node_response.specs.Laws.{told-as, does-then, marks-edge}
-use Rattle.node_procedures.specs.Laws.{other-case}
+use Rattle.node.specs.laws.Rules.{root-refused, root-told, root-connects}
+use Rattle.node_response.specs.laws.Response.{told-as, does-then, marks-edge}
+use Rattle.node_procedures.specs.laws.Procedures.{other-case}
 use Rattle.node_procedures.proofs.change_root.Statement.{statement}
 use Rattle.node_procedures.proofs.change_root.Tie as tie
 

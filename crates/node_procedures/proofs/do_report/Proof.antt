@@ -1,8 +1,8 @@
 use borrow.Author.Needs.{needs}
 use mathlib.Core.Path.{sym}
-use Rattle.node.specs.Laws.{report-counts, report-tests, report-refused, report-sends}
+use Rattle.node.specs.laws.Rules.{report-counts, report-tests, report-refused, report-sends}
 use Rattle.node.specs.Rules.{doReport}
-use Rattle.node_response.specs.Laws.{does-nothing, told-as, does-then, sets-node}
+use Rattle.node_response.specs.laws.Response.{does-nothing, told-as, does-then, sets-node}
 use Rattle.node_procedures.proofs.do_report.Statement.{statement}
 use Rattle.node_procedures.proofs.do_report.Tie as tie
 

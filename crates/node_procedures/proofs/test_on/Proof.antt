@@ -1,7 +1,7 @@
 use borrow.Author.Needs.{needs}
 use mathlib.Core.Path.{sym}
-use Rattle.node.specs.Laws.{test-over, test-refused, test-sends}
-use Rattle.node_response.specs.Laws.{told-as, does-then, sets-node}
+use Rattle.node.specs.laws.Rules.{test-over, test-refused, test-sends}
+use Rattle.node_response.specs.laws.Response.{told-as, does-then, sets-node}
 use Rattle.node_procedures.proofs.test_on.Statement.{statement}
 use Rattle.node_procedures.proofs.test_on.Tie as tie
 

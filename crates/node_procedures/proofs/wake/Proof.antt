@@ -1,6 +1,6 @@
 use borrow.Author.Needs.{needs}
-use Rattle.node_response.specs.Laws.{told-as}
-use Rattle.node_procedures.specs.Laws.{wake-same}
+use Rattle.node_response.specs.laws.Response.{told-as}
+use Rattle.node_procedures.specs.laws.Procedures.{wake-same}
 use Rattle.node_procedures.proofs.wake.Statement.{statement}
 use Rattle.node_procedures.proofs.wake.Tie as tie
 

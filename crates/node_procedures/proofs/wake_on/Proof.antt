@@ -3,9 +3,9 @@ use borrow.Author.Needs.{needs}
 use mathlib.Core.List.{[]}
 use mathlib.Core.Path.{refl, sym, ap}
 use Rattle.format_message.specs.Msg.{connect}
-use Rattle.node.specs.Laws.{wake-alone, wake-edge}
+use Rattle.node.specs.laws.Rules.{wake-alone, wake-edge}
 use Rattle.node.specs.Work.{Work}
-use Rattle.node_response.specs.Laws.{told-as, does-then, sets-node, marks-edge}
+use Rattle.node_response.specs.laws.Response.{told-as, does-then, sets-node, marks-edge}
 use Rattle.node_procedures.proofs.wake_on.Statement.{statement}
 use Rattle.node_procedures.proofs.wake_on.Tie as tie
 

@@ -1,9 +1,9 @@
 use borrow.Author.Needs.{needs}
 use mathlib.Core.Logic.{inl, inr}
 use mathlib.Core.Path.{sym}
-use Rattle.node.specs.Laws.{awake-wakes, awake-is}
+use Rattle.node.specs.laws.Rules.{awake-wakes, awake-is}
 use Rattle.node.specs.Rules.{awake}
-use Rattle.node_response.specs.Laws.{told-as, does-nothing}
+use Rattle.node_response.specs.laws.Response.{told-as, does-nothing}
 use Rattle.node_procedures.proofs.wakened.Statement.{statement}
 use Rattle.node_procedures.proofs.wakened.Tie as tie
 

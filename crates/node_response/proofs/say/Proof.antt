@@ -1,4 +1,4 @@
-use Rattle.node_response.specs.Laws.{says-first, says-second}
+use Rattle.node_response.specs.laws.Response.{says-first, says-second}
 use Rattle.node_response.proofs.say.Statement.{statement}
 use Rattle.node_response.proofs.say.Tie as tie
 

@@ -1,6 +1,6 @@
 use borrow.Author.Needs.{needs}
 use mathlib.Core.Path.{sym, _∙_}
-use Rattle.node_searching.specs.Laws.{better-new, better-old}
+use Rattle.node_searching.specs.laws.Searching.{better-new, better-old}
 use Rattle.node_searching.proofs.better.Statement.{statement}
 use Rattle.node_searching.proofs.better.Tie as tie
 

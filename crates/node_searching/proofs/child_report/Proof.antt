@@ -1,9 +1,9 @@
 use borrow.Author.Needs.{needs}
 use mathlib.Core.Path.{sym, _∙_}
-use Rattle.node.specs.Laws.{child-refused, child-reports}
+use Rattle.node.specs.laws.Rules.{child-refused, child-reports}
 use Rattle.node_response.specs.Response.{workOf}
-use Rattle.node_response.specs.Laws.{told-as, does-then, sets-node}
-use Rattle.node_searching.specs.Laws.{report-with}
+use Rattle.node_response.specs.laws.Response.{told-as, does-then, sets-node}
+use Rattle.node_searching.specs.laws.Searching.{report-with}
 use Rattle.node_searching.proofs.child_report.Statement.{statement}
 use Rattle.node_searching.proofs.child_report.Tie as tie
 

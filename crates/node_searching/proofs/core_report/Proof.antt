@@ -1,8 +1,8 @@
 use borrow.Author.Needs.{needs}
 use mathlib.Core.Path.{sym, _∙_}
-use Rattle.node.specs.Laws.{core-decides, core-edge, core-idle, core-halts}
+use Rattle.node.specs.laws.Rules.{core-decides, core-edge, core-idle, core-halts}
 use Rattle.node.specs.Rules.{coreReport}
-use Rattle.node_response.specs.Laws.{told-as, does-nothing, sets-node}
+use Rattle.node_response.specs.laws.Response.{told-as, does-nothing, sets-node}
 use Rattle.node_searching.proofs.core_report.Statement.{statement}
 use Rattle.node_searching.proofs.core_report.Tie as tie
 

@@ -1,8 +1,8 @@
 use borrow.Author.Needs.{needs}
 use mathlib.Core.Logic.{inl}
 use Rattle.node_response.specs.Response.{workOf}
-use Rattle.node_response.specs.Laws.{told-as, does-then, sets-node}
-use Rattle.node_searching.specs.Laws.{report-with}
+use Rattle.node_response.specs.laws.Response.{told-as, does-then, sets-node}
+use Rattle.node_searching.specs.laws.Searching.{report-with}
 use Rattle.node_searching.proofs.on_accept.Statement.{statement}
 use Rattle.node_searching.proofs.on_accept.Tie as tie
 

@@ -1,5 +1,5 @@
 use mathlib.Core.Path.{ap, _∙_}
-use Rattle.node_response.specs.Laws.{does-then}
+use Rattle.node_response.specs.laws.Response.{does-then}
 use Rattle.node_response.specs.declared.Packet.{Packet}
 use Rattle.node_searching.proofs.on_reject.Statement.{statement}
 use Rattle.node_searching.proofs.on_reject.Tie as tie

@@ -1,7 +1,7 @@
 use borrow.Author.Needs.{needs}
 use mathlib.Core.Path.{sym}
-use Rattle.node.specs.Laws.{report-child, report-waits, report-core}
-use Rattle.node_response.specs.Laws.{told-as}
+use Rattle.node.specs.laws.Rules.{report-child, report-waits, report-core}
+use Rattle.node_response.specs.laws.Response.{told-as}
 use Rattle.node_searching.proofs.on_report.Statement.{statement}
 use Rattle.node_searching.proofs.on_report.Tie as tie
 

@@ -3,8 +3,8 @@ use mathlib.Core.Logic.{⊎-elim}
 use mathlib.Core.Path.{sym, ap, _∙_}
 use native.Mathlib.Omega.{arith}
 use Rattle.field.specs.laws.Edges.{own-below}
-use Rattle.node.specs.Laws.{test-waits, test-accepted, test-crossed, test-rejected}
-use Rattle.node_response.specs.Laws.{told-as, does-then}
+use Rattle.node.specs.laws.Rules.{test-waits, test-accepted, test-crossed, test-rejected}
+use Rattle.node_response.specs.laws.Response.{told-as, does-then}
 use Rattle.node_response.specs.declared.Packet.{Packet}
 use Rattle.node_searching.proofs.on_test.Statement.{statement}
 use Rattle.node_searching.proofs.on_test.Tie as tie

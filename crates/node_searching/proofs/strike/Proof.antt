@@ -6,8 +6,8 @@ use mathlib.Core.Path.{refl, ap, _∙_}
 use native.Mathlib.Omega.{arith}
 use Rattle.field.specs.laws.Edges.{own-below}
 use Rattle.node.specs.Work.{BASIC, REJECTED}
-use Rattle.node_response.specs.Laws.{told-as, marks-edge}
-use Rattle.node_searching.specs.Laws.{strike-with}
+use Rattle.node_response.specs.laws.Response.{told-as, marks-edge}
+use Rattle.node_searching.specs.laws.Searching.{strike-with}
 use Rattle.node_searching.proofs.strike.Statement.{statement}
 use Rattle.node_searching.proofs.strike.Tie as tie
 

@@ -1,5 +1,5 @@
 use mathlib.Core.Path.{sym}
-use Rattle.node_searching.specs.Laws.{struck-basic, struck-other}
+use Rattle.node_searching.specs.laws.Searching.{struck-basic, struck-other}
 use Rattle.node_searching.proofs.struck.Statement.{statement}
 use Rattle.node_searching.proofs.struck.Tie as tie
 

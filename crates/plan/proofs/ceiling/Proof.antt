@@ -1,5 +1,5 @@
 use native.Mathlib.Omega.{arith}
-use Rattle.base.specs.Ceiling.{first-term-fits}
+use Rattle.base.specs.laws.Ceiling.{first-term-fits}
 use borrow.Author.Needs.{needs}
 use Rattle.plan.proofs.ceiling.Statement.{statement}
 use Rattle.plan.proofs.ceiling.Tie as tie

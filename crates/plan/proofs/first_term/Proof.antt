@@ -2,7 +2,7 @@ use Prim.Native.Nat.{ℕ, _*_, _^_, _≤_, _<_}
 use native.Mathlib.Omega.{arith}
 use mathlib.Core.Path.{_≡_}
 use Rattle.base.specs.Log.{log2}
-use Rattle.base.specs.Ceiling.{first-term-fits}
+use Rattle.base.specs.laws.Ceiling.{first-term-fits}
 use borrow.Author.Needs.{needs}
 use Rattle.plan.proofs.first_term.Statement.{statement}
 use Rattle.plan.proofs.first_term.Tie as tie

@@ -1,5 +1,6 @@
 use native.Mathlib.Omega.{arith}
-use Rattle.base.specs.Log.{log2, leading}
+use Rattle.base.specs.Log.{log2}
+use Rattle.base.specs.laws.Log.{leading}
 use borrow.Author.Needs.{needs}
 use Rattle.plan.proofs.floor_log2.Statement.{statement}
 use Rattle.plan.proofs.floor_log2.Tie as tie

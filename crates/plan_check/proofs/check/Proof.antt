@@ -2,7 +2,7 @@ use mathlib.Core.Path.{_≡_, sym, _∙_}
 use mathlib.Core.Bool.{true}
 use Rattle.plan.specs.Links.{modulesOf, linksOf}
 use Rattle.plan.specs.Refusal.{countsRefusal}
-use Rattle.plan.specs.Accepted.{Counts}
+use Rattle.plan.specs.laws.Accepted.{Counts}
 use Rattle.plan_check.proofs.Verdict.{p-counts, c-limits, p-link, p-fine, p-apart, ends-inside}
 use borrow.Author.Needs.{needs}
 use Rattle.plan_check.proofs.check.Statement.{statement}

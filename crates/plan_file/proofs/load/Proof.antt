@@ -1,5 +1,5 @@
 use mathlib.Core.Path.{sym, _∙_}
-use Rattle.plan_file.specs.Head.{head-ok}
+use Rattle.plan_file.specs.laws.Head.{head-ok}
 use Rattle.plan_file.proofs.Answers.{load-head, load-plan}
 use borrow.Author.Needs.{needs}
 use Rattle.plan_file.proofs.load.Statement.{statement}

@@ -4,7 +4,8 @@ use native.Mathlib.Omega.{arith}
 use native.Mathlib.Numerals.{add-one}
 use mathlib.Core.Path.{_≡_, _∙_}
 use Rattle.base.specs.Limits.{maxModules}
-use Rattle.base.specs.Table.{tabulate, length-tabulate}
+use Rattle.base.specs.Table.{tabulate}
+use Rattle.base.specs.laws.Table.{length-tabulate}
 use Rattle.graph.specs.Decide.{label}
 use Rattle.plan.specs.Links.{linksOf, lowerOf, higherOf, graphOf}
 use Rattle.plan_labels.proofs.Laws.{all, merge-turn}

@@ -5,7 +5,8 @@ use native.Mathlib.Numerals.{add-one}
 use mathlib.Core.Path.{_≡_, refl, _∙_}
 use lib.ListN.{getD}
 use Rattle.base.specs.Limits.{maxModules}
-use Rattle.base.specs.Table.{tabulate, upto, fill-start, fill-turn, fill-end}
+use Rattle.base.specs.Table.{tabulate, upto}
+use Rattle.base.specs.laws.Table.{fill-start, fill-turn, fill-end}
 use borrow.Author.Needs.{needs}
 use Rattle.plan_labels.proofs.number.Statement.{statement}
 use Rattle.plan_labels.proofs.number.Tie as tie

@@ -1,6 +1,7 @@
 -- The first v labels are renamed, the others as they were.
 use mathlib.Core.Path.{ap, _≡_, refl, _∙_}
-use Rattle.base.specs.Table.{fill-next, tabulate, upto, fill-start, fill-turn, fill-end}
+use Rattle.base.specs.Table.{tabulate, upto}
+use Rattle.base.specs.laws.Table.{fill-next, fill-start, fill-turn, fill-end}
 use Prim.Native.Nat.{_≤_, _-_}
 use native.Mathlib.Omega.{arith}
 use native.Mathlib.Numerals.{add-one}

@@ -1,6 +1,7 @@
 use mathlib.Core.Path.{sym}
 use borrow.Author.Tests.{ne-eqb}
-use Rattle.graph.specs.Labels.{rename, rename-from}
+use Rattle.graph.specs.Labels.{rename}
+use Rattle.graph.specs.laws.Labels.{rename-from}
 use Rattle.plan_labels.proofs.renamed.Statement.{statement}
 use Rattle.plan_labels.proofs.renamed.Tie as tie
 

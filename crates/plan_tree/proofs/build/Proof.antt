@@ -3,8 +3,8 @@ use borrow.Author.Needs.{needs}
 use lib.ListN.{length}
 use Rattle.plan.specs.Links.{linksOf}
 use Rattle.plan.specs.Refusal.{planRefusal}
-use Rattle.plan.specs.Accepted.{accepted}
-use Rattle.plan_tree.specs.Laws.{refused-plan, refused-size, built, exact-bytes, accepted-ends}
+use Rattle.plan.specs.laws.Accepted.{accepted}
+use Rattle.plan_tree.specs.laws.Tree.{refused-plan, refused-size, built, exact-bytes, accepted-ends}
 use Rattle.plan_tree.proofs.build.Statement.{statement}
 use Rattle.plan_tree.proofs.build.Tie as tie
 

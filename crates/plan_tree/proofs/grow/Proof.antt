@@ -2,7 +2,7 @@ use mathlib.Core.Path.{_∙_}
 use native.Mathlib.Omega.{arith}
 use borrow.Author.Needs.{needs}
 use Rattle.plan.specs.Links.{graphOf}
-use Rattle.plan_tree.specs.Forest.{start}
+use Rattle.plan_tree.specs.laws.Forest.{start}
 use Rattle.plan_tree.proofs.Joins.{own-label, own-parts}
 use Rattle.plan_tree.proofs.grow.Statement.{statement}
 use Rattle.plan_tree.proofs.grow.Tie as tie

@@ -1,7 +1,7 @@
 use native.Mathlib.Omega.{arith}
 use borrow.Author.Needs.{needs}
 use Rattle.base.specs.Limits.{maxModules}
-use Rattle.base.specs.Table.{length-tabulate}
+use Rattle.base.specs.laws.Table.{length-tabulate}
 use Rattle.plan.specs.Links.{graphOf}
 use Rattle.plan_tree.proofs.Joins.{joined}
 use Rattle.plan_tree.proofs.join.Statement.{statement}

@@ -5,7 +5,7 @@ use borrow.Author.Needs.{needs}
 use lib.ListN.{length}
 use Rattle.base.specs.Limits.{maxModules}
 use Rattle.plan.specs.Links.{graphOf}
-use Rattle.plan_tree.specs.Forest.{grows-none}
+use Rattle.plan_tree.specs.laws.Forest.{grows-none}
 use Rattle.plan_tree.specs.Lent.{TakesTo}
 use Rattle.plan_tree.proofs.Joins.{takes-next}
 use Rattle.plan_tree.proofs.join_all.Statement.{statement}

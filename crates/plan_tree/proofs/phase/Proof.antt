@@ -1,7 +1,7 @@
 use borrow.Author.Needs.{needs}
 use Rattle.plan.specs.Links.{graphOf}
 use Rattle.plan.specs.Weights.{earlier}
-use Rattle.plan_tree.specs.Phase.{first-bound}
+use Rattle.plan_tree.specs.laws.Phase.{first-bound}
 use Rattle.plan_tree.proofs.Offers.{firsts-none}
 use Rattle.plan_tree.proofs.Joins.{phased}
 use Rattle.plan_tree.proofs.phase.Statement.{statement}

@@ -1,9 +1,10 @@
 use mathlib.Core.Path.{_≡_, refl, _∙_}
 use lib.ListN.{length}
 use Rattle.plan.specs.Links.{graphOf}
-use Rattle.plan.specs.Weights.{orderOf, earlier}
-use Rattle.plan_tree.specs.Forest.{Forest, finished}
-use Rattle.plan_tree.specs.Phase.{apart}
+use Rattle.plan.specs.Weights.{earlier}
+use Rattle.plan.specs.laws.Weights.{orderOf}
+use Rattle.plan_tree.specs.laws.Forest.{Forest, finished}
+use Rattle.plan_tree.specs.laws.Phase.{apart}
 use Rattle.plan_tree.specs.Lent.{at, Parts}
 use Rattle.plan_tree.proofs.phases.Statement.{statement}
 use Rattle.plan_tree.proofs.phases.Tie as tie

@@ -4,7 +4,7 @@ use mathlib.Core.Path.{_≡_, ap, subst, _∙_}
 use borrow.Author.Needs.{needs}
 use Rattle.base.specs.Sum.{sum}
 use Rattle.plan.specs.Links.{linksOf, graphOf}
-use Rattle.plan_tree.specs.Phase.{apartAt, apart-le, apart-most}
+use Rattle.plan_tree.specs.laws.Phase.{apartAt, apart-le, apart-most}
 use Rattle.plan_tree.specs.Lent.{at, Firsts}
 use Rattle.plan_tree.proofs.Laws.{sum-next}
 use Rattle.plan_tree.proofs.scan.Statement.{statement}

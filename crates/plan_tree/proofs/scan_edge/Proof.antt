@@ -4,7 +4,7 @@ use mathlib.Core.Path.{_≡_, sym, ap, _∙_}
 use borrow.Author.Needs.{needs}
 use Rattle.base.specs.Limits.{maxModules}
 use Rattle.plan.specs.Links.{lowerOf, higherOf, graphOf}
-use Rattle.plan_tree.specs.Phase.{apart-inside, apart-leaves}
+use Rattle.plan_tree.specs.laws.Phase.{apart-inside, apart-leaves}
 use Rattle.plan_tree.specs.Lent.{at}
 use Rattle.plan_tree.proofs.Offers.{held, held-once, skipped, offered}
 use Rattle.plan_tree.proofs.scan_edge.Statement.{statement}

@@ -1,6 +1,6 @@
 use mathlib.Core.Path.{sym, _∙_}
 use mathlib.Core.Logic.{⊎-elim}
-use Rattle.plan_tree.specs.Phase.{sooner-none, sooner-new, sooner-old}
+use Rattle.plan_tree.specs.laws.Phase.{sooner-none, sooner-new, sooner-old}
 use Rattle.plan_tree.proofs.sooner.Statement.{statement}
 use Rattle.plan_tree.proofs.sooner.Tie as tie
 

@@ -1,10 +1,10 @@
 use native.Mathlib.Omega.{arith}
 use mathlib.Core.Path.{_∙_}
 use borrow.Author.Needs.{needs}
-use Rattle.format_text.specs.Input.{of-input}
-use Rattle.format_text.specs.Put.{whole-text}
-use Rattle.program_report.specs.Fits.{reported-fits}
-use Rattle.program_report.specs.Long.{long-refused}
+use Rattle.format_text.specs.laws.Input.{of-input}
+use Rattle.format_text.specs.laws.Put.{whole-text}
+use Rattle.program_report.specs.laws.Fits.{reported-fits}
+use Rattle.program_report.specs.laws.Long.{long-refused}
 use Rattle.program_report.proofs.main.Statement.{statement}
 use Rattle.program_report.proofs.main.Tie as tie
 

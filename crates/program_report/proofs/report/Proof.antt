@@ -7,8 +7,8 @@ use borrow.Author.Needs.{needs}
 use Rattle.base.specs.Limits.{maxWords}
 use Rattle.format_text.specs.Put.{put}
 use Rattle.field.specs.Edges.{ceilingOf}
-use Rattle.program_report.specs.Reported.{plan-refused, plan-taken}
-use Rattle.program_report.specs.Fits.{read-small, zeros-front}
+use Rattle.program_report.specs.laws.Reported.{plan-refused, plan-taken}
+use Rattle.program_report.specs.laws.Fits.{read-small, zeros-front}
 use Rattle.program_report.proofs.report.Statement.{statement}
 use Rattle.program_report.proofs.report.Tie as tie
 

@@ -1,7 +1,7 @@
 use mathlib.Core.Path.{sym, ap, _∙_}
 use borrow.Author.Needs.{needs}
 use Rattle.format_text.specs.Put.{put}
-use Rattle.program_report.specs.Reported.{settled-refused, settled-shown}
+use Rattle.program_report.specs.laws.Reported.{settled-refused, settled-shown}
 use Rattle.program_report.proofs.settled.Statement.{statement}
 use Rattle.program_report.proofs.settled.Tie as tie
 

@@ -3,8 +3,9 @@ use lib.Seq.{length-take-le}
 use borrow.Author.Needs.{needs}
 use Rattle.field_check.proofs.Words.{front, within}
 use Rattle.format_text.specs.Put.{put}
-use Rattle.plan.specs.Accepted.{accepted}
-use Rattle.program_trace.specs.Text.{headText, wordsText, ran-parts}
+use Rattle.plan.specs.laws.Accepted.{accepted}
+use Rattle.program_trace.specs.Text.{headText, wordsText}
+use Rattle.program_trace.specs.laws.Text.{ran-parts}
 use Rattle.program_trace.proofs.follow.Statement.{statement}
 use Rattle.program_trace.proofs.follow.Tie as tie
 

@@ -1,10 +1,10 @@
 use native.Mathlib.Omega.{arith}
 use mathlib.Core.Path.{_∙_}
 use borrow.Author.Needs.{needs}
-use Rattle.format_text.specs.Input.{of-input}
-use Rattle.format_text.specs.Put.{whole-text}
-use Rattle.program_trace.specs.Fits.{traced-fits}
-use Rattle.program_trace.specs.Long.{long-same}
+use Rattle.format_text.specs.laws.Input.{of-input}
+use Rattle.format_text.specs.laws.Put.{whole-text}
+use Rattle.program_trace.specs.laws.Fits.{traced-fits}
+use Rattle.program_trace.specs.laws.Long.{long-same}
 use Rattle.program_trace.proofs.main.Statement.{statement}
 use Rattle.program_trace.proofs.main.Tie as tie
 

@@ -6,9 +6,9 @@ use borrow.Author.Needs.{needs}
 use Rattle.base.specs.Limits.{maxWords}
 use Rattle.format_text.specs.Put.{put}
 use Rattle.plan.specs.Refusal.{planRefusal}
-use Rattle.plan.specs.Ceiling.{ceiling-small}
-use Rattle.plan_file.specs.RoundTrip.{read-taken}
-use Rattle.program_trace.specs.Traced.{traced-refused, traced-ran}
+use Rattle.plan.specs.laws.Ceiling.{ceiling-small}
+use Rattle.plan_file.specs.laws.RoundTrip.{read-taken}
+use Rattle.program_trace.specs.laws.Traced.{traced-refused, traced-ran}
 use Rattle.program_trace.proofs.trace.Statement.{statement}
 use Rattle.program_trace.proofs.trace.Tie as tie
 

@@ -2,7 +2,7 @@
 use mathlib.Core.Path.{ap, _∙_}
 use borrow.Author.Needs.{needs}
 use Rattle.format_frame.specs.Frame.{frameWritten}
-use Rattle.test_ground.specs.Bytes.{unless-refused, unless-taken}
+use Rattle.test_ground.specs.laws.Bytes.{unless-refused, unless-taken}
 use Rattle.test_ground.proofs.muruapy_test_frame_copy.Statement.{statement}
 use Rattle.test_ground.proofs.muruapy_test_frame_copy.Tie as tie
 

@@ -2,7 +2,7 @@
 use mathlib.Core.Path.{ap, _∙_}
 use borrow.Author.Needs.{needs}
 use Rattle.plan_file.specs.Writing.{writePlan}
-use Rattle.test_ground.specs.Bytes.{unless-refused, unless-taken}
+use Rattle.test_ground.specs.laws.Bytes.{unless-refused, unless-taken}
 use Rattle.test_ground.proofs.muruapy_test_plan_copy.Statement.{statement}
 use Rattle.test_ground.proofs.muruapy_test_plan_copy.Tie as tie
 

@@ -3,7 +3,7 @@ use native.Mathlib.Omega.{arith}
 use mathlib.Core.Path.{_≡_, refl}
 use borrow.Author.Needs.{needs}
 use Rattle.field_calls.specs.Schedule.{stepsIn, stepAt, never}
-use Rattle.host_schedule.specs.Kinds.{taken-size}
+use Rattle.host_schedule.specs.laws.Kinds.{taken-size}
 use Rattle.field_serve.proofs.Going.{Going, not-gone, goes-on, goes-off, goes-over}
 use Rattle.host_run.proofs.Dispatch.{read-step}
 use Rattle.host_run.proofs.steps.steps.Statement.{statement}

@@ -7,7 +7,8 @@ use mathlib.Core.List.{List}
 use mathlib.Core.Bool.{Bool}
 use lib.Dec.{eqb}
 use lib.ListN.{getD}
-use Rattle.base.specs.Test.{every, every-of-none, every-goes-on, every-stops}
+use Rattle.base.specs.Test.{every}
+use Rattle.base.specs.laws.Test.{every-of-none, every-goes-on, every-stops}
 use borrow.Author.Needs.{needs}
 use Rattle.plan_check.proofs.parts.one_part.Statement.{statement}
 use Rattle.plan_check.proofs.parts.one_part.Tie as tie

@@ -1,8 +1,10 @@
 use mathlib.Core.Path.{sym, ap, _∙_}
 use mathlib.Core.List.{_++_}
 use borrow.Author.Needs.{needs}
-use Rattle.format_text.specs.Put.{put, put-none, put-on}
-use Rattle.program_report.specs.Text.{named, line, branch-none, branch-one}
+use Rattle.format_text.specs.Put.{put}
+use Rattle.format_text.specs.laws.Put.{put-none, put-on}
+use Rattle.format_text.specs.Lines.{named, line}
+use Rattle.program_report.specs.laws.Text.{branch-none, branch-one}
 use Rattle.program_report.proofs.render.branch.Statement.{statement}
 use Rattle.program_report.proofs.render.branch.Tie as tie
 

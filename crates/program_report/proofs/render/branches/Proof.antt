@@ -4,8 +4,10 @@ use mathlib.Core.Path.{_≡_, refl, sym, ap, _∙_}
 use lib.ListN.{length}
 use borrow.Author.Needs.{needs}
 use Rattle.base.specs.Limits.{maxLinks}
-use Rattle.program_report.specs.Text.{branchLines, branchText, lines-none, lines-turn, capped}
-use Rattle.format_text.specs.Put.{page, put, put-none, put-on}
+use Rattle.program_report.specs.Text.{branchLines, branchText}
+use Rattle.program_report.specs.laws.Text.{lines-none, lines-turn, capped}
+use Rattle.format_text.specs.Put.{page, put}
+use Rattle.format_text.specs.laws.Put.{put-none, put-on}
 use Rattle.program_report.proofs.render.branches.Statement.{statement}
 use Rattle.program_report.proofs.render.branches.Tie as tie
 

@@ -3,8 +3,10 @@ use mathlib.Core.Path.{sym, ap, _∙_}
 use mathlib.Core.List.{_++_}
 use borrow.Author.Needs.{needs}
 use Rattle.format_text.specs.Ascii.{ascii}
-use Rattle.format_text.specs.Put.{put, put-on}
-use Rattle.program_report.specs.Text.{endsText, core-none, core-some}
+use Rattle.format_text.specs.Put.{put}
+use Rattle.format_text.specs.laws.Put.{put-on}
+use Rattle.program_report.specs.Text.{endsText}
+use Rattle.program_report.specs.laws.Text.{core-none, core-some}
 use Rattle.program_report.proofs.render.core.Statement.{statement}
 use Rattle.program_report.proofs.render.core.Tie as tie
 

@@ -1,7 +1,8 @@
 use mathlib.Core.Path.{sym, ap, _∙_}
 use borrow.Author.Needs.{needs}
-use Rattle.format_text.specs.Put.{put, put-none}
-use Rattle.program_report.specs.Text.{end-none, end-one}
+use Rattle.format_text.specs.Put.{put}
+use Rattle.format_text.specs.laws.Put.{put-none}
+use Rattle.program_report.specs.laws.Text.{end-none, end-one}
 use Rattle.program_report.proofs.render.end.Statement.{statement}
 use Rattle.program_report.proofs.render.end.Tie as tie
 

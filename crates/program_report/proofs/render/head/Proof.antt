@@ -1,6 +1,6 @@
 use borrow.Author.Needs.{needs}
-use Rattle.format_text.specs.Put.{put-on}
-use Rattle.program_report.specs.Text.{line}
+use Rattle.format_text.specs.laws.Put.{put-on}
+use Rattle.format_text.specs.Lines.{line}
 use Rattle.program_report.proofs.render.head.Statement.{statement}
 use Rattle.program_report.proofs.render.head.Tie as tie
 

@@ -1,7 +1,9 @@
 use mathlib.Core.Path.{ap, _∙_}
 use borrow.Author.Needs.{needs}
 use Rattle.format_text.specs.Put.{put}
-use Rattle.program_report.specs.Text.{line, tailText, report-parts}
+use Rattle.program_report.specs.Text.{tailText}
+use Rattle.format_text.specs.Lines.{line}
+use Rattle.program_report.specs.laws.Text.{report-parts}
 use Rattle.program_report.proofs.render.render.Statement.{statement}
 use Rattle.program_report.proofs.render.render.Tie as tie
 

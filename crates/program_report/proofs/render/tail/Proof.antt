@@ -1,7 +1,7 @@
 use mathlib.Core.List.{_++_}
 use borrow.Author.Needs.{needs}
-use Rattle.format_text.specs.Put.{put-on}
-use Rattle.program_report.specs.Text.{named, line}
+use Rattle.format_text.specs.laws.Put.{put-on}
+use Rattle.format_text.specs.Lines.{named, line}
 use Rattle.program_report.proofs.render.tail.Statement.{statement}
 use Rattle.program_report.proofs.render.tail.Tie as tie
 

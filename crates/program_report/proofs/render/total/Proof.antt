@@ -3,8 +3,9 @@ use native.Mathlib.Omega.{arith}
 use mathlib.Core.Path.{_≡_, refl, sym, ap, _∙_}
 use mathlib.Core.Logic.{⊎-elim}
 use borrow.Author.Needs.{needs}
-use Rattle.program_report.specs.Text.{capped}
-use Rattle.program_report.specs.Total.{total, total-branch, total-other}
+use Rattle.program_report.specs.laws.Text.{capped}
+use Rattle.program_report.specs.Total.{total}
+use Rattle.program_report.specs.laws.Total.{total-branch, total-other}
 use Rattle.program_report.proofs.render.total.Statement.{statement}
 use Rattle.program_report.proofs.render.total.Tie as tie
 use Rattle.base.specs.Limits.{maxLinks}

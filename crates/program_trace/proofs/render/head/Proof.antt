@@ -1,6 +1,6 @@
 use borrow.Author.Needs.{needs}
 use mathlib.Core.List.{_++_}
-use Rattle.format_text.specs.Put.{put-on}
+use Rattle.format_text.specs.laws.Put.{put-on}
 use Rattle.format_text.specs.Lines.{line}
 use Rattle.program_trace.specs.Text.{refusalText}
 use Rattle.program_trace.proofs.render.head.Statement.{statement}

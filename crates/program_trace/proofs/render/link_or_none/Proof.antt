@@ -1,7 +1,7 @@
 use mathlib.Core.Path.{sym, ap, _∙_}
 use borrow.Author.Needs.{needs}
 use Rattle.format_text.specs.Put.{put}
-use Rattle.program_trace.specs.Text.{link-none, link-some}
+use Rattle.program_trace.specs.laws.Text.{link-none, link-some}
 use Rattle.program_trace.proofs.render.link_or_none.Statement.{statement}
 use Rattle.program_trace.proofs.render.link_or_none.Tie as tie
 

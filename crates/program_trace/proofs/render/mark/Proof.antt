@@ -1,10 +1,12 @@
 use mathlib.Core.Path.{sym, ap, _∙_}
 use borrow.Author.Needs.{needs}
 use borrow.Author.Tests.{not-true, not-false}
-use Rattle.format_text.specs.Put.{put, put-none, put-on}
+use Rattle.format_text.specs.Put.{put}
+use Rattle.format_text.specs.laws.Put.{put-none, put-on}
 use Rattle.format_text.specs.Lines.{named}
-use Rattle.node_edges.specs.Laws.{marked-same}
-use Rattle.program_trace.specs.Text.{item, mark-none, mark-own}
+use Rattle.node_edges.specs.laws.Own.{marked-same}
+use Rattle.program_trace.specs.Text.{item}
+use Rattle.program_trace.specs.laws.Text.{mark-none, mark-own}
 use Rattle.program_trace.proofs.render.mark.Statement.{statement}
 use Rattle.program_trace.proofs.render.mark.Tie as tie
 

@@ -3,7 +3,8 @@ use mathlib.Core.List.{_++_}
 use borrow.Author.Needs.{needs}
 use Rattle.format_text.specs.Ascii.{ascii}
 use Rattle.format_text.specs.Lines.{named}
-use Rattle.format_text.specs.Put.{put, put-on}
+use Rattle.format_text.specs.Put.{put}
+use Rattle.format_text.specs.laws.Put.{put-on}
 use Rattle.program_trace.specs.Text.{valuesText, marksText}
 use Rattle.program_trace.proofs.render.module_line.Statement.{statement}
 use Rattle.program_trace.proofs.render.module_line.Tie as tie

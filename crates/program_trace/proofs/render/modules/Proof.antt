@@ -3,8 +3,10 @@ use native.Mathlib.Omega.{arith}
 use mathlib.Core.Path.{_≡_, refl, sym, ap, _∙_}
 use lib.ListN.{length}
 use borrow.Author.Needs.{needs}
-use Rattle.format_text.specs.Put.{page, put, put-none, put-on}
-use Rattle.program_trace.specs.Text.{modulesText, modules-none, modules-turn}
+use Rattle.format_text.specs.Put.{page, put}
+use Rattle.format_text.specs.laws.Put.{put-none, put-on}
+use Rattle.program_trace.specs.Text.{modulesText}
+use Rattle.program_trace.specs.laws.Text.{modules-none, modules-turn}
 use Rattle.program_trace.proofs.render.modules.Statement.{statement}
 use Rattle.program_trace.proofs.render.modules.Tie as tie
 

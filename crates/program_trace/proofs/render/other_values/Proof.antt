@@ -1,5 +1,5 @@
 use borrow.Author.Needs.{needs}
-use Rattle.format_text.specs.Put.{put-on}
+use Rattle.format_text.specs.laws.Put.{put-on}
 use Rattle.program_trace.proofs.render.other_values.Statement.{statement}
 use Rattle.program_trace.proofs.render.other_values.Tie as tie
 

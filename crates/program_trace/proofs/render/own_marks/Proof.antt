@@ -3,8 +3,10 @@ use native.Mathlib.Omega.{arith}
 use mathlib.Core.Path.{_≡_, refl, sym, ap, _∙_}
 use lib.ListN.{length}
 use borrow.Author.Needs.{needs}
-use Rattle.format_text.specs.Put.{page, put, put-none, put-on}
-use Rattle.program_trace.specs.Text.{markText, marksText, marks-none, marks-turn}
+use Rattle.format_text.specs.Put.{page, put}
+use Rattle.format_text.specs.laws.Put.{put-none, put-on}
+use Rattle.program_trace.specs.Text.{markText, marksText}
+use Rattle.program_trace.specs.laws.Text.{marks-none, marks-turn}
 use Rattle.program_trace.proofs.render.own_marks.Statement.{statement}
 use Rattle.program_trace.proofs.render.own_marks.Tie as tie
 

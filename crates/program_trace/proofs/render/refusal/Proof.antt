@@ -1,7 +1,7 @@
 use mathlib.Core.Path.{sym, ap, _∙_}
 use borrow.Author.Needs.{needs}
 use Rattle.format_text.specs.Put.{put}
-use Rattle.program_trace.specs.Text.{refusal-none, refusal-some}
+use Rattle.program_trace.specs.laws.Text.{refusal-none, refusal-some}
 use Rattle.program_trace.proofs.render.refusal.Statement.{statement}
 use Rattle.program_trace.proofs.render.refusal.Tie as tie
 

@@ -4,7 +4,8 @@ use mathlib.Core.Path.{_≡_, sym, _∙_}
 use lib.ListN.{length, drop}
 use borrow.Author.Needs.{needs}
 use Rattle.format_text.specs.Put.{page, put}
-use Rattle.program_trace.specs.Text.{wordsText, words-turn, words-over}
+use Rattle.program_trace.specs.Text.{wordsText}
+use Rattle.program_trace.specs.laws.Text.{words-turn, words-over}
 use Rattle.program_trace.proofs.render.words.Statement.{statement}
 use Rattle.program_trace.proofs.render.words.Tie as tie
 

@@ -1,0 +1,11 @@
+pub mod Cond
+pub mod Pool
+pub mod Sum
+pub mod Search
+pub mod Log
+pub mod Ceiling
+pub mod Test
+pub mod Refuse
+pub mod Loop
+pub mod Table
+pub mod Keep

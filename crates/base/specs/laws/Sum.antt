@@ -1,0 +1,57 @@
+-- Laws of sums: order, sums of sums, one entry changed (`sum-change`).
+use Prim.Native.Nat.{ℕ, zero, suc, _+_, _*_, _≤_, _<_, zero-le}
+use native.Mathlib.Nat.{not-suc-le-zero}
+use native.Mathlib.Omega.{arith}
+use mathlib.Core.Path.{_≡_, refl, sym, ap, _∙_}
+use mathlib.Core.Logic.{_≢_}
+use Rattle.base.specs.laws.Cond.{by-eq}
+use Rattle.base.specs.Sum.{sum}
+
+pub sum-le : (n : ℕ) (f g : ℕ → ℕ) → ((k : ℕ) → k < n → f k ≤ g k) → sum n f ≤ sum n g
+sum-le zero f g h = zero-le
+sum-le (suc n) f g h = omega (arith, h n (omega arith), sum-le n f g (λ k l. h k (omega arith)))
+
+-- no term is greater, and the one at v is smaller
+pub sum-lt : (n v : ℕ) (f g : ℕ → ℕ) → v < n → ((k : ℕ) → k < n → f k ≤ g k) → f v < g v → sum n f < sum n g
+sum-lt zero v f g l h s = absurd (not-suc-le-zero l)
+sum-lt (suc n) v f g l h s = by-eq v n
+    (λ e. omega (arith, ap f e, ap g e, sum-le n f g (λ k lk. h k (omega arith))))
+    (λ ne. omega (arith, h n (omega arith), sum-lt n v f g (omega arith) (λ k lk. h k (omega arith)) s))
+
+pub sum-eq : (n : ℕ) (f g : ℕ → ℕ) → ((k : ℕ) → k < n → f k ≡ g k) → sum n f ≡ sum n g
+sum-eq zero f g h = refl
+sum-eq (suc n) f g h = omega (arith, h n (omega arith), sum-eq n f g (λ k l. h k (omega arith)))
+
+pub sum-add : (n : ℕ) (f g : ℕ → ℕ) → sum n (λ k. f k + g k) ≡ sum n f + sum n g
+sum-add zero f g = refl
+sum-add (suc n) f g = omega (arith, sum-add n f g)
+
+pub sum-zero : (n : ℕ) (f : ℕ → ℕ) → ((k : ℕ) → k < n → f k ≡ zero) → sum n f ≡ zero
+sum-zero zero f h = refl
+sum-zero (suc n) f h = omega (arith, h n (omega arith), sum-zero n f (λ k l. h k (omega arith)))
+
+-- one term changes: f and g agree but at v
+pub sum-change : (n v : ℕ) (f g : ℕ → ℕ) → v < n → ((k : ℕ) → v ≢ k → f k ≡ g k) → sum n f + g v ≡ sum n g + f v
+sum-change zero v f g l h = absurd (not-suc-le-zero l)
+sum-change (suc n) v f g l h =
+    by-eq v n
+    (λ e. omega (arith, ap f e, ap g e, sum-eq n f g (λ k lk. h k (omega arith))))
+    (λ ne. omega (arith, h n ne, sum-change n v f g (omega arith) h))
+
+-- one term of a sum
+pub le-sum : (n v : ℕ) (f : ℕ → ℕ) → v < n → f v ≤ sum n f
+le-sum zero v f l = absurd (not-suc-le-zero l)
+le-sum (suc n) v f l = by-eq v n (λ e. omega (arith, ap f e)) (λ ne. omega (arith, le-sum n v f (omega arith)))
+
+pub sum-const : (n c : ℕ) → sum n (λ k. c) ≡ n * c
+sum-const zero c = omega arith
+sum-const (suc n) c = omega (arith, sum-const n c)
+
+-- the order of two sums
+pub sum-swap : (n m : ℕ) (f : ℕ → ℕ → ℕ) → sum n (λ i. sum m (λ j. f i j)) ≡ sum m (λ j. sum n (λ i. f i j))
+sum-swap zero m f = sym (sum-zero m (λ j. zero) (λ k l. refl))
+sum-swap (suc n) m f = ap (λ x. sum m (f n) + x) (sum-swap n m f) ∙ sym (sum-add m (f n) (λ j. sum n (λ i. f i j)))
+
+-- a term at one place only
+pub sum-single : (n v : ℕ) (f : ℕ → ℕ) → v < n → ((k : ℕ) → v ≢ k → f k ≡ zero) → sum n f ≡ f v
+sum-single n v f l h = omega (arith, sum-change n v f (λ k. zero) l h, sum-zero n (λ k. zero) (λ k lk. refl))

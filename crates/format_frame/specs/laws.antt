@@ -1,0 +1,4 @@
+pub mod Six
+pub mod Frame
+pub mod RoundTrip
+pub mod Samples

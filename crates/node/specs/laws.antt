@@ -1,0 +1,5 @@
+pub mod Values
+pub mod Table
+pub mod Samples
+pub mod Rules
+pub mod First

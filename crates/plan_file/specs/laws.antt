@@ -1,0 +1,4 @@
+pub mod Head
+pub mod Lengths
+pub mod Numbers
+pub mod RoundTrip

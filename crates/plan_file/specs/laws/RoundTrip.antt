@@ -1,0 +1,166 @@
+-- Written and read, read and written: each gives back what went in. The reader takes exactly the written plans.
+use Prim.Native.Nat.{ℕ, zero, suc, _+_, _*_, _/_, _%_, _-_, _≤_, _<_}
+use native.Mathlib.Omega.{arith}
+use mathlib.Core.Path.{_≡_, refl, sym, ap, ap₂, _∙_}
+use mathlib.Core.Bool.{Bool, cond}
+use mathlib.Core.List.{List, [], _∷_, _++_}
+use lib.ListN.{length, getD, take, drop, replicate}
+use lib.Seq.{take-append-seam}
+use borrow.Author.Tests.{le-ltb}
+use Rattle.base.specs.laws.Cond.{eqb-cases}
+use Rattle.base.specs.Limits.{maxLinks}
+use Rattle.base.specs.Loop.{After, takenTo}
+use Rattle.base.specs.laws.Refuse.{fine-first, first-fine, answers-taken}
+use Rattle.base.specs.Pool.{con}
+use Rattle.base.specs.Table.{tabulate}
+use Rattle.base.specs.laws.Table.{length-tabulate, tabulate-ext, getD-tabulate}
+use Rattle.plan.specs.Links.{Plan, linksOf}
+use Rattle.plan.specs.Refusal.{planRefusal}
+use Rattle.plan.specs.laws.Accepted.{Accepted, accepted}
+use Rattle.plan.specs.Same.{Same}
+use Rattle.plan.specs.laws.Same.{same-taken}
+use Rattle.plan_file.specs.declared.Outcome.{Outcome}
+use Rattle.plan_file.specs.Layout.{planNumbers, bytesOf, encode, number, padded, decode, trimmed, blank}
+use Rattle.plan_file.specs.laws.Lengths.{length-encode}
+use Rattle.plan_file.specs.Reading.{headRefusal, readRefusal, readPlan}
+use Rattle.plan_file.specs.Writing.{size, writeRefusal, writePlan}
+use Rattle.plan_file.specs.laws.Head.{HeadOk, head-ok, ok-head}
+use Rattle.plan_file.specs.laws.Numbers.{Bytes, number-of, bytes-numbers, bytes-of, padded-at, All-tabulate}
+
+-- WRITTEN, THEN READ
+
+module _ (p : Plan) where
+  abbrev ownNumbers : List ℕ
+  ownNumbers = tabulate (planNumbers (linksOf p)) (λ i. getD p i 0)
+
+  number-encode : (i : ℕ) → i < planNumbers (linksOf p) → number (encode p) (suc i) ≡ getD p i 0
+  unfolding encode
+  number-encode i l = number-of 1 ((4 + 8 * linksOf p) ∷ ownNumbers) (suc i) (omega (arith, length-tabulate (planNumbers (linksOf p)) (λ i. getD p i 0)))
+      ∙ getD-tabulate (planNumbers (linksOf p)) (λ i. getD p i 0) i l
+
+  decode-encode : decode (encode p) ≡ trimmed p
+  unfolding decode trimmed padded
+  decode-encode = rw (number-encode 1 (omega arith))
+      (ap (λ xs. xs ++ replicate (planNumbers maxLinks - planNumbers (linksOf p)) 0) (tabulate-ext (planNumbers (linksOf p)) (λ i. number (encode p) (suc i)) (λ i. getD p i 0) number-encode))
+
+  -- its numbers up to its links are the plan's
+  pub trimmed-same : Same p (trimmed p)
+  unfolding trimmed
+  trimmed-same = record {
+    modules = entry 0 (omega arith);
+    links = entry 1 (omega arith);
+    lows = λ k l. entry (2 + 4 * k) (omega arith);
+    highs = λ k l. entry (3 + 4 * k) (omega arith);
+    nears = λ k l. entry (4 + 4 * k) (omega arith);
+    fars = λ k l. entry (5 + 4 * k) (omega arith);
+  }
+    where
+      entry : (i : ℕ) → i < planNumbers (linksOf p) → getD p i 0 ≡ getD (trimmed p) i 0
+      entry i l = sym (padded-at (planNumbers (linksOf p)) (λ j. getD p j 0) i l)
+
+  encode-head : Accepted p → HeadOk (encode p)
+  unfolding encode bytesOf
+  encode-head a = record {
+    version = refl;
+    len = number-of 1 ((4 + 8 * linksOf p) ∷ ownNumbers) 0 (omega arith) ∙ rw (number-encode 1 (omega arith));
+    size = length-encode p ∙ rw (number-encode 1 (omega arith));
+    counts = rw (number-encode 0 (omega arith), number-encode 1 (omega arith)) (record { someone = a .someone; modulesOk = a .modulesOk; linksOk = a .linksOk });
+  }
+
+  pub written-taken : planRefusal p ≡ 0 → readRefusal (encode p) ≡ 0
+  unfolding readRefusal
+  written-taken z =
+      let a = accepted p z in
+      first-fine (ok-head (encode p) (encode-head a)) (ap planRefusal decode-encode ∙ same-taken trimmed-same z)
+
+  -- "A plan .. written and read gives its meaning back": an accepted plan, with zeros past its links
+  pub written-read : planRefusal p ≡ 0 → readPlan (encode p) ≡ record { refusal = 0; plan = trimmed p }
+  unfolding readPlan
+  written-read z = rw (written-taken z, decode-encode)
+
+  -- an answer of 0: the plan is accepted, and its bytes are at the front of the buffer
+  write-answered : (t : List ℕ) → writePlan p t .answer ≡ 0 → (planRefusal p ≡ 0) × (writePlan p t .state ≡ encode p ++ drop (size p) t)
+  unfolding writePlan writeRefusal
+  write-answered t e = (fine-first (planRefusal p) e .0, sym (ap (λ (a : After (List ℕ)). a .state) (answers-taken (writeRefusal p t) t (encode p ++ drop (size p) t) e)))
+
+  front : (t : List ℕ) → writePlan p t .answer ≡ 0 → take (size p) (writePlan p t .state) ≡ encode p
+  front t e = ap₂ take (sym (length-encode p)) (write-answered t e .1) ∙ take-append-seam (encode p) (drop (size p) t)
+
+  -- so what the writer leaves at the front of a buffer reads back
+  pub left-read : (t : List ℕ) → writePlan p t .answer ≡ 0 → readPlan (take (size p) (writePlan p t .state)) ≡ record { refusal = 0; plan = trimmed p }
+  left-read t e = ap readPlan (front t e) ∙ written-read (write-answered t e .0)
+
+  -- an accepted plan's numbers are of 16 bits
+  numbers-fit : Accepted p → (i : ℕ) → i < planNumbers (linksOf p) → getD p i 0 < 65536
+  numbers-fit a zero l = omega (arith, a .modulesOk)
+  numbers-fit a (suc zero) l = omega (arith, a .linksOk)
+  numbers-fit a (suc (suc i)) l = link (suc (suc i)) (i / 4) (i % 4) (omega arith) (omega arith) (omega arith)
+    where
+      link : (i k j : ℕ) → k < linksOf p → j < 4 → i ≡ 2 + 4 * k + j → getD p i 0 < 65536
+      link i k zero l m e = let o = a .each k l in rw (let q : i ≡ 2 + 4 * k = omega arith in q) (omega (arith, o .ordered, o .inside, a .modulesOk))
+      link i k (suc zero) l m e = let o = a .each k l in rw (let q : i ≡ 3 + 4 * k = omega arith in q) (omega (arith, o .inside, a .modulesOk))
+      link i k (suc (suc zero)) l m e = let o = a .each k l in rw (let q : i ≡ 4 + 4 * k = omega arith in q) (omega (arith, o .nearOk))
+      link i k (suc (suc (suc zero))) l m e = let o = a .each k l in rw (let q : i ≡ 5 + 4 * k = omega arith in q) (omega (arith, o .farOk))
+      link i k (suc (suc (suc (suc j)))) l m e = absurd (omega arith)
+
+  -- what is written is bytes
+  pub written-bytes : Accepted p → Bytes (encode p)
+  unfolding encode
+  written-bytes a = con {x = 1} (omega arith) (bytes-of ((4 + 8 * linksOf p) ∷ ownNumbers)
+      (con {x = 4 + 8 * linksOf p} (omega (arith, a .linksOk)) (All-tabulate (planNumbers (linksOf p)) (λ i. getD p i 0) (numbers-fit a))))
+
+-- READ, THEN WRITTEN
+
+module _ (s : List ℕ) (z : readRefusal s ≡ 0) where
+  read-head : HeadOk s
+  unfolding readRefusal
+  read-head = head-ok s (fine-first (headRefusal s) z .0)
+
+  pub read-accepted : planRefusal (decode s) ≡ 0
+  unfolding readRefusal
+  read-accepted = fine-first (headRefusal s) z .1
+
+  number-decode : (i : ℕ) → i < planNumbers (number s 2) → getD (decode s) i 0 ≡ number s (suc i)
+  unfolding decode
+  number-decode i l = padded-at (planNumbers (number s 2)) (λ j. number s (suc j)) i l
+
+  numbers-decode : (4 + 8 * linksOf (decode s)) ∷ tabulate (planNumbers (linksOf (decode s))) (λ i. getD (decode s) i 0) ≡ tabulate (suc (planNumbers (number s 2))) (number s)
+  unfolding tabulate
+  numbers-decode = rw (number-decode 1 (omega arith))
+      (ap₂ (λ x xs. x ∷ xs) (sym (read-head .len)) (tabulate-ext (planNumbers (number s 2)) (λ i. getD (decode s) i 0) (λ i. number s (suc i)) number-decode))
+
+  -- "bytes that are taken and written again are the same bytes"
+  pub read-written : Bytes s → encode (decode s) ≡ s
+  unfolding encode
+  read-written b = ap (λ xs. 1 ∷ bytesOf xs) numbers-decode ∙ again s (read-head .version) (read-head .size) b
+    where
+      again : (t : List ℕ) → getD t 0 0 ≡ 1 → length t ≡ 7 + 8 * number s 2 → Bytes t → _≡_ {A = List ℕ} (1 ∷ bytesOf (tabulate (suc (planNumbers (number s 2))) (number t))) t
+      again [] v e h = absurd (omega arith)
+      again (x ∷ t) v e (con q h) = rw (bytes-numbers x t (suc (planNumbers (number s 2))) (omega arith) h, v)
+
+  -- so the writer puts them back at the front of any buffer that they fit
+  pub written-again : Bytes s → (t : List ℕ) → length s ≤ length t → writePlan (decode s) t ≡ takenTo (s ++ drop (length s) t)
+  unfolding writePlan writeRefusal
+  written-again b t l =
+      let e = read-written b in
+      let n : size (decode s) ≡ length s = sym (length-encode (decode s)) ∙ ap length e in
+      rw (read-accepted, n, le-ltb (length t) (length s) l, e)
+
+-- what the reader takes is accepted
+pub read-taken : (s : List ℕ) (r : Outcome) → r ≡ readPlan s → r .refusal ≡ 0 → planRefusal (r .plan) ≡ 0
+unfolding readPlan
+read-taken s r e z = rw e (eqb-cases (readRefusal s) 0 (λ b. answer b .refusal ≡ 0 → planRefusal (answer b .plan) ≡ 0)
+    (λ h y. read-accepted s h)
+    (λ n y. absurd (n y))
+    (rw e at z))
+  where
+    answer : Bool → Outcome
+    answer b = cond b (record { refusal = 0; plan = decode s }) (record { refusal = readRefusal s; plan = blank })
+
+-- THE READER TAKES EXACTLY THE WRITTEN PLANS
+
+pub taken-listed : (s : List ℕ) → Bytes s → readRefusal s ≡ 0 → (p : Plan) × (planRefusal p ≡ 0) × (s ≡ encode p)
+taken-listed s b z = (decode s, read-accepted s z, sym (read-written s z b))
+
+pub listed-taken : (s : List ℕ) → (p : Plan) × (planRefusal p ≡ 0) × (s ≡ encode p) → (readRefusal s ≡ 0) × Bytes s
+listed-taken s t = (rw (t .2) (written-taken (t .0) (t .1)), rw (t .2) (written-bytes (t .0) (accepted (t .0) (t .1))))

@@ -1,0 +1,5 @@
+pub mod Forest
+pub mod Phase
+pub mod Tree
+pub mod Theorems
+pub mod Samples

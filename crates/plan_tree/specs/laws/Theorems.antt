@@ -1,0 +1,92 @@
+-- What the builder writes: exactly the tree by the path rule; it spans, has no cycle, and no set of links that joins all modules costs less.
+-- `centralTree p out` is the builder's contract; an answer of 0 is a plan that was taken.
+use Prim.Native.Nat.{ℕ, _≤_, _<_}
+use native.Mathlib.Omega.{arith}
+use mathlib.Core.Path.{_≡_, ap, _∙_}
+use mathlib.Core.Logic.{_≢_}
+use mathlib.Core.Bool.{Bool}
+use mathlib.Core.List.{List}
+use lib.ListN.{length, getD}
+use lib.Dec.{eqb}
+use Rattle.base.specs.Cond.{bit}
+use Rattle.base.specs.laws.Cond.{bool-cases, eqb-diff}
+use Rattle.base.specs.laws.Sum.{sum-eq}
+use Rattle.base.specs.laws.Table.{length-tabulate, getD-tabulate}
+use Rattle.graph.specs.Graph.{Way}
+use Rattle.graph.specs.Order.{InTree}
+use Rattle.graph.specs.laws.Ways.{But, wider}
+use Rattle.graph.specs.Decide.{Set}
+use Rattle.graph.specs.laws.Decide.{inTree-tree, tree-inTree}
+use Rattle.graph.specs.laws.Span.{spans}
+use Rattle.graph.specs.laws.Cycle.{spare}
+use Rattle.graph.specs.Least.{totalCost, Spanning}
+use Rattle.graph.specs.laws.Least.{tree-least, tree-least-all}
+use Rattle.plan.specs.Links.{graphOf, Plan, modulesOf, linksOf, lowerOf, higherOf}
+use Rattle.plan.specs.Weights.{cost, earlier}
+use Rattle.plan.specs.laws.Weights.{earlier-cost, orderOf}
+use Rattle.plan.specs.laws.Accepted.{accepted}
+use Rattle.plan_tree.specs.Tree.{treeLink, treeBytes, treeRefusal, centralTree}
+use Rattle.plan_tree.specs.laws.Tree.{answered, answered-bytes}
+
+module _ (p : Plan) (out : List ℕ) (taken : centralTree p out .answer ≡ 0) where
+  -- byte k, and the set of links that it marks
+  abbrev pub byte : ℕ → ℕ
+  byte k = getD (centralTree p out .state) k 0
+
+  abbrev pub marked : ℕ → Bool
+  marked k = eqb (byte k) 1
+
+  -- L bytes
+  pub written-length : length (centralTree p out .state) ≡ linksOf p
+  unfolding treeBytes
+  written-length = rw (answered-bytes p out taken) (length-tabulate (linksOf p) (λ k. bit (treeLink p k)))
+
+  written-byte : (k : ℕ) → k < linksOf p → byte k ≡ bit (treeLink p k)
+  unfolding treeBytes
+  written-byte k l = rw (answered-bytes p out taken) (getD-tabulate (linksOf p) (λ j. bit (treeLink p j)) k l)
+
+  written-marked : (k : ℕ) → k < linksOf p → marked k ≡ treeLink p k
+  written-marked k l = rw (written-byte k l) (bool-cases (treeLink p k) (λ t. rw t) (λ f. rw f))
+
+  -- 1 FOR A TREE LINK, 0 otherwise: by the path rule
+  pub written-tree : (k : ℕ) → k < linksOf p → InTree (graphOf p) (earlier p) k → byte k ≡ 1
+  written-tree k l t = written-byte k l ∙ rw (tree-inTree (graphOf p) (earlier p) k t)
+
+  pub tree-written : (k : ℕ) → k < linksOf p → byte k ≡ 1 → InTree (graphOf p) (earlier p) k
+  tree-written k l e = inTree-tree (graphOf p) (earlier p) k (bool-cases (treeLink p k) (λ t. t) (λ f. absurd (omega (arith, written-byte k l, ap bit f))))
+
+  pub written-other : (k : ℕ) → k < linksOf p → ¬ InTree (graphOf p) (earlier p) k → byte k ≡ 0
+  written-other k l n = written-byte k l ∙ bool-cases (treeLink p k) (λ t. absurd (n (inTree-tree (graphOf p) (earlier p) k t))) (λ f. rw f)
+
+  -- SPANNING: the marked links join whatever links join; so, the plan being connected, all modules
+  pub written-joins : {S : ℕ → Type 0} {u v : ℕ} → Way (graphOf p) S u v → Way (graphOf p) (λ k. byte k ≡ 1) u v
+  written-joins w = wider written-tree (spans (graphOf p) (orderOf p) w)
+
+  pub written-spans : (u v : ℕ) → u < modulesOf p → v < modulesOf p → Way (graphOf p) (λ k. byte k ≡ 1) u v
+  written-spans u v lu lv = written-joins (accepted p (answered p out taken .0) .whole u v lu lv)
+
+  -- NO CYCLE: without one of them the others do not join its ends
+  pub written-acyclic : (k : ℕ) → k < linksOf p → byte k ≡ 1 → ¬ Way (graphOf p) (But (λ j. byte j ≡ 1) k) (lowerOf p k) (higherOf p k)
+  written-acyclic k l e w = spare (graphOf p) (orderOf p) k l (tree-written k l e) (wider (λ j lj m. (tree-written j lj (m .0), m .1)) w)
+
+  -- LEAST TOTAL COST
+  written-total : totalCost (graphOf p) (cost p) marked ≡ totalCost (graphOf p) (cost p) (treeLink p)
+  unfolding totalCost
+  written-total = sum-eq (linksOf p) _ _ (λ k l. rw (written-marked k l))
+
+  -- among the sets that join what the links join
+  pub written-least-parts : (s : ℕ → Bool) → Spanning (graphOf p) s → totalCost (graphOf p) (cost p) marked ≤ totalCost (graphOf p) (cost p) s
+  written-least-parts s sp = rw written-total (tree-least (graphOf p) (orderOf p) (cost p) (earlier-cost p) s sp)
+
+  -- "no set of links joining all modules has a smaller total cost"
+  pub written-least : (s : ℕ → Bool) → ((u v : ℕ) → u < modulesOf p → v < modulesOf p → Way (graphOf p) (Set s) u v)
+      → totalCost (graphOf p) (cost p) marked ≤ totalCost (graphOf p) (cost p) s
+  written-least s all =
+      let a = accepted p (answered p out taken .0) in
+      rw written-total (tree-least-all (graphOf p) (orderOf p) (cost p) (earlier-cost p) (modulesOf p)
+      (λ k l. let o = a.each k l in (omega (arith, o.ordered, o.inside), o.inside)) s all)
+
+-- a refused call alters no byte
+pub refused-keeps : (p : Plan) (out : List ℕ) → centralTree p out .answer ≢ 0 → centralTree p out .state ≡ out
+unfolding centralTree
+refused-keeps p out n = rw (eqb-diff (treeRefusal p out) 0 n)

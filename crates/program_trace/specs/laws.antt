@@ -1,0 +1,4 @@
+pub mod Text
+pub mod Traced
+pub mod Fits
+pub mod Long
