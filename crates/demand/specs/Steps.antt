@@ -42,8 +42,8 @@ use Rattle.demand.specs.Good.{Good, node-shown, rule-is, no-mark, good-a
 -- what a step has to leave
 pub record Fine (p : Plan) (a : Accepted p) (r : After State) : Type 0 where
   pub good : Good p a (r .state)
-  pub no32 : r .answer ≢ 32
-  pub no33 : r .answer ≢ 33
+  pub no32 : r .refusal ≢ 32
+  pub no33 : r .refusal ≢ 33
 
 module _ (p : Plan) (a : Accepted p) (s : State) (i : Sound p s) (g : Good p a s) where
   -- refused by another number

@@ -70,4 +70,4 @@ setUp p lent =
 unfoldable pub stepAlone : ℕ → ℕ → Held → After Held
 stepAlone kind number h =
     cond (not (valid h)) (refusedBy 31 h)
-    (let a = step (h .field .plan) kind number (stateOf h) in record { answer = a .answer; state = heldOf h (a .state) })
+    (let a = step (h .field .plan) kind number (stateOf h) in record { refusal = a .refusal; state = heldOf h (a .state) })

@@ -20,11 +20,11 @@ pub data Call : Type 0 where
 
 -- a call that is refused whole
 abbrev pub refusedRun : ℕ → Held → Ran Held
-refusedRun number h = record { done = 0; answer = number; state = h }
+refusedRun number h = record { done = 0; refusal = number; state = h }
 
 -- a run's end, with the words laid out again
 abbrev pub laidBack : Held → Ran State → Ran Held
-laidBack h r = record { done = r .done; answer = r .answer; state = heldOf h (r .state) }
+laidBack h r = record { done = r .done; refusal = r .refusal; state = heldOf h (r .state) }
 
 -- a run of a schedule: 31, then 51 to 54, then the steps
 unfoldable pub runBytes : List ℕ → Held → Ran Held
@@ -52,8 +52,8 @@ after (c ∷ cs) h = after cs (does c h .state)
 -- a call, and what it answered: 0 for taken or the refusal's number
 pub record Answer : Type 0 where
   pub call : Call
-  pub answer : ℕ
+  pub refusal : ℕ
 
 unfoldable pub answers : List Call → Held → List Answer
 answers [] h = []
-answers (c ∷ cs) h = record { call = c; answer = does c h .answer } ∷ answers cs (does c h .state)
+answers (c ∷ cs) h = record { call = c; refusal = does c h .refusal } ∷ answers cs (does c h .state)

@@ -50,7 +50,7 @@ pub record Agreed (p : Plan) (s : State) : Type 0 where
 -- "comes to rest unrefused within N more rounds than the ceiling"
 pub record ComesToRest (p : Plan) (r : Ran Held) : Type 0 where
   pub rest : stateOf (r .state) .words ≡ []
-  pub unrefused : r .answer ≡ 0
+  pub unrefused : r .refusal ≡ 0
   pub within : r .done ≤ ceilingOf p + modulesOf p
 
 -- what demand 3 says of one list of calls on the field and words of a setup
@@ -67,7 +67,7 @@ pub record Claim (p : Plan) (start : Held) (calls : List Call) : Type 0 where
   -- "and is at most the ceiling, 5 × N × ⌊log2 N⌋ + 2 × L;"
   pub ceiling : stateOf (after calls start) .sent ≤ ceilingOf p
   -- "and nothing in the list was refused by 31, 32 or 33."
-  pub refusals : All (λ a. Allowed (a .call) (a .answer)) (answers calls start)
+  pub refusals : All (λ a. Allowed (a .call) (a .refusal)) (answers calls start)
   -- "If a module was woken and the field is at rest, .."
   pub agreed : wokenIn p (trail calls start) ≢ [] → stateOf (after calls start) .words ≡ [] → Agreed p (stateOf (after calls start))
   -- "Whatever such a list leaves, a run of rounds from there, its limit the ceiling plus N or more, comes to rest .."
@@ -76,4 +76,4 @@ pub record Claim (p : Plan) (start : Held) (calls : List Call) : Type 0 where
 -- "For every accepted plan of N modules and L links, and every list of wakeups, hand-overs and services from its setup on, given singly or in
 -- runs, refused ones included": accepted, and lent M words or more, is a setup that is not refused.
 abbrev pub Demand3 : Type 0
-Demand3 = (p : Plan) (lent : List ℕ) → setUp p lent .answer ≡ 0 → (calls : List Call) → Claim p (setUp p lent .state) calls
+Demand3 = (p : Plan) (lent : List ℕ) → setUp p lent .refusal ≡ 0 → (calls : List Call) → Claim p (setUp p lent .state) calls

@@ -66,7 +66,7 @@ scheduleSteps bytes = stepsFrom bytes 0 (stepsIn bytes)
 
 -- a run of a list of steps, where d were done before: each is taken in the state that the one before left, and the first that is refused ends it
 unfoldable pub listRun : Plan → ℕ → List Step → State → Ran State
-listRun p d [] s = record { done = d; answer = 0; state = s }
+listRun p d [] s = record { done = d; refusal = 0; state = s }
 listRun p d (x ∷ l) s =
     let a = step p (x .kind) (x .number) s in
-    cond (eqb (a .answer) 0) (listRun p (suc d) l (a .state)) (record { done = d; answer = a .answer; state = a .state })
+    cond (eqb (a .refusal) 0) (listRun p (suc d) l (a .state)) (record { done = d; refusal = a .refusal; state = a .state })

@@ -29,7 +29,7 @@ pub record Taken : Type 0 where
 -- the step itself where it is taken, nothing where it is refused
 unfoldable pub ifTaken : Plan → ℕ → ℕ → State → List Taken
 ifTaken p kind number s =
-    cond (eqb (step p kind number s .answer) 0) (record { kind = kind; number = number; at = s } ∷ []) []
+    cond (eqb (step p kind number s .refusal) 0) (record { kind = kind; number = number; at = s } ∷ []) []
 
 -- the steps of a round, in the shape of `round`
 unfoldable pub handTurnSteps : Plan → ℕ → State → List Taken
@@ -41,7 +41,7 @@ serveTurnSteps p v s = loopTrace (many (inQueue p v) (s .words)) (λ j. serve p 
 unfoldable pub roundSteps : Plan → State → List Taken
 roundSteps p s =
     loopTrace (2 * linksOf p) (handTurn p) (handTurnSteps p) s
-    ++ cond (eqb (handPhase p s .answer) 0) (loopTrace (modulesOf p) (serveTurn p) (serveTurnSteps p) (handPhase p s .state)) []
+    ++ cond (eqb (handPhase p s .refusal) 0) (loopTrace (modulesOf p) (serveTurn p) (serveTurnSteps p) (handPhase p s .state)) []
 
 -- the steps that a call takes in a field that 31 does not refuse
 unfoldable pub stepsOf : Plan → Call → State → List Taken

@@ -52,11 +52,11 @@ pub record Started (p : Plan) (lent : List ℕ) (h : Held) : Type 0 where
   pub room : ceilingOf p ≤ length lent
   pub is : h ≡ record { field = fresh p; words = replicate (length lent) 0 }
 
-pub started : (p : Plan) (lent : List ℕ) → setUp p lent .answer ≡ 0 → Started p lent (setUp p lent .state)
+pub started : (p : Plan) (lent : List ℕ) → setUp p lent .refusal ≡ 0 → Started p lent (setUp p lent .state)
 unfolding setUp
 started p lent = eqb-cases (planRefusal p) 0
-    (λ b. (cond (not b) (notSetUp (planRefusal p) lent) rest) .answer ≡ 0 → Started p lent ((cond (not b) (notSetUp (planRefusal p) lent) rest) .state))
-    (λ e. ltb-cases (length lent) (ceilingOf p) (λ b. (enoughOr b) .answer ≡ 0 → Started p lent ((enoughOr b) .state))
+    (λ b. (cond (not b) (notSetUp (planRefusal p) lent) rest) .refusal ≡ 0 → Started p lent ((cond (not b) (notSetUp (planRefusal p) lent) rest) .state))
+    (λ e. ltb-cases (length lent) (ceilingOf p) (λ b. (enoughOr b) .refusal ≡ 0 → Started p lent ((enoughOr b) .state))
     (λ l z. absurd (omega arith))
     (λ l z. record { plan = e; room = l; is = refl }))
     (λ n z. absurd (n z))

@@ -71,9 +71,9 @@ module _ (p : Plan) (v : ℕ) (w : Work) (s : State) (words back : List ℕ) whe
       (λ l. kept 33 (inr (inl refl)))
       (λ l. took (record { fine = n; room = l; is = refl })))
 
-  carried-out-answer : (carryOut p v w s words back .answer ≡ 0) ⊎ (carryOut p v w s words back .answer ≡ 32) ⊎ (carryOut p v w s words back .answer ≡ 33)
+  carried-out-refusal : (carryOut p v w s words back .refusal ≡ 0) ⊎ (carryOut p v w s words back .refusal ≡ 32) ⊎ (carryOut p v w s words back .refusal ≡ 33)
   unfolding carryOut
-  carried-out-answer = bool-cases (eqb (w .answer) REFUSED) (λ e. rw e (inr (inl refl)))
+  carried-out-refusal = bool-cases (eqb (w .answer) REFUSED) (λ e. rw e (inr (inl refl)))
       (λ e. rw e (bool-cases (ltb (ceilingOf p) (s .sent + length (w .sends))) (λ b. rw b (inr (inr refl))) (λ b. rw b (inl refl))))
 
 -- the same outcome, told with more facts
@@ -135,7 +135,7 @@ module _ (p : Plan) (s : State) where
       (λ n₃. rw (eqb-diff kind 3 n₃) (kept 54 (inr (inr (inr refl)))))))))
 
 -- an outcome whose answer is 0 was taken
-pub took-it : {s : State} {Took : State → Type 0} {a : After State} → StepOutcome s Took a → a .answer ≡ 0 → Took (a .state)
+pub took-it : {s : State} {Took : State → Type 0} {a : After State} → StepOutcome s Took a → a .refusal ≡ 0 → Took (a .state)
 took-it (took h) e = h
 took-it (kept r h) e = absurd (refusal-not-0 r h e)
 
@@ -143,18 +143,18 @@ took-it (kept r h) e = absurd (refusal-not-0 r h e)
 
 module _ (p : Plan) (s : State) where
   -- a word is there to hand over
-  pub hand-fine : (d : ℕ) → d < 2 * linksOf p → 1 ≤ length (keep (inAir d) (s .words)) → hand p d s .answer ≡ 0
+  pub hand-fine : (d : ℕ) → d < 2 * linksOf p → 1 ≤ length (keep (inAir d) (s .words)) → hand p d s .refusal ≡ 0
   unfolding hand
   hand-fine d l h = rw (lt-leb (2 * linksOf p) d l, lt-leb (length (s .words)) (place (inAir d) (s .words)) (place-some (inAir d) (s .words) h)) refl
 
   -- a word is in the queue, and the response is not refused
-  pub serve-fine : (v : ℕ) → v < modulesOf p → 1 ≤ length (keep (inQueue p v) (s .words)) → serve p v s .answer ≢ 32 → serve p v s .answer ≢ 33 → serve p v s .answer ≡ 0
+  pub serve-fine : (v : ℕ) → v < modulesOf p → 1 ≤ length (keep (inQueue p v) (s .words)) → serve p v s .refusal ≢ 32 → serve p v s .refusal ≢ 33 → serve p v s .refusal ≡ 0
   unfolding serve
   serve-fine v l h = rw (lt-leb (modulesOf p) v l, lt-leb (length (s .words)) (place (inQueue p v) (s .words)) (place-some (inQueue p v) (s .words) h))
       (let i = place (inQueue p v) (s .words) in
       let x = getD (s .words) i 0 in
       let w = serveWork p v x s in
-      fine (carried-out-answer p v w s (without i (s .words)) (backOf w x)))
+      fine (carried-out-refusal p v w s (without i (s .words)) (backOf w x)))
     where
       fine : {r : ℕ} → (r ≡ 0) ⊎ (r ≡ 32) ⊎ (r ≡ 33) → r ≢ 32 → r ≢ 33 → r ≡ 0
       fine (inl e) a b = e

@@ -44,7 +44,7 @@ module _ (p : Plan) (a : Accepted p) (s : State) (i : Sound p s) where
       go (kept r h) = refl
 
   -- A wake appends each of its messages to its channel, in their order; so other channels stay.
-  pub wake-appends : (v : ℕ) → wake p v s .answer ≡ 0 → (e : ℕ) → chan e (wake p v s .state .words) ≡ chan e (s .words) ++ onto p v e (wakeWork p v s .sends)
+  pub wake-appends : (v : ℕ) → wake p v s .refusal ≡ 0 → (e : ℕ) → chan e (wake p v s .state .words) ≡ chan e (s .words) ++ onto p v e (wakeWork p v s .sends)
   wake-appends v t e =
       let h = took-it (wake-outcome p s v) t in
       let w = wakeWork p v s in
@@ -111,21 +111,21 @@ module _ (p : Plan) (a : Accepted p) (s : State) (i : Sound p s) where
         ∙ post-chan p v e (h .rest) packs ∙ ap (λ c. c ++ onto p v e (w .sends)) (sym (take-other p v x (s .words) (h .rest) (h .first) e n))
 
   -- A service that consumes takes the head of its word's channel.
-  pub serve-takes : (v : ℕ) → serve p v s .answer ≡ 0 → serveWork p v (servedWord p v s) s .answer ≢ BACK
+  pub serve-takes : (v : ℕ) → serve p v s .refusal ≡ 0 → serveWork p v (servedWord p v s) s .answer ≢ BACK
       → chan (linkIn (servedWord p v s)) (s .words) ≡ msgIn (servedWord p v s) ∷ chan (linkIn (servedWord p v s)) (serve p v s .state .words)
   serve-takes v t =
       let h = took-it (serve-outcome p s v) t in
       subst (λ x. serveWork p v x s .answer ≢ BACK → chan (linkIn x) (s .words) ≡ msgIn x ∷ chan (linkIn x) (serve p v s .state .words)) (h .at) (takes v (serve p v s .state) h)
 
   -- One that puts back moves that head to a later place in it.
-  pub serve-puts-back : (v : ℕ) → serve p v s .answer ≡ 0 → serveWork p v (servedWord p v s) s .answer ≡ BACK
+  pub serve-puts-back : (v : ℕ) → serve p v s .refusal ≡ 0 → serveWork p v (servedWord p v s) s .answer ≡ BACK
       → Later (msgIn (servedWord p v s)) (chan (linkIn (servedWord p v s)) (s .words)) (chan (linkIn (servedWord p v s)) (serve p v s .state .words))
   serve-puts-back v t =
       let h = took-it (serve-outcome p s v) t in
       subst (λ x. serveWork p v x s .answer ≡ BACK → Later (msgIn x) (chan (linkIn x) (s .words)) (chan (linkIn x) (serve p v s .state .words))) (h .at) (moves v (serve p v s .state) h)
 
   -- Either appends what it sends to the other channels, and these stay otherwise.
-  pub serve-appends : (v : ℕ) → serve p v s .answer ≡ 0 → (e : ℕ) → linkIn (servedWord p v s) ≢ e
+  pub serve-appends : (v : ℕ) → serve p v s .refusal ≡ 0 → (e : ℕ) → linkIn (servedWord p v s) ≢ e
       → chan e (serve p v s .state .words) ≡ chan e (s .words) ++ onto p v e (serveWork p v (servedWord p v s) s .sends)
   serve-appends v t =
       let h = took-it (serve-outcome p s v) t in

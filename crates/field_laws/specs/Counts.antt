@@ -119,7 +119,7 @@ module _ (p : Plan) where
   unfolding ifTaken
   step-counts kind number s = go (step-outcome p s kind number)
     where
-      go : {a : After State} → StepOutcome s (FieldStep p s kind number) a → CountedSteps p s (cond (eqb (a .answer) 0) (stepTaken kind number s ∷ []) []) (a .state)
+      go : {a : After State} → StepOutcome s (FieldStep p s kind number) a → CountedSteps p s (cond (eqb (a .refusal) 0) (stepTaken kind number s ∷ []) []) (a .state)
       go (took {s′} h) = took-counts s kind number s′ h
       go (kept r h) = rw (eqb-diff r 0 (refusal-not-0 r h)) (counted-none s)
 

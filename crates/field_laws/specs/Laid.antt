@@ -136,7 +136,7 @@ module _ (h : Held) (i : Live h) where
   does-state (one kind number) = rw (i .valid) refl
   does-state (run bytes) = rw (i .valid) (eqb-cases (scheduleRefusal bytes) 0
       (λ b. cond (not b) (refusedRun (scheduleRefusal bytes) h) (laidBack h (scheduleRun plan bytes (stateOf h)))
-      ≡ laidBack h (cond b (scheduleRun plan bytes (stateOf h)) (record { done = 0; answer = scheduleRefusal bytes; state = stateOf h })))
+      ≡ laidBack h (cond b (scheduleRun plan bytes (stateOf h)) (record { done = 0; refusal = scheduleRefusal bytes; state = stateOf h })))
       (λ e. refl)
       (λ n. ap (refusedRun (scheduleRefusal bytes)) (sym held-same)))
   does-state (rounds limit) = rw (i .valid) refl
@@ -159,15 +159,15 @@ module _ (h : Held) (i : Live h) where
   pub plan-of-does : (c : Call) → does c h .state .field .plan ≡ plan
   plan-of-does c = rw (does-state c) refl
 
-  pub answer-of-does : (c : Call) → does c h .answer ≡ onState plan c (stateOf h) .answer
-  answer-of-does c = rw (does-state c) refl
+  pub refusal-of-does : (c : Call) → does c h .refusal ≡ onState plan c (stateOf h) .refusal
+  refusal-of-does c = rw (does-state c) refl
 
   -- demand 1: a step that is refused alters neither field nor words
-  pub refused-alters-nothing : (kind number : ℕ) → stepAlone kind number h .answer ≢ 0 → stepAlone kind number h .state ≡ h
+  pub refused-alters-nothing : (kind number : ℕ) → stepAlone kind number h .refusal ≢ 0 → stepAlone kind number h .state ≡ h
   unfolding stepAlone
   refused-alters-nothing kind number = rw (i .valid) (go (step-outcome plan (stateOf h) kind number))
     where
-      go : {a : After State} → StepOutcome (stateOf h) (FieldStep plan (stateOf h) kind number) a → a .answer ≢ 0 → heldOf h (a .state) ≡ h
+      go : {a : After State} → StepOutcome (stateOf h) (FieldStep plan (stateOf h) kind number) a → a .refusal ≢ 0 → heldOf h (a .state) ≡ h
       go (took t) n = absurd (n refl)
       go (kept r t) n = held-same
 

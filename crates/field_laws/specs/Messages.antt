@@ -75,7 +75,7 @@ module _ (p : Plan) (a : Accepted p) where
   unfolding ifTaken
   step-words kind number s i = go (step-outcome p s kind number) (step-keeps p a s i kind number)
     where
-      go : {r : After State} → StepOutcome s (FieldStep p s kind number) r → Sound p (r .state) → Worded p (cond (eqb (r .answer) 0) (stepTaken kind number s ∷ []) []) (r .state)
+      go : {r : After State} → StepOutcome s (FieldStep p s kind number) r → Sound p (r .state) → Worded p (cond (eqb (r .refusal) 0) (stepTaken kind number s ∷ []) []) (r .state)
       go (took {s′} h) j = record { sound = j; says = worded-one (stepTaken kind number s) (took-words s kind number s′ i h) }
       go (kept r h) j = rw (eqb-diff r 0 (refusal-not-0 r h)) (worded-none s i)
 

@@ -41,7 +41,7 @@ module _ (p : Plan) where
   replay-step kind number s = go (step p kind number s) refl (step-outcome p s kind number)
     where
       go : {Took : State → Type 0} (a : After State) → step p kind number s ≡ a → StepOutcome s Took a
-          → Replay p s (cond (eqb (a .answer) 0) (record { kind = kind; number = number; at = s } ∷ []) []) (a .state)
+          → Replay p s (cond (eqb (a .refusal) 0) (record { kind = kind; number = number; at = s } ∷ []) []) (a .state)
       go _ e (took h) = next e done
       go _ e (kept r h) = rw (eqb-diff r 0 (refusal-not-0 r h)) done
 
@@ -57,12 +57,12 @@ module _ (p : Plan) where
 
 -- all steps were done; or the step after those done is refused, in the state that is left: "the steps before the refused one stand"
 pub record Stopped (p : Plan) (bytes : List ℕ) (n : ℕ) (r : Ran State) : Type 0 where
-  pub some : r .answer ≢ 0
+  pub some : r .refusal ≢ 0
   pub below : r .done < n
-  pub at : stepAt p bytes (r .done) (r .state) ≡ refusedBy (r .answer) (r .state)
+  pub at : stepAt p bytes (r .done) (r .state) ≡ refusedBy (r .refusal) (r .state)
 
 abbrev pub Ended : Plan → List ℕ → ℕ → Ran State → Type 0
-Ended p bytes n r = ((r .answer ≡ 0) × (r .done ≡ n)) ⊎ Stopped p bytes n r
+Ended p bytes n r = ((r .refusal ≡ 0) × (r .done ≡ n)) ⊎ Stopped p bytes n r
 
 module _ (p : Plan) (bytes : List ℕ) where
   one-more : (n d : ℕ) (y : State) → d ≡ n → {a : After State} {Took : State → Type 0} → stepAt p bytes n y ≡ a → StepOutcome y Took a → Ended p bytes (suc n) (countedTurn d a)
@@ -77,9 +77,9 @@ module _ (p : Plan) (bytes : List ℕ) where
   run-ends zero s = inl (refl, refl)
   run-ends (suc n) s = go (runs never n (stepAt p bytes) s) (run-ends n s)
     where
-      go : (r : Ran State) → Ended p bytes n r → Ended p bytes (suc n) (cond (eqb (r .answer) 0 && not (never (r .state))) (countedTurn (r .done) (stepAt p bytes n (r .state))) r)
-      go r (inl h) = rw (eq-eqb (r .answer) 0 (h .0)) (one-more n (r .done) (r .state) (h .1) refl (step-outcome p (r .state) (kindOf bytes n) (numberOf bytes n)))
-      go r (inr h) = rw (ne-eqb (r .answer) 0 (h .some)) (inr (record { some = h .some; below = omega (arith, h .below); at = h .at }))
+      go : (r : Ran State) → Ended p bytes n r → Ended p bytes (suc n) (cond (eqb (r .refusal) 0 && not (never (r .state))) (countedTurn (r .done) (stepAt p bytes n (r .state))) r)
+      go r (inl h) = rw (eq-eqb (r .refusal) 0 (h .0)) (one-more n (r .done) (r .state) (h .1) refl (step-outcome p (r .state) (kindOf bytes n) (numberOf bytes n)))
+      go r (inr h) = rw (ne-eqb (r .refusal) 0 (h .some)) (inr (record { some = h .some; below = omega (arith, h .below); at = h .at }))
 
   -- the steps done are the steps taken
   run-done : (n : ℕ) (s : State) → length (runsTrace never n (stepAt p bytes) (λ i. ifTaken p (kindOf bytes i) (numberOf bytes i)) s) ≡ runs never n (stepAt p bytes) s .done
@@ -89,9 +89,9 @@ module _ (p : Plan) (bytes : List ℕ) where
       let r = runs never n (stepAt p bytes) s in
       let t = runsTrace never n (stepAt p bytes) (λ i. ifTaken p (kindOf bytes i) (numberOf bytes i)) s in
       let i = run-done n s in
-      by-test (eqb (r .answer) 0 && true)
+      by-test (eqb (r .refusal) 0 && true)
       (λ b. length (t ++ cond b (ifTaken p (kindOf bytes n) (numberOf bytes n) (r .state)) []) ≡ cond b (countedTurn (r .done) (stepAt p bytes n (r .state))) r .done)
-      (length-append t (ifTaken p (kindOf bytes n) (numberOf bytes n) (r .state)) ∙ by-test (eqb (stepAt p bytes n (r .state) .answer) 0)
+      (length-append t (ifTaken p (kindOf bytes n) (numberOf bytes n) (r .state)) ∙ by-test (eqb (stepAt p bytes n (r .state) .refusal) 0)
       (λ b. length t + length {A = Taken} (cond b (record { kind = kindOf bytes n; number = numberOf bytes n; at = r .state } ∷ []) []) ≡ cond b (suc (r .done)) (r .done))
       (omega (arith, i)) (omega (arith, i)))
       (length-append t [] ∙ omega (arith, i))
@@ -100,18 +100,18 @@ module _ (p : Plan) (bytes : List ℕ) where
 
 -- a step was refused, by the number that is answered and in the state that is left: it changed nothing
 pub record RefusedStep (p : Plan) (a : After State) : Type 0 where
-  pub some : a .answer ≢ 0
+  pub some : a .refusal ≢ 0
   pub kind : ℕ
   pub number : ℕ
-  pub at : step p kind number (a .state) ≡ refusedBy (a .answer) (a .state)
+  pub at : step p kind number (a .state) ≡ refusedBy (a .refusal) (a .state)
 
 abbrev Goes : Plan → After State → Type 0
-Goes p a = (a .answer ≡ 0) ⊎ RefusedStep p a
+Goes p a = (a .refusal ≡ 0) ⊎ RefusedStep p a
 
 -- all rounds were completed, or the field was at rest before the next; or a step of the round after those completed was refused
 abbrev pub RoundsEnded : Plan → ℕ → Ran State → Type 0
 RoundsEnded p limit r =
-    ((r .answer ≡ 0) × ((r .done ≡ limit) ⊎ (atRest (r .state) ≡ true))) ⊎ ((r .done < limit) × RefusedStep p (record { answer = r .answer; state = r .state }))
+    ((r .refusal ≡ 0) × ((r .done ≡ limit) ⊎ (atRest (r .state) ≡ true))) ⊎ ((r .done < limit) × RefusedStep p (record { refusal = r .refusal; state = r .state }))
 
 module _ (p : Plan) where
   step-goes : (kind number : ℕ) (s : State) → Goes p (step p kind number s)
@@ -140,12 +140,12 @@ module _ (p : Plan) where
   rounds-end (suc n) s = go (runs atRest n (λ i. round p) s) (rounds-end n s)
     where
       turned : (r : Ran State) → r .done ≡ n → (a : After State) → Goes p a → RoundsEnded p (suc n) (countedTurn (r .done) a)
-      turned r d a (inl z) = rw (eq-eqb (a .answer) 0 z) (inl (z, inl (ap suc d)))
-      turned r d a (inr f) = rw (ne-eqb (a .answer) 0 (f .some)) (inr (omega (arith, d), f))
+      turned r d a (inl z) = rw (eq-eqb (a .refusal) 0 z) (inl (z, inl (ap suc d)))
+      turned r d a (inr f) = rw (ne-eqb (a .refusal) 0 (f .some)) (inr (omega (arith, d), f))
 
-      go : (r : Ran State) → RoundsEnded p n r → RoundsEnded p (suc n) (cond (eqb (r .answer) 0 && not (atRest (r .state))) (countedTurn (r .done) (round p (r .state))) r)
-      go r (inr h) = rw (ne-eqb (r .answer) 0 (h .1 .some)) (inr (omega (arith, h .0), h .1))
-      go r (inl (e, inr q)) = rw (eq-eqb (r .answer) 0 e, q) (inl (e, inr q))
+      go : (r : Ran State) → RoundsEnded p n r → RoundsEnded p (suc n) (cond (eqb (r .refusal) 0 && not (atRest (r .state))) (countedTurn (r .done) (round p (r .state))) r)
+      go r (inr h) = rw (ne-eqb (r .refusal) 0 (h .1 .some)) (inr (omega (arith, h .0), h .1))
+      go r (inl (e, inr q)) = rw (eq-eqb (r .refusal) 0 e, q) (inl (e, inr q))
       go r (inl (e, inl d)) = bool-cases (atRest (r .state))
-          (λ q. rw (eq-eqb (r .answer) 0 e, q) (inl (e, inr q)))
-          (λ q. rw (eq-eqb (r .answer) 0 e, q) (turned r d (round p (r .state)) (round-goes (r .state))))
+          (λ q. rw (eq-eqb (r .refusal) 0 e, q) (inl (e, inr q)))
+          (λ q. rw (eq-eqb (r .refusal) 0 e, q) (turned r d (round p (r .state)) (round-goes (r .state))))

@@ -18,7 +18,7 @@ use Rattle.field_calls.specs.Trail.{Taken, ifTaken, handTurnSteps, serveTurnSte
 unfoldable pub onState : Plan → Call → State → Ran State
 onState p (one kind number) s = countedTurn 0 (step p kind number s)
 onState p (run bytes) s =
-    cond (eqb (scheduleRefusal bytes) 0) (scheduleRun p bytes s) (record { done = 0; answer = scheduleRefusal bytes; state = s })
+    cond (eqb (scheduleRefusal bytes) 0) (scheduleRun p bytes s) (record { done = 0; refusal = scheduleRefusal bytes; state = s })
 onState p (rounds limit) s = roundsRun p limit s
 
 -- R x l y: from x the steps l were taken and left y
@@ -48,7 +48,7 @@ module _ (p : Plan) (R : State → List Taken → State → Type 0) (none : (x :
       let a = loopTrace (2 * linksOf p) (handTurn p) (handTurnSteps p) s in
       let b = loopTrace (modulesOf p) (serveTurn p) (serveTurnSteps p) y in
       let i = loop-tells R none more (handTurn p) (handTurnSteps p) (2 * linksOf p) s (λ k x l. hand-turn-tells k x) in
-      by-test (eqb (handPhase p s .answer) 0) (λ t. R s (a ++ cond t b []) (cond t (servePhase p y) (handPhase p s) .state))
+      by-test (eqb (handPhase p s .refusal) 0) (λ t. R s (a ++ cond t b []) (cond t (servePhase p y) (handPhase p s) .state))
       (more s y (servePhase p y .state) a b i (loop-tells R none more (serveTurn p) (serveTurnSteps p) (modulesOf p) y (λ k x l. serve-turn-tells k x)))
       (more s y y a [] i (none y))
 
@@ -58,7 +58,7 @@ module _ (p : Plan) (R : State → List Taken → State → Type 0) (none : (x :
   call-tells (run bytes) s =
       by-test (eqb (scheduleRefusal bytes) 0)
       (λ t. R s (cond t (runsTrace never (stepsIn bytes) (stepAt p bytes) (λ i. ifTaken p (kindOf bytes i) (numberOf bytes i)) s) [])
-      (cond t (scheduleRun p bytes s) (record { done = 0; answer = scheduleRefusal bytes; state = s }) .state))
+      (cond t (scheduleRun p bytes s) (record { done = 0; refusal = scheduleRefusal bytes; state = s }) .state))
       (runs-tell R none more (stepAt p bytes) (λ i. ifTaken p (kindOf bytes i) (numberOf bytes i)) never (stepsIn bytes) s (λ k y l. turn (kindOf bytes k) (numberOf bytes k) y))
       (none s)
   call-tells (rounds limit) s = runs-tell R none more (λ i. round p) (λ i. roundSteps p) atRest limit s (λ k y l. round-tells y)

@@ -141,7 +141,7 @@ module _ (p : Plan) (a : Accepted p) where
   unfolding ifTaken
   step-wakes kind number s i = go (step-outcome p s kind number) (step-keeps p a s i kind number)
     where
-      go : {r : After State} → StepOutcome s (FieldStep p s kind number) r → Sound p (r .state) → Wakes p s (cond (eqb (r .answer) 0) (record { kind = kind; number = number; at = s } ∷ []) []) (r .state)
+      go : {r : After State} → StepOutcome s (FieldStep p s kind number) r → Sound p (r .state) → Wakes p s (cond (eqb (r .refusal) 0) (record { kind = kind; number = number; at = s } ∷ []) []) (r .state)
       go (took {s′} h) j = took-wakes s kind number s′ i j h
       go (kept r h) j = rw (eqb-diff r 0 (refusal-not-0 r h)) (wakes-none s i)
 
@@ -155,7 +155,7 @@ member {P} (con h t) (List·Memᴰ·head e) = subst P (sym e) h
 member (con h t) (List·Memᴰ·tail m) = member t m
 
 -- THE LAW: after a list of calls from a setup the modules that are awake are exactly those that were woken in it
-pub exactly-woken : (p : Plan) (lent : List ℕ) → setUp p lent .answer ≡ 0 → (cs : List Call) (v : ℕ)
+pub exactly-woken : (p : Plan) (lent : List ℕ) → setUp p lent .refusal ≡ 0 → (cs : List Call) (v : ℕ)
     → Awake p (stateOf (after cs (setUp p lent .state))) v ↔ List·Memᴰ v (wokenIn p (trail cs (setUp p lent .state)))
 exactly-woken p lent z cs v =
     let s = started p lent z in
@@ -167,7 +167,7 @@ exactly-woken p lent z cs v =
     ))
 
 -- so whoever was not woken is asleep
-pub others-asleep : (p : Plan) (lent : List ℕ) → setUp p lent .answer ≡ 0 → (cs : List Call) (v : ℕ) → v < modulesOf p
+pub others-asleep : (p : Plan) (lent : List ℕ) → setUp p lent .refusal ≡ 0 → (cs : List Call) (v : ℕ) → v < modulesOf p
     → ¬ List·Memᴰ v (wokenIn p (trail cs (setUp p lent .state))) → nodeAt (stateOf (after cs (setUp p lent .state))) v .status ≡ ASLEEP
 others-asleep p lent z cs v l n = by-eq (nodeAt (stateOf (after cs (setUp p lent .state))) v .status) ASLEEP (λ e. e)
     (λ m. absurd (n (exactly-woken p lent z cs v .0 (record { within = l; awake = m }))))

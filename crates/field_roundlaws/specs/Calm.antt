@@ -24,7 +24,7 @@ use Rattle.field_roundlaws.specs.Progress.{progress, up, BlockedWord, St
 -- THE PREMISES: an invariant of the steps, under which no service is refused by 32 or 33, and nothing waits where every waiting message is blocked
 pub record Calm (p : Plan) (Good : State → Type 0) : Type 0 where
   pub keeps : (kind number : ℕ) (s : State) → Sound p s → Good s → Good (step p kind number s .state)
-  pub unrefused : (v : ℕ) (s : State) → Sound p s → Good s → (serve p v s .answer ≢ 32) × (serve p v s .answer ≢ 33)
+  pub unrefused : (v : ℕ) (s : State) → Sound p s → Good s → (serve p v s .refusal ≢ 32) × (serve p v s .refusal ≢ 33)
   pub stuck : (s : State) → Sound p s → Good s → All (BlockedWord p s) (s .words) → s .words ≡ []
 
 pub many-keep : (q : ℕ → Bool) (l : List ℕ) → many q l ≡ length (keep q l)

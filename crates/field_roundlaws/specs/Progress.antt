@@ -80,7 +80,7 @@ module _ (p : Plan) (a : Accepted p) (s s′ : State) (v : ℕ) (i : Sound p s) 
   fresh = start (nodeAt s v) (markAt p s v)
 
   begins : nodeAt s v .status ≢ ASLEEP → Steady fresh
-  begins n = record { answer = λ e. omega arith; awake = n }
+  begins n = record { unblocked = λ e. omega arith; awake = n }
 
   ends : nodeAt s v .status ≢ ASLEEP → SteadyOr fresh (PutsBack (linkOf (linkIn x)) fresh (msgIn x)) w
   ends n = ends-awake (ownOf p v) (limitOf p) (linkOf (linkIn x)) (msgIn x) fresh (begins n)
@@ -137,7 +137,7 @@ module _ (p : Plan) (a : Accepted p) (s s′ : State) (v : ℕ) (i : Sound p s) 
       omega (arith, sent-after, words-after, one-less, i .fits .waiting, sum-lt (modulesOf p) v (up s) (up s′) (h .within) up-all (omega (arith, z, up-v)), ap length (back-one b))
 
   is-put-back : w .answer ≡ BACK → nodeAt s v .status ≢ ASLEEP → w ≡ putBack fresh
-  is-put-back b n = ⊎-elim (λ k. absurd (k .answer b)) (λ t. t .1) (ends n)
+  is-put-back b n = ⊎-elim (λ k. absurd (k .unblocked b)) (λ t. t .1) (ends n)
 
   stays : w .answer ≡ BACK → nodeAt s v .status ≢ ASLEEP → Moved
   stays b n =

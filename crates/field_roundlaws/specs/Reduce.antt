@@ -9,7 +9,7 @@ use lib.ListN.{length, getD, replicate}
 use lib.Dec.{eqb, ltb}
 use Rattle.base.specs.laws.Cond.{eqb-cases}
 use Rattle.base.specs.Loop.{After, Ran}
-use Rattle.base.specs.laws.Loop.{runs-answer}
+use Rattle.base.specs.laws.Loop.{runs-refusal}
 use Rattle.base.specs.Pool.{All, nil, con}
 use Rattle.base.specs.Test.{every}
 use Rattle.plan.specs.laws.Accepted.{Accepted, accepted}
@@ -26,7 +26,7 @@ use Rattle.field_calls.specs.Demand.{TreeLink, Allowed, Agreed, ComesToRest, Cl
 use Rattle.field_laws.specs.Cases.{StepOutcome, took, kept, step-outcome}
 use Rattle.field_laws.specs.Keeps.{Sound, step-keeps}
 use Rattle.field_laws.specs.Trace.{onState, call-keeps}
-use Rattle.field_laws.specs.Laid.{waiting-zeros, Live, live-sound, does-live, does-state, state-of-does, plan-of-does, answer-of-does}
+use Rattle.field_laws.specs.Laid.{waiting-zeros, Live, live-sound, does-live, does-state, state-of-does, plan-of-does, refusal-of-does}
 use Rattle.field_laws.specs.After.{started, begun-live, after-live, after-plan, list-counts, list-keeps}
 use Rattle.field_laws.specs.Messages.{times-conserved, number-conserved}
 use Rattle.field_roundlaws.specs.Progress.{BlockedWord}
@@ -41,7 +41,7 @@ pub record Protocol (p : Plan) (Good : State → Type 0) : Type 0 where
   -- every step keeps it
   pub keeps : (kind number : ℕ) (s : State) → Sound p s → Good s → Good (step p kind number s .state)
   -- no step is refused by 32 or 33
-  pub unrefused : (kind number : ℕ) (s : State) → Sound p s → Good s → (step p kind number s .answer ≢ 32) × (step p kind number s .answer ≢ 33)
+  pub unrefused : (kind number : ℕ) (s : State) → Sound p s → Good s → (step p kind number s .refusal ≢ 32) × (step p kind number s .refusal ≢ 33)
   -- nothing waits where every waiting message is blocked
   pub stuck : (s : State) → Sound p s → Good s → All (BlockedWord p s) (s .words) → s .words ≡ []
   -- branches are tree links
@@ -75,7 +75,7 @@ usual-schedule : (r : ℕ) → OfSchedule r → Usual r
 usual-schedule r (inl e) = inl e
 usual-schedule r (inr h) = inr (inr h)
 
-usual-step : {s : State} {Took : State → Type 0} {a : After State} → StepOutcome s Took a → a .answer ≢ 32 → a .answer ≢ 33 → Usual (a .answer)
+usual-step : {s : State} {Took : State → Type 0} {a : After State} → StepOutcome s Took a → a .refusal ≢ 32 → a .refusal ≢ 33 → Usual (a .refusal)
 usual-step (took h) x y = inl refl
 usual-step (kept r (inl e)) x y = absurd (x e)
 usual-step (kept r (inr (inl e))) x y = absurd (y e)
@@ -92,22 +92,22 @@ module _ (p : Plan) (a : Accepted p) (Good : State → Type 0) (proto : Protocol
   unfolding step
   calm = record { keeps = proto .keeps; unrefused = λ v s i g. proto .unrefused 3 v s i g; stuck = proto .stuck }
 
-  step-usual : (kind number : ℕ) (s : State) → Sound p s → Good s → Usual (step p kind number s .answer)
+  step-usual : (kind number : ℕ) (s : State) → Sound p s → Good s → Usual (step p kind number s .refusal)
   step-usual kind number s i g = let u = proto .unrefused kind number s i g in usual-step (step-outcome p s kind number) (u .0) (u .1)
 
   -- a call on a good state answers what it may
-  call-allowed : (c : Call) (s : State) → Sound p s → Good s → Allowed c (onState p c s .answer)
+  call-allowed : (c : Call) (s : State) → Sound p s → Good s → Allowed c (onState p c s .refusal)
   unfolding onState
   call-allowed (one kind number) s i g = step-usual kind number s i g
   call-allowed (run bytes) s i g = eqb-cases (scheduleRefusal bytes) 0
-      (λ b. Usual (cond b (scheduleRun p bytes s) (record { done = 0; answer = scheduleRefusal bytes; state = s }) .answer))
-      (λ e. runs-answer (λ x. Sound p x × Good x) Usual never (stepsIn bytes) (stepAt p bytes) s (i, g) (inl refl)
+      (λ b. Usual (cond b (scheduleRun p bytes s) (record { done = 0; refusal = scheduleRefusal bytes; state = s }) .refusal))
+      (λ e. runs-refusal (λ x. Sound p x × Good x) Usual never (stepsIn bytes) (stepAt p bytes) s (i, g) (inl refl)
       (λ k y l h. (
         (step-keeps p a y (h .0) (kindOf bytes k) (numberOf bytes k), proto .keeps (kindOf bytes k) (numberOf bytes k) y (h .0) (h .1)),
         step-usual (kindOf bytes k) (numberOf bytes k) y (h .0) (h .1),
       )))
       (λ n. usual-schedule (scheduleRefusal bytes) (schedule-refusal bytes))
-  call-allowed (rounds limit) s i g = rested p a Good calm s i g limit .answer
+  call-allowed (rounds limit) s i g = rested p a Good calm s i g limit .refusal
 
   -- ---- lists of calls on what a host holds
 
@@ -115,7 +115,7 @@ module _ (p : Plan) (a : Accepted p) (Good : State → Type 0) (proto : Protocol
     sound-held : Sound p (stateOf h)
     sound-held = subst (λ q. Sound q (stateOf h)) e (live-sound h i)
 
-  allowed : (cs : List Call) (h : Held) → Live h → h .field .plan ≡ p → Good (stateOf h) → All (λ r. Allowed (r .call) (r .answer)) (answers cs h)
+  allowed : (cs : List Call) (h : Held) → Live h → h .field .plan ≡ p → Good (stateOf h) → All (λ r. Allowed (r .call) (r .refusal)) (answers cs h)
   unfolding answers
   allowed [] h i e g = nil
   allowed (c ∷ cs) h i e g =
@@ -124,7 +124,7 @@ module _ (p : Plan) (a : Accepted p) (Good : State → Type 0) (proto : Protocol
       let next : Good (stateOf (does c h .state)) =
       subst Good (sym (state-of-does h i c ∙ ap (λ (r : Ran State). r .state) q))
       (call-keeps p (λ x. Sound p x × Good x) (λ kind number x k. (step-keeps p a x (k .0) kind number, proto .keeps kind number x (k .0) (k .1))) c (stateOf h) (s, g) .1) in
-      con (subst (Allowed c) (sym (answer-of-does h i c ∙ ap (λ (r : Ran State). r .answer) q)) (call-allowed c (stateOf h) s g))
+      con (subst (Allowed c) (sym (refusal-of-does h i c ∙ ap (λ (r : Ran State). r .refusal) q)) (call-allowed c (stateOf h) s g))
       (allowed cs (does c h .state) (does-live h i c) (plan-of-does h i c ∙ e) next)
 
   -- what a run of rounds leaves
@@ -135,7 +135,7 @@ module _ (p : Plan) (a : Accepted p) (Good : State → Type 0) (proto : Protocol
       let q : onState (h .field .plan) (rounds limit) (stateOf h) ≡ roundsRun p limit (stateOf h) = ap (λ x. roundsRun x limit (stateOf h)) e in
       record {
         rest = ap (λ (s : State). s .words) (state-of-does h i (rounds limit)) ∙ ap (λ (x : Ran State). x .state .words) q ∙ r .rest l;
-        unrefused = answer-of-does h i (rounds limit) ∙ ap (λ (x : Ran State). x .answer) q ∙ r .answer;
+        unrefused = refusal-of-does h i (rounds limit) ∙ ap (λ (x : Ran State). x .refusal) q ∙ r .refusal;
         within = subst (λ n. n ≤ ceilingOf p + modulesOf p) (sym (ap (λ (x : Ran Held). x .done) (does-state h i (rounds limit)) ∙ ap (λ (x : Ran State). x .done) q)) (r .within);
       }
 

@@ -101,7 +101,7 @@ module _ (p : Plan) (a : Accepted p) (Good : State → Type 0) (calm : Calm p Go
   -- ---- a run of rounds
 
   record Going (f : State) (n : ℕ) (r : Ran State) : Type 0 where
-    answer : r .answer ≡ 0
+    refusal : r .refusal ≡ 0
     sound : Sound p (r .state)
     good : Good (r .state)
     risen : r .done + progress p f ≤ progress p (r .state)
@@ -112,14 +112,14 @@ module _ (p : Plan) (a : Accepted p) (Good : State → Type 0) (calm : Calm p Go
   no-words (x ∷ l) e = absurd (omega arith)
 
   going-on : (f : State) (n : ℕ) (r : Ran State) → Going f n r
-      → Going f (suc n) (cond (eqb (r .answer) 0 && not (atRest (r .state))) (countedTurn (r .done) (round p (r .state))) r)
-  going-on f n r k = rw (eq-eqb (r .answer) 0 (k .answer)) (eqb-cases (length (r .state .words)) 0
+      → Going f (suc n) (cond (eqb (r .refusal) 0 && not (atRest (r .state))) (countedTurn (r .done) (round p (r .state))) r)
+  going-on f n r k = rw (eq-eqb (r .refusal) 0 (k .refusal)) (eqb-cases (length (r .state .words)) 0
       (λ b. Going f (suc n) (cond (not b) (countedTurn (r .done) (round p (r .state))) r))
-      (λ e. record { answer = k .answer; sound = k .sound; good = k .good; risen = k .risen; ended = inr (no-words _ e) })
+      (λ e. record { refusal = k .refusal; sound = k .sound; good = k .good; risen = k .risen; ended = inr (no-words _ e) })
       (λ z. let o = rounded (r .state) (k .sound) (k .good) in
       rw (o .fine)
       (record {
-        answer = refl;
+        refusal = refl;
         sound = o .holds .sound;
         good = o .holds .good;
         risen = ⊎-elim (λ m. omega (arith, k .risen)) (λ e. absurd (z (ap length e))) (o .holds .moves);
@@ -128,7 +128,7 @@ module _ (p : Plan) (a : Accepted p) (Good : State → Type 0) (calm : Calm p Go
 
   going : (f : State) → Sound p f → Good f → (n : ℕ) → Going f n (roundsRun p n f)
   unfolding runs
-  going f i g zero = record { answer = refl; sound = i; good = g; risen = omega arith; ended = inl refl }
+  going f i g zero = record { refusal = refl; sound = i; good = g; risen = omega arith; ended = inl refl }
   going f i g (suc n) = going-on f n (roundsRun p n f) (going f i g n)
 
   -- all that could be sent was consumed
@@ -139,7 +139,7 @@ module _ (p : Plan) (a : Accepted p) (Good : State → Type 0) (calm : Calm p Go
 
   -- THE LAW of a run of rounds: never refused; at rest within M + N rounds, if its limit lets it
   pub record Rested (limit : ℕ) (r : Ran State) : Type 0 where
-    pub answer : r .answer ≡ 0
+    pub refusal : r .refusal ≡ 0
     pub within : r .done ≤ ceilingOf p + modulesOf p
     pub rest : ceilingOf p + modulesOf p ≤ limit → r .state .words ≡ []
 
@@ -148,7 +148,7 @@ module _ (p : Plan) (a : Accepted p) (Good : State → Type 0) (calm : Calm p Go
       let k = going f i g limit in
       let r = roundsRun p limit f in
       record {
-        answer = k .answer;
+        refusal = k .refusal;
         within = omega (arith, k .risen, progress-le p (r .state) (k .sound));
         rest = λ l. ⊎-elim (λ e. full f limit r k e l) (λ e. e) (k .ended);
       }

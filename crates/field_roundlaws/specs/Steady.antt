@@ -16,7 +16,7 @@ use Rattle.node.specs.laws.Rules.{awake-wakes, awake-is, asleep-refused, asleep
 
 -- not put back, and awake
 pub record Steady (w : Work) : Type 0 where
-  pub answer : w .answer ≢ BACK
+  pub unblocked : w .answer ≢ BACK
   pub awake : w .node .status ≢ ASLEEP
 
 either : (b : Bool) (w r : Work) → Steady w → Steady r → Steady (cond b w r)
@@ -25,31 +25,31 @@ either false w r h i = i
 
 -- refused, it is not put back
 stopped : (w : Work) → Steady w → Steady (refused w)
-stopped w h = record { answer = λ e. omega arith; awake = h .awake }
+stopped w h = record { unblocked = λ e. omega arith; awake = h .awake }
 
 -- the node changes, and is awake
 now : (n : Node) (w : Work) → n .status ≢ ASLEEP → Steady w → Steady (withNode n w)
-now n w a h = record { answer = h .answer; awake = a }
+now n w a h = record { unblocked = h .unblocked; awake = a }
 
 steady-report : (w : Work) → Steady w → Steady (doReport w)
 unfolding doReport
 steady-report w h = either (eqb (w .node .count) 0 && eqb (w .node .test) none) _ w
-    (either (eqb (w .node .branch) none) _ _ (stopped w h) (record { answer = h .answer; awake = λ e. omega arith })) h
+    (either (eqb (w .node .branch) none) _ _ (stopped w h) (record { unblocked = h .unblocked; awake = λ e. omega arith })) h
 
 steady-test : (k : ℕ) (w : Work) → Steady w → Steady (testOn k w)
 unfolding testOn
 steady-test k w h = either (eqb k none) _ _ (steady-report _ (now (setTest none (w .node)) w (h .awake) h))
-    (either (eqb (w .node .level) 0) _ _ (stopped w h) (record { answer = h .answer; awake = h .awake }))
+    (either (eqb (w .node .level) 0) _ _ (stopped w h) (record { unblocked = h .unblocked; awake = h .awake }))
 
 steady-root : (w : Work) → Steady w → Steady (changeRoot w)
 unfolding changeRoot
 steady-root w h = either (eqb (w .node .best) none) _ _ (stopped w h)
-    (either (eqb (w .mark (w .node .best)) BRANCH) _ _ (record { answer = h .answer; awake = h .awake }) (record { answer = h .answer; awake = h .awake }))
+    (either (eqb (w .mark (w .node .best)) BRANCH) _ _ (record { unblocked = h .unblocked; awake = h .awake }) (record { unblocked = h .unblocked; awake = h .awake }))
 
 -- waking: Found
 pub steady-wake : (o : Own) (w : Work) → w .answer ≢ BACK → Steady (wakeup o w)
 unfolding wakeOn
-steady-wake o w h = either (eqb (earliest o anyEdge (o.edges)) none) _ _ (record { answer = h; awake = λ e. omega arith }) (record { answer = h; awake = λ e. omega arith })
+steady-wake o w h = either (eqb (earliest o anyEdge (o.edges)) none) _ _ (record { unblocked = h; awake = λ e. omega arith }) (record { unblocked = h; awake = λ e. omega arith })
 
 -- an awake node that is as in w puts m back if it comes over j
 abbrev pub PutsBack : ℕ → Work → Msg → Type 0
@@ -71,16 +71,16 @@ module _ (o : Own) (limit j : ℕ) (w : Work) (h : Steady w) where
   ends-connect l = ltb-cases l (w .node .level)
       (λ b. SteadyOr w (PutsBack j w (connect l)) (cond b (absorb o j w) (cond (eqb (w .mark j) BASIC) (putBack w) (coreEnd limit j w))))
       (λ a. inl (either (eqb (w .node .status) FIND) _ _
-      (either (ltb (degree o) (w .node .count + 1)) _ _ (record { answer = λ e. omega arith; awake = h .awake }) (record { answer = h .answer; awake = h .awake }))
-      (record { answer = h .answer; awake = h .awake })))
+      (either (ltb (degree o) (w .node .count + 1)) _ _ (record { unblocked = λ e. omega arith; awake = h .awake }) (record { unblocked = h .unblocked; awake = h .awake }))
+      (record { unblocked = h .unblocked; awake = h .awake })))
       (λ a. eqb-cases (w .mark j) BASIC (λ b. SteadyOr w (PutsBack j w (connect l)) (cond b (putBack w) (coreEnd limit j w))) (λ q. inr ((a, q), refl))
-      (λ q. inl (either (leb limit (w .node .level)) _ _ (stopped w h) (record { answer = h .answer; awake = h .awake }))))
+      (λ q. inl (either (leb limit (w .node .level)) _ _ (stopped w h) (record { unblocked = h .unblocked; awake = h .awake }))))
 
   steady-initiate : (l f find : ℕ) → Steady (onInitiate o l f find j w)
   unfolding onInitiate seek
   steady-initiate l f find =
       let t = told o l f find j w in
-      let k : Steady t = record { answer = h .answer; awake = by-test (eqb find 1) (λ b. cond b FIND FOUND ≢ ASLEEP) (λ e. omega arith) (λ e. omega arith) } in
+      let k : Steady t = record { unblocked = h .unblocked; awake = by-test (eqb find 1) (λ b. cond b FIND FOUND ≢ ASLEEP) (λ e. omega arith) (λ e. omega arith) } in
       let c = w .node .count + number o (branches j w) (o.edges) in
       either (eqb find 1) _ t (either (ltb (degree o) c) _ _ (stopped t k) (steady-test _ _ (now (setCount c (t .node)) t (k .awake) k))) k
 
@@ -93,8 +93,8 @@ module _ (o : Own) (limit j : ℕ) (w : Work) (h : Steady w) where
   ends-test l f = ltb-cases (w .node .level) l (λ b. SteadyOr w (PutsBack j w (test l f)) (cond b (putBack w) (replies f)))
       (λ a. inr (a, refl))
       (λ a. inl (either (eqb f (w .node .identity)) _ _
-      (either (eqb (w .node .test) j) _ _ (steady-test _ _ (record { answer = h .answer; awake = h .awake })) (record { answer = h .answer; awake = h .awake }))
-      (record { answer = h .answer; awake = h .awake })))
+      (either (eqb (w .node .test) j) _ _ (steady-test _ _ (record { unblocked = h .unblocked; awake = h .awake })) (record { unblocked = h .unblocked; awake = h .awake }))
+      (record { unblocked = h .unblocked; awake = h .awake })))
 
   ends-report : (x : ℕ) → SteadyOr w (PutsBack j w (report x)) (onReport o x j w)
   unfolding onReport childReport coreReport
@@ -102,8 +102,8 @@ module _ (o : Own) (limit j : ℕ) (w : Work) (h : Steady w) where
       (λ b. SteadyOr w (PutsBack j w (report x)) (cond b (cond (eqb (w .node .status) FIND) (putBack w) (coreReport o x w)) (childReport o x j w)))
       (λ a. eqb-cases (w .node .status) FIND (λ b. SteadyOr w (PutsBack j w (report x)) (cond b (putBack w) (coreReport o x w))) (λ q. inr ((sym a, q), refl))
       (λ q. inl (either (before o (w .node .weight) x) _ _ (steady-root w h)
-      (either (eqb x none && eqb (w .node .weight) none) _ w (record { answer = h .answer; awake = h .awake }) h))))
-      (λ a. inl (either (eqb (w .node .count) 0) _ _ (stopped w h) (steady-report _ (record { answer = h .answer; awake = h .awake }))))
+      (either (eqb x none && eqb (w .node .weight) none) _ w (record { unblocked = h .unblocked; awake = h .awake }) h))))
+      (λ a. inl (either (eqb (w .node .count) 0) _ _ (stopped w h) (steady-report _ (record { unblocked = h .unblocked; awake = h .awake }))))
 
 -- THE LAW for a node that is awake ..
 pub ends-awake : (o : Own) (limit j : ℕ) (m : Msg) (w : Work) → Steady w → SteadyOr w (PutsBack j w m) (respondTo o limit m j w)
@@ -111,8 +111,8 @@ unfolding respondTo
 ends-awake o limit j (connect l) w h = rw (awake-is o w (h .awake)) (ends-connect o limit j w h l)
 ends-awake o limit j (initiate l f find) w h = inl (rw (asleep-not w _ (h .awake)) (steady-initiate o limit j w h l f find))
 ends-awake o limit j (test l f) w h = rw (awake-is o w (h .awake)) (ends-test o limit j w h l f)
-ends-awake o limit j accept w h = inl (rw (asleep-not w _ (h .awake)) (steady-report _ (record { answer = h .answer; awake = h .awake })))
-ends-awake o limit j reject w h = inl (rw (asleep-not w _ (h .awake)) (steady-test _ _ (record { answer = h .answer; awake = h .awake })))
+ends-awake o limit j accept w h = inl (rw (asleep-not w _ (h .awake)) (steady-report _ (record { unblocked = h .unblocked; awake = h .awake })))
+ends-awake o limit j reject w h = inl (rw (asleep-not w _ (h .awake)) (steady-test _ _ (record { unblocked = h .unblocked; awake = h .awake })))
 ends-awake o limit j (report x) w h = rw (asleep-not w _ (h .awake)) (ends-report o limit j w h x)
 ends-awake o limit j change w h = inl (rw (asleep-not w _ (h .awake)) (steady-root w h))
 

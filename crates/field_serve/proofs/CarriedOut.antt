@@ -48,7 +48,7 @@ module _ (p : Plan) (cells marks lent : List ℕ) (b : Done) (v i : ℕ) (a : Re
 
   -- a refused response alters nothing
   abbrev stays : ℕ → Done → Type 0
-  stays answer d = d ≡ record { answer = answer; waiting = b .waiting; sent = b .sent } → CarriedOut p v i a cells marks lent b d cells marks lent
+  stays refusal d = d ≡ record { refusal = refusal; waiting = b .waiting; sent = b .sent } → CarriedOut p v i a cells marks lent b d cells marks lent
 
   pub out-32 : Laid lent (b .waiting) → a .answer ≡ REFUSED → {d : Done} → stays 32 d
   out-32 l h q = rw q (record { is = λ ok. sym (carry-32 p v (workBy p v (wordAt lent (b .waiting) i) a before) before _ _ h); laid = l })
@@ -65,7 +65,7 @@ module _ (p : Plan) (cells marks lent : List ℕ) (b : Done) (v i : ℕ) (a : Re
         → 2 * linksOf p ≤ length marks → marks′ ≡ markPut p marks v (a .edge) (a .mark)
         → Holds mid l size (without i (take (b .waiting) lent) ++ posted p v (sendsBy p marks v x a))
         → ((w : Work) → w .answer ≡ a .answer → Holds last k (length mid) (take l mid ++ backOf w x))
-        → {d : Done} → d ≡ record { answer = 0; waiting = k; sent = b .sent + c } → CarriedOut p v i a cells marks lent b d cells′ marks′ last
+        → {d : Done} → d ≡ record { refusal = 0; waiting = k; sent = b .sent + c } → CarriedOut p v i a cells marks lent b d cells′ marks′ last
     out-placed le e1 sized e2 h k q = rw q (record {
       is = λ ok. rw (← ex) (ap takenTo (state-is e1 (e2 ∙ mark-put p ok marks v sized (a .edge) (a .mark)) (holds-on _ h (k work refl) .waits) (ap (λ (y : ℕ). b .sent + y) es))
           ∙ sym (carry-placed p v work before _ _ r (omega arith)));

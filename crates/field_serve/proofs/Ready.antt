@@ -20,13 +20,13 @@ module _ (p : Plan) (cells marks lent : List ℕ) (b : Done) (r : Ready p cells 
   before = lentState cells marks lent (b .waiting) (b .sent)
 
   -- a refused step alters nothing
-  pub stays : (g : Plan → State → After State) (answer : ℕ) → g p before ≡ refusedBy answer before
-      → {d : Done} → d ≡ record { answer = answer; waiting = b .waiting; sent = b .sent } → Advances g p cells marks lent b d cells marks lent
-  stays g answer e q = rw q (record { is = sym e; ready = r })
+  pub stays : (g : Plan → State → After State) (refusal : ℕ) → g p before ≡ refusedBy refusal before
+      → {d : Done} → d ≡ record { refusal = refusal; waiting = b .waiting; sent = b .sent } → Advances g p cells marks lent b d cells marks lent
+  stays g refusal e q = rw q (record { is = sym e; ready = r })
 
   -- g leaves a sound state
   pub advances : (g : Plan → State → After State) → Sound p (g p before .state) → {d : Done} {cells′ marks′ lent′ : List ℕ}
-      → record { answer = d .answer; state = lentState cells′ marks′ lent′ (d .waiting) (d .sent) } ≡ g p before → Laid lent′ (d .waiting) → length lent′ ≡ length lent
+      → record { refusal = d .refusal; state = lentState cells′ marks′ lent′ (d .waiting) (d .sent) } ≡ g p before → Laid lent′ (d .waiting) → length lent′ ≡ length lent
       → Advances g p cells marks lent b d cells′ marks′ lent′
   advances g h e l k = record {
     is = e;
@@ -41,7 +41,7 @@ module _ (p : Plan) (cells marks lent : List ℕ) (b : Done) (r : Ready p cells 
 
   -- hand-overs change the words alone
   pub hands : (g : Plan → State → After State) → Sound p (g p before .state) → {a : ℕ} {lent′ : List ℕ} → Hands (g p) (b .waiting) lent a lent′ → length lent′ ≡ length lent
-      → {d : Done} → d ≡ record { answer = a; waiting = b .waiting; sent = b .sent } → Advances g p cells marks lent b d cells marks lent′
+      → {d : Done} → d ≡ record { refusal = a; waiting = b .waiting; sent = b .sent } → Advances g p cells marks lent b d cells marks lent′
   hands g h x k q = rw q (advances g h (x .is cells marks (b .sent)) (x .laid) k)
 
   -- each kind of step leaves one

@@ -118,7 +118,7 @@ module _ (p : Plan) (cells marks lent : List ℕ) (b : Done) (v : ℕ) (r : Read
 
   -- a refused step alters nothing
   abbrev refuses : (Plan → State → After State) → ℕ → Done → Type 0
-  refuses g answer d = d ≡ record { answer = answer; waiting = n; sent = b .sent } → Advances g p cells marks lent b d cells marks lent
+  refuses g refusal d = d ≡ record { refusal = refusal; waiting = n; sent = b .sent } → Advances g p cells marks lent b d cells marks lent
 
   many : length (take n lent) ≡ n
   many = length-take-le n lent (r .laid .within)

@@ -23,33 +23,33 @@ renamed x e = record { is = x .is ∙ e; ready = x .ready }
 -- s is what the last turn left: k turns of g are taken
 abbrev pub Turned : (Plan → ℕ → State → After State) → Plan → List ℕ → List ℕ → List ℕ → Done → ℕ → Done → List ℕ → List ℕ → List ℕ → Type 0
 Turned g p cells₀ marks₀ lent₀ b k s cells marks lent =
-    (s .answer ≡ 0) × (length lent ≡ length lent₀) × Advances (λ p. loop k (g p)) p cells₀ marks₀ lent₀ b s cells marks lent
+    (s .refusal ≡ 0) × (length lent ≡ length lent₀) × Advances (λ p. loop k (g p)) p cells₀ marks₀ lent₀ b s cells marks lent
 
 module _ (g : Plan → ℕ → State → After State) (p : Plan) (cells₀ marks₀ lent₀ : List ℕ) (b : Done) where
   abbrev start : State
   start = lentState cells₀ marks₀ lent₀ (b .waiting) (b .sent)
 
-  pub no-turn : Ready p cells₀ marks₀ lent₀ (b .waiting) (b .sent) → b .answer ≡ 0 → Turned g p cells₀ marks₀ lent₀ b 0 b cells₀ marks₀ lent₀
-  no-turn r e = (e, refl, record { is = ap (λ (a : ℕ). record { answer = a; state = start }) e ∙ sym (loop-zero (g p) start); ready = r })
+  pub no-turn : Ready p cells₀ marks₀ lent₀ (b .waiting) (b .sent) → b .refusal ≡ 0 → Turned g p cells₀ marks₀ lent₀ b 0 b cells₀ marks₀ lent₀
+  no-turn r e = (e, refl, record { is = ap (λ (a : ℕ). record { refusal = a; state = start }) e ∙ sym (loop-zero (g p) start); ready = r })
 
   module _ (k : ℕ) {s : Done} {cells marks lent : List ℕ} (t : Turned g p cells₀ marks₀ lent₀ b k s cells marks lent) where
     were : loop k (g p) start ≡ takenTo (lentState cells marks lent (s .waiting) (s .sent))
-    were = sym (t .2 .is) ∙ ap (λ (a : ℕ). record { answer = a; state = lentState cells marks lent (s .waiting) (s .sent) }) (t .0)
+    were = sym (t .2 .is) ∙ ap (λ (a : ℕ). record { refusal = a; state = lentState cells marks lent (s .waiting) (s .sent) }) (t .0)
 
     pub turns-over : (m : ℕ) → m ≤ k → k ≤ m → Advances (λ p. loop m (g p)) p cells₀ marks₀ lent₀ b s cells marks lent
     turns-over m l r = record { is = t .2 .is ∙ ap (λ (i : ℕ). loop i (g p) start) (omega arith); ready = t .2 .ready }
 
     -- z is what the next turn left
     module _ {z : Done} {cells′ marks′ lent′ : List ℕ} (x : Advances (λ p. g p k) p cells marks lent s z cells′ marks′ lent′) where
-      pub turn-on : length lent′ ≡ length lent → z .answer ≡ 0 → Turned g p cells₀ marks₀ lent₀ b (k + 1) z cells′ marks′ lent′
+      pub turn-on : length lent′ ≡ length lent → z .refusal ≡ 0 → Turned g p cells₀ marks₀ lent₀ b (k + 1) z cells′ marks′ lent′
       turn-on e h = (
         h,
         e ∙ t .1,
         record {
-          is = ap (λ (a : ℕ). record { answer = a; state = lentState cells′ marks′ lent′ (z .waiting) (z .sent) }) h ∙ sym (on (g p) k start _ _ were (x .is) h);
+          is = ap (λ (a : ℕ). record { refusal = a; state = lentState cells′ marks′ lent′ (z .waiting) (z .sent) }) h ∙ sym (on (g p) k start _ _ were (x .is) h);
           ready = x .ready;
         },
       )
 
-      pub turn-off : (m : ℕ) → k < m → z .answer ≢ 0 → Advances (λ p. loop m (g p)) p cells₀ marks₀ lent₀ b z cells′ marks′ lent′
+      pub turn-off : (m : ℕ) → k < m → z .refusal ≢ 0 → Advances (λ p. loop m (g p)) p cells₀ marks₀ lent₀ b z cells′ marks′ lent′
       turn-off m l h = record { is = sym (off (g p) k start _ _ were (x .is) m l h); ready = x .ready }

@@ -29,12 +29,12 @@ use Rattle.field_serve.specs.declared.Done.{Done}
 
 -- what step g of plan p answers and leaves in lent arrays, which are ready for the next step; b is what the step before left
 pub record Advances (g : Plan → State → After State) (p : Plan) (cells marks lent : List ℕ) (b d : Done) (cells′ marks′ lent′ : List ℕ) : Type 0 where
-  pub is : record { answer = d .answer; state = lentState cells′ marks′ lent′ (d .waiting) (d .sent) } ≡ g p (lentState cells marks lent (b .waiting) (b .sent))
+  pub is : record { refusal = d .refusal; state = lentState cells′ marks′ lent′ (d .waiting) (d .sent) } ≡ g p (lentState cells marks lent (b .waiting) (b .sent))
   pub ready : Ready p cells′ marks′ lent′ (d .waiting) (d .sent)
 
 -- the same of a run g, `done` of whose turns are done
 pub record Runs (g : Plan → State → Ran State) (p : Plan) (cells marks lent : List ℕ) (b : Done) (done : ℕ) (d : Done) (cells′ marks′ lent′ : List ℕ) : Type 0 where
-  pub is : record { done = done; answer = d .answer; state = lentState cells′ marks′ lent′ (d .waiting) (d .sent) } ≡ g p (lentState cells marks lent (b .waiting) (b .sent))
+  pub is : record { done = done; refusal = d .refusal; state = lentState cells′ marks′ lent′ (d .waiting) (d .sent) } ≡ g p (lentState cells marks lent (b .waiting) (b .sent))
   pub ready : Ready p cells′ marks′ lent′ (d .waiting) (d .sent)
 
 -- what a served word is to the rules
@@ -79,6 +79,6 @@ carryOutBy p v i x a s = let w = workBy p v x a s in carryOut p v w s (without i
 
 -- what that answers and leaves, in lent arrays; b is what the step before left
 pub record CarriedOut (p : Plan) (v i : ℕ) (a : Response) (cells marks lent : List ℕ) (b d : Done) (cells′ marks′ lent′ : List ℕ) : Type 0 where
-  pub is : Accepted p → record { answer = d .answer; state = lentState cells′ marks′ lent′ (d .waiting) (d .sent) }
+  pub is : Accepted p → record { refusal = d .refusal; state = lentState cells′ marks′ lent′ (d .waiting) (d .sent) }
       ≡ carryOutBy p v i (wordAt lent (b .waiting) i) a (lentState cells marks lent (b .waiting) (b .sent))
   pub laid : Laid lent′ (d .waiting)

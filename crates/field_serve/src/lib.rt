@@ -22,29 +22,29 @@ ghost use Rattle.field_check.specs.Ready.{Ready};
 ghost use Rattle.field_serve.specs.Holds.{Holds};
 ghost use Rattle.field_serve.specs.Lent.{Advances, packetIn, wordAt, Responds, Feasible, CarriedOut};
 
-// answer: 0, or the refusal's number. waiting, sent: the words that wait and the sent count afterwards.
+// refusal: its number, or 0. waiting, sent: the words that wait and the sent count afterwards.
 pub struct Done {
-    pub answer: u32,
+    pub refusal: u32,
     pub waiting: usize,
     pub sent: u32,
 }
 
 // What a step answers and leaves.
-pub fn left(answer: u32, waiting: usize, sent: u32) -> Done
-    ensures { λ r. ⌜ r ≡ record { answer = answer; waiting = waiting; sent = sent } ⌝ }
+pub fn left(refusal: u32, waiting: usize, sent: u32) -> Done
+    ensures { λ r. ⌜ r ≡ record { refusal = refusal; waiting = waiting; sent = sent } ⌝ }
 {
     Done {
-        answer: answer,
+        refusal: refusal,
         waiting: waiting,
         sent: sent,
     }
 }
 
-// What the step before left, under this answer.
-pub fn with_answer(answer: u32, b: Done) -> Done
-    ensures { λ r. ⌜ r ≡ record { answer = answer; waiting = b .waiting; sent = b .sent } ⌝ }
+// What the step before left, refused by this number.
+pub fn refused(number: u32, b: Done) -> Done
+    ensures { λ r. ⌜ r ≡ record { refusal = number; waiting = b .waiting; sent = b .sent } ⌝ }
 {
-    left(answer, b.waiting, b.sent)
+    left(number, b.waiting, b.sent)
 }
 
 // The word at place i leaves; there is none past the last.
@@ -101,12 +101,12 @@ fn carry_out<'a>(
     ensures { λ r. ⌜ CarriedOut (now (plan .entry)) v i a (now (cells .entry)) (now (marks .entry)) (now (lent .entry)) b r (now (cells .exit)) (now (marks .exit)) (now (lent .exit)) ⌝ }
 {
     if a.answer == REFUSED {
-        return with_answer(32, b);
+        return refused(32, b);
     }
     let x = word_at(lent, b.waiting, i);
     let c = field_place::many(plan, marks, v, x, a);
     if plan::ceiling_of(plan) - b.sent < c {
-        return with_answer(33, b);
+        return refused(33, b);
     }
     let l = take_out(lent, b.waiting, i);
     let m = field_place::place(plan, cells, marks, lent, l, v, x, a);
@@ -151,11 +151,11 @@ pub fn wake<'a>(
     ensures { λ r. ⌜ Advances (λ p. wake p v) (now (plan .entry)) (now (cells .entry)) (now (marks .entry)) (now (lent .entry)) b r (now (cells .exit)) (now (marks .exit)) (now (lent .exit)) ⌝ }
 {
     if plan::modules(plan) <= v {
-        return with_answer(41, b);
+        return refused(41, b);
     }
     let node = field_cells::load(cells, v);
     if node.status != ASLEEP {
-        return with_answer(43, b);
+        return refused(43, b);
     }
     let a = node_dispatch::wakeup(plan, marks, v, node);
     carry_out(plan, cells, marks, lent, b, v, b.waiting, a)
@@ -174,12 +174,12 @@ pub fn serve<'a>(
     ensures { λ r. ⌜ Advances (λ p. serve p v) (now (plan .entry)) (now (cells .entry)) (now (marks .entry)) (now (lent .entry)) b r (now (cells .exit)) (now (marks .exit)) (now (lent .exit)) ⌝ }
 {
     if plan::modules(plan) <= v {
-        return with_answer(41, b);
+        return refused(41, b);
     }
     let n = b.waiting;
     let i = field_words::first_in_queue(plan, &lent[..n], v);
     if n <= i {
-        return with_answer(45, b);
+        return refused(45, b);
     }
     let a = response(plan, cells, marks, v, lent[i]);
     carry_out(plan, cells, marks, lent, b, v, i, a)

@@ -12,9 +12,9 @@ use Rattle.field_words.specs.Laid.{Laid}
 use Rattle.field_words.specs.Hands.{lentState, Hands}
 
 -- the same under another name
-pub renamed : {g h : State → After State} {n answer : ℕ} {lent lent′ : List ℕ} → Hands g n lent answer lent′
+pub renamed : {g h : State → After State} {n refusal : ℕ} {lent lent′ : List ℕ} → Hands g n lent refusal lent′
     → ((cells marks : List ℕ) (sent : ℕ) → g (lentState cells marks lent n sent) ≡ h (lentState cells marks lent n sent))
-    → Hands h n lent answer lent′
+    → Hands h n lent refusal lent′
 renamed x e = record { is = λ cells marks sent. x .is cells marks sent ∙ e cells marks sent; laid = x .laid }
 
 -- k turns of g are taken

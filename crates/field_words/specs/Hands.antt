@@ -12,7 +12,7 @@ abbrev pub lentState : List ℕ → List ℕ → List ℕ → ℕ → ℕ → St
 lentState cells marks lent n sent = record { cells = cells; marks = marks; words = take n lent; sent = sent }
 
 -- What g answers and leaves, whatever else is in the field: it changes the words alone, and their number stays.
-pub record Hands (g : State → After State) (n : ℕ) (lent : List ℕ) (answer : ℕ) (lent′ : List ℕ) : Type 0 where
+pub record Hands (g : State → After State) (n : ℕ) (lent : List ℕ) (refusal : ℕ) (lent′ : List ℕ) : Type 0 where
   pub is : (cells marks : List ℕ) (sent : ℕ)
-      → record { answer = answer; state = lentState cells marks lent′ n sent } ≡ g (lentState cells marks lent n sent)
+      → record { refusal = refusal; state = lentState cells marks lent′ n sent } ≡ g (lentState cells marks lent n sent)
   pub laid : Laid lent′ n

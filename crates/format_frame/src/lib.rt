@@ -63,7 +63,7 @@ fn fill(header: u8, carried: u16, out: &mut [u8])
 
 // Writes a frame into six bytes; a refusal leaves them.
 pub fn write(header: u8, carried: u16, out: &mut [u8]) -> u32
-    ensures { λ r. ⌜ record { answer = r; state = now (out .exit) } ≡ frameWritten header carried (now (out .entry)) ⌝ }
+    ensures { λ r. ⌜ record { refusal = r; state = now (out .exit) } ≡ frameWritten header carried (now (out .entry)) ⌝ }
 {
     if !format_message::is_listed(header, carried) {
         return 63;

@@ -11,7 +11,7 @@ use Rattle.field_calls.specs.Call.{refusedRun, runRounds}
 
 -- the next call, where this one was not refused
 unfoldable pub next : After Held → (Held → Ran Held) → Ran Held
-next a f = cond (not (eqb (a .answer) 0)) (refusedRun (a .answer) (a .state)) (f (a .state))
+next a f = cond (not (eqb (a .refusal) 0)) (refusedRun (a .refusal) (a .state)) (f (a .state))
 
 unfoldable pub settled : Plan → List ℕ → Ran Held
 settled p lent = next (setUp p lent) (λ h. next (stepAlone 1 0 h) (runRounds 65535))

@@ -12,7 +12,7 @@ pub struct Settled {
 }
 
 pub fn settle(p: &Plan, words: &mut [u64]) -> Settled
-    ensures { λ r. ⌜ record { done = r .rounds; answer = r .refusal; state = record { field = r .field; words = now (words .exit) } }
+    ensures { λ r. ⌜ record { done = r .rounds; refusal = r .refusal; state = record { field = r .field; words = now (words .exit) } }
         ≡ settled (now (p .entry)) (now (words .entry)) ⌝ }
 {
     let s = host_setup::setup(p, words);

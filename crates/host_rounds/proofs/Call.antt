@@ -33,7 +33,7 @@ module _ (f : Field) (lent : List ℕ) (c : Checked) (e : c ≡ checkOf (record 
   rounds-31 limit n = rounds-refused h limit (invalid f lent c e n)
 
   -- the rounds, done in the arrays
-  module _ (y : not (c .ok) ≡ false) {b : Done} (eb : b ≡ record { answer = 0; waiting = c .waiting; sent = f .sent }) (limit done : ℕ) (d : Done) (cells marks words : List ℕ) where
+  module _ (y : not (c .ok) ≡ false) {b : Done} (eb : b ≡ record { refusal = 0; waiting = c .waiting; sent = f .sent }) (limit done : ℕ) (d : Done) (cells marks words : List ℕ) where
     pub rounds-done : Runs (λ p. roundsRun p limit) (f .plan) (f .cells) (f .marks) lent b done d cells marks words → length words ≡ length lent
-        → record { done = done; answer = d .answer; state = record { field = record { plan = f .plan; cells = cells; marks = marks; sent = d .sent }; words = words } } ≡ runRounds limit h
+        → record { done = done; refusal = d .refusal; state = record { field = record { plan = f .plan; cells = cells; marks = marks; sent = d .sent }; words = words } } ≡ runRounds limit h
     rounds-done q k = run-stands f lent c e eb (λ p. roundsRun p limit) done d cells marks words q k ∙ rounds-go h limit (passes f lent c e y)

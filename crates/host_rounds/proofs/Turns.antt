@@ -35,11 +35,11 @@ module _ (p : Plan) (s : State) (q : ℕ) where
 
 -- a round whose hand-overs left z
 module _ (p : Plan) (s : State) (z : After State) (e : z ≡ handPhase p s) where
-  pub round-on : z .answer ≡ 0 → servePhase p (z .state) ≡ round p s
+  pub round-on : z .refusal ≡ 0 → servePhase p (z .state) ≡ round p s
   unfolding round
   round-on h = sym (then-on z (servePhase p) h) ∙ ap (λ (a : After State). then a (servePhase p)) e
 
-  pub round-off : z .answer ≢ 0 → handPhase p s ≡ round p s
+  pub round-off : z .refusal ≢ 0 → handPhase p s ≡ round p s
   unfolding round
   round-off h = sym e ∙ sym (then-off z (servePhase p) h) ∙ ap (λ (a : After State). then a (servePhase p)) e
 

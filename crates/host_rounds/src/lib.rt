@@ -27,7 +27,7 @@ fn after(rounds: u16, refusal: u32, field: Field) -> Rounds
 
 // Rounds until the field is at rest, up to the limit. 31 is checked first, and once.
 pub fn run(f: Field, words: &mut [u64], limit: u16) -> Rounds
-    ensures { λ r. ⌜ record { done = r .rounds; answer = r .refusal; state = record { field = r .field; words = now (words .exit) } }
+    ensures { λ r. ⌜ record { done = r .rounds; refusal = r .refusal; state = record { field = r .field; words = now (words .exit) } }
         ≡ runRounds limit (record { field = f; words = now (words .entry) }) ⌝ }
 {
     let c = field_check::admit(f, words);
@@ -39,5 +39,5 @@ pub fn run(f: Field, words: &mut [u64], limit: u16) -> Rounds
     let b = field_serve::left(0, c.waiting, f.sent);
     let w = round::rounds(&f.plan, &mut cells, &mut marks, words, b, limit);
     let g = field_check::rebuilt(f, cells, marks, w.last.sent);
-    after(w.done, w.last.answer, g)
+    after(w.done, w.last.refusal, g)
 }

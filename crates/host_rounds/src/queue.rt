@@ -17,7 +17,7 @@ fn serve_turn<'a>(
     b: Done,
     v: u16,
 ) -> Done
-    requires { ⌜ Ready (now plan) (now cells) (now marks) (now lent) (b .waiting) (b .sent) × (b .answer ≡ 0) ⌝ }
+    requires { ⌜ Ready (now plan) (now cells) (now marks) (now lent) (b .waiting) (b .sent) × (b .refusal ≡ 0) ⌝ }
     ensures { λ r. ⌜ Advances (λ p. serveTurn p v) (now (plan .entry))
         (now (cells .entry)) (now (marks .entry)) (now (lent .entry)) b r (now (cells .exit)) (now (marks .exit)) (now (lent .exit)) ⌝ }
 {
@@ -27,7 +27,7 @@ fn serve_turn<'a>(
     let mut j: usize = 0;
     while j < q {
         s = field_serve::serve(plan, cells, marks, lent, s, v);
-        if s.answer != 0 {
+        if s.refusal != 0 {
             return s;
         }
         j += 1;
@@ -43,7 +43,7 @@ pub fn serve_phase<'a>(
     lent: &mut [u64],
     b: Done,
 ) -> Done
-    requires { ⌜ Ready (now plan) (now cells) (now marks) (now lent) (b .waiting) (b .sent) × (b .answer ≡ 0) ⌝ }
+    requires { ⌜ Ready (now plan) (now cells) (now marks) (now lent) (b .waiting) (b .sent) × (b .refusal ≡ 0) ⌝ }
     ensures { λ r. ⌜ Advances servePhase (now (plan .entry))
         (now (cells .entry)) (now (marks .entry)) (now (lent .entry)) b r (now (cells .exit)) (now (marks .exit)) (now (lent .exit)) ⌝ }
 {
@@ -52,7 +52,7 @@ pub fn serve_phase<'a>(
     let mut v: u16 = 0;
     while v < modules {
         s = serve_turn(plan, cells, marks, lent, s, v);
-        if s.answer != 0 {
+        if s.refusal != 0 {
             return s;
         }
         v += 1;

@@ -34,13 +34,13 @@ fn round<'a>(
     lent: &mut [u64],
     b: Done,
 ) -> Done
-    requires { ⌜ Ready (now plan) (now cells) (now marks) (now lent) (b .waiting) (b .sent) × (b .answer ≡ 0) ⌝ }
+    requires { ⌜ Ready (now plan) (now cells) (now marks) (now lent) (b .waiting) (b .sent) × (b .refusal ≡ 0) ⌝ }
     ensures { λ r. ⌜ Advances round (now (plan .entry))
         (now (cells .entry)) (now (marks .entry)) (now (lent .entry)) b r (now (cells .exit)) (now (marks .exit)) (now (lent .exit)) ⌝ }
 {
     let a = air::hand_phase(plan, lent, b.waiting);
     if a != 0 {
-        return field_serve::with_answer(a, b);
+        return field_serve::refused(a, b);
     }
     queue::serve_phase(plan, cells, marks, lent, b)
 }
@@ -54,7 +54,7 @@ pub fn rounds<'a>(
     b: Done,
     limit: u16,
 ) -> Went
-    requires { ⌜ Ready (now plan) (now cells) (now marks) (now lent) (b .waiting) (b .sent) × (b .answer ≡ 0) ⌝ }
+    requires { ⌜ Ready (now plan) (now cells) (now marks) (now lent) (b .waiting) (b .sent) × (b .refusal ≡ 0) ⌝ }
     ensures { λ r. ⌜ Runs (λ p. roundsRun p limit) (now (plan .entry))
         (now (cells .entry)) (now (marks .entry)) (now (lent .entry)) b (r .done) (r .last) (now (cells .exit)) (now (marks .exit)) (now (lent .exit)) ⌝ }
 {
@@ -65,7 +65,7 @@ pub fn rounds<'a>(
             return after(k, s);
         }
         s = round(plan, cells, marks, lent, s);
-        if s.answer != 0 {
+        if s.refusal != 0 {
             return after(k, s);
         }
         k += 1;

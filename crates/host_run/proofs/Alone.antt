@@ -54,15 +54,15 @@ module _ (f : Field) (lent : List ℕ) (c : Checked) (e : c ≡ checkOf (record 
   pub run-54 : not (c .ok) ≡ false → (bytes : List ℕ) (bad : ℕ) → bad ≡ scheduleRefusal bytes → bad ≢ 0 → refusedRun bad h ≡ runBytes bytes h
   run-54 y bytes bad q n = ap (λ (x : ℕ). refusedRun x h) q ∙ run-bad h bytes (passes f lent c e y) (λ z. n (q ∙ z))
 
-  module _ (y : not (c .ok) ≡ false) {b : Done} (eb : b ≡ record { answer = 0; waiting = c .waiting; sent = f .sent }) where
+  module _ (y : not (c .ok) ≡ false) {b : Done} (eb : b ≡ record { refusal = 0; waiting = c .waiting; sent = f .sent }) where
     pub step-done : (kind number : ℕ) (d : Done) (cells marks words : List ℕ)
         → Advances (λ p. step p kind number) (f .plan) (f .cells) (f .marks) lent b d cells marks words → length words ≡ length lent
-        → record { answer = d .answer; state = record { field = record { plan = f .plan; cells = cells; marks = marks; sent = d .sent }; words = words } } ≡ stepAlone kind number h
+        → record { refusal = d .refusal; state = record { field = record { plan = f .plan; cells = cells; marks = marks; sent = d .sent }; words = words } } ≡ stepAlone kind number h
     step-done kind number d cells marks words q k =
         step-stands f lent c e eb (λ p. step p kind number) d cells marks words q k ∙ step-goes h kind number (passes f lent c e y)
 
     pub run-done : (bytes : List ℕ) (bad : ℕ) → bad ≡ scheduleRefusal bytes → bad ≡ 0 → (done : ℕ) (d : Done) (cells marks words : List ℕ)
         → Runs (λ p. scheduleRun p bytes) (f .plan) (f .cells) (f .marks) lent b done d cells marks words → length words ≡ length lent
-        → record { done = done; answer = d .answer; state = record { field = record { plan = f .plan; cells = cells; marks = marks; sent = d .sent }; words = words } } ≡ runBytes bytes h
+        → record { done = done; refusal = d .refusal; state = record { field = record { plan = f .plan; cells = cells; marks = marks; sent = d .sent }; words = words } } ≡ runBytes bytes h
     run-done bytes bad r z done d cells marks words q k =
         run-stands f lent c e eb (λ p. scheduleRun p bytes) done d cells marks words q k ∙ run-goes h bytes (passes f lent c e y) (sym r ∙ z)

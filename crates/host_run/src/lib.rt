@@ -42,7 +42,7 @@ fn after(steps: usize, refusal: u32, field: Field) -> Ran
 
 // One step: kind 1 wakes module number, 2 hands over on directed link number, 3 lets module number serve.
 pub fn step(f: Field, words: &mut [u64], kind: u8, number: u16) -> Stepped
-    ensures { λ r. ⌜ record { answer = r .refusal; state = record { field = r .field; words = now (words .exit) } }
+    ensures { λ r. ⌜ record { refusal = r .refusal; state = record { field = r .field; words = now (words .exit) } }
         ≡ stepAlone kind number (record { field = f; words = now (words .entry) }) ⌝ }
 {
     let c = field_check::admit(f, words);
@@ -54,12 +54,12 @@ pub fn step(f: Field, words: &mut [u64], kind: u8, number: u16) -> Stepped
     let b = field_serve::left(0, c.waiting, f.sent);
     let d = steps::step(&f.plan, &mut cells, &mut marks, words, b, kind, number);
     let g = field_check::rebuilt(f, cells, marks, d.sent);
-    after_step(d.answer, g)
+    after_step(d.refusal, g)
 }
 
 // A run of a schedule: 31, then 51 to 54, then its steps up to the first that is refused.
 pub fn run(f: Field, words: &mut [u64], bytes: &[u8]) -> Ran
-    ensures { λ r. ⌜ record { done = r .steps; answer = r .refusal; state = record { field = r .field; words = now (words .exit) } }
+    ensures { λ r. ⌜ record { done = r .steps; refusal = r .refusal; state = record { field = r .field; words = now (words .exit) } }
         ≡ runBytes (now (bytes .entry)) (record { field = f; words = now (words .entry) }) ⌝ }
 {
     let c = field_check::admit(f, words);
@@ -76,5 +76,5 @@ pub fn run(f: Field, words: &mut [u64], bytes: &[u8]) -> Ran
     let count = (bytes.len() - 3) / 3;
     let w = steps::steps(&f.plan, &mut cells, &mut marks, words, b, bytes, count);
     let g = field_check::rebuilt(f, cells, marks, w.last.sent);
-    after(w.done, w.last.answer, g)
+    after(w.done, w.last.refusal, g)
 }

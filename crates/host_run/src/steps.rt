@@ -41,9 +41,9 @@ pub fn step<'a>(
 {
     match kind {
         1 => field_serve::wake(plan, cells, marks, lent, b, number),
-        2 => field_serve::with_answer(field_words::hand(plan, lent, b.waiting, number), b),
+        2 => field_serve::refused(field_words::hand(plan, lent, b.waiting, number), b),
         3 => field_serve::serve(plan, cells, marks, lent, b, number),
-        0 | 4..=255 => field_serve::with_answer(54, b),
+        0 | 4..=255 => field_serve::refused(54, b),
     }
 }
 
@@ -57,7 +57,7 @@ pub fn steps<'a>(
     bytes: &[u8],
     count: usize,
 ) -> Went
-    requires { ⌜ Ready (now plan) (now cells) (now marks) (now lent) (b .waiting) (b .sent) × (b .answer ≡ 0)
+    requires { ⌜ Ready (now plan) (now cells) (now marks) (now lent) (b .waiting) (b .sent) × (b .refusal ≡ 0)
         × (scheduleRefusal (now bytes) ≡ 0) × (count ≡ stepsIn (now bytes)) ⌝ }
     ensures { λ r. ⌜ Runs (λ p. scheduleRun p (now (bytes .entry))) (now (plan .entry))
         (now (cells .entry)) (now (marks .entry)) (now (lent .entry)) b (r .done) (r .last) (now (cells .exit)) (now (marks .exit)) (now (lent .exit)) ⌝ }
@@ -74,7 +74,7 @@ pub fn steps<'a>(
             host_schedule::kind(bytes, k),
             host_schedule::number(bytes, k),
         );
-        if s.answer != 0 {
+        if s.refusal != 0 {
             return after(k, s);
         }
         k += 1;

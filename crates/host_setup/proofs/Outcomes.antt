@@ -14,7 +14,7 @@ use Rattle.host_setup.specs.declared.NewField.{NewField}
 
 -- what the code answers, with the words that it leaves
 abbrev pub answered : NewField → List ℕ → After Held
-answered a words = record { answer = a .refusal; state = record { field = a .field; words = words } }
+answered a words = record { refusal = a .refusal; state = record { field = a .field; words = words } }
 
 -- what it answers where `number` refuses
 abbrev blankBeside : ℕ → NewField

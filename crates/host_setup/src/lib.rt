@@ -89,7 +89,7 @@ fn zero_all(words: &mut [u64])
 
 // Setup of a plan in lent words. A refusal leaves the words as they were.
 pub fn setup(p: &Plan, words: &mut [u64]) -> NewField
-    ensures { λ r. ⌜ record { answer = r .refusal; state = record { field = r .field; words = now (words .exit) } }
+    ensures { λ r. ⌜ record { refusal = r .refusal; state = record { field = r .field; words = now (words .exit) } }
         ≡ setUp (now (p .entry)) (now (words .entry)) ⌝ }
 {
     let bad = plan_check::check(p);

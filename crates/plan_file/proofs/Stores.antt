@@ -58,16 +58,16 @@ module _ (p : Plan) (s : List ℕ) (r : ℕ) (e : r ≡ planRefusal p) where
   unfolding writePlan
   writes n q = ap (λ m. answering m s (encode p ++ drop (size p) s)) (sym q)
 
-  pub w-refused : r ≢ 0 → _≡_ {A = After (List ℕ)} (record { answer = r; state = s }) (writePlan p s)
+  pub w-refused : r ≢ 0 → _≡_ {A = After (List ℕ)} (record { refusal = r; state = s }) (writePlan p s)
   unfolding writeRefusal
   w-refused d = answers-refused r s (encode p ++ drop (size p) s) d ∙ writes r (rw (← e, ne-eqb r 0 d))
 
   module _ (z : r ≡ 0) where
-    pub w-short : length s < size p → _≡_ {A = After (List ℕ)} (record { answer = 22; state = s }) (writePlan p s)
+    pub w-short : length s < size p → _≡_ {A = After (List ℕ)} (record { refusal = 22; state = s }) (writePlan p s)
     unfolding writeRefusal
     w-short h = writes 22 (rw (← e, z, lt-ltb (length s) (size p) h))
 
-    pub w-written : size p ≤ length s → (t : List ℕ) → t ≡ sets s 0 (encode p) → _≡_ {A = After (List ℕ)} (record { answer = 0; state = t }) (writePlan p s)
+    pub w-written : size p ≤ length s → (t : List ℕ) → t ≡ sets s 0 (encode p) → _≡_ {A = After (List ℕ)} (record { refusal = 0; state = t }) (writePlan p s)
     unfolding writeRefusal
     w-written h t q = ap takenTo (q ∙ all) ∙ writes 0 (rw (← e, z, le-ltb (length s) (size p) h))
       where

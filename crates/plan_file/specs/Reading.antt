@@ -29,6 +29,6 @@ unfoldable pub readPlan : List ℕ → Outcome
 readPlan s = cond (eqb (readRefusal s) 0) (record { refusal = 0; plan = decode s }) (record { refusal = readRefusal s; plan = blank })
 
 -- the check's answer, with the plan that it leaves where the bytes are taken
-pub record Loaded (s : List ℕ) (answer : ℕ) (plan : Plan) : Type 0 where
-  pub right : answer ≡ readRefusal s
-  pub loaded : answer ≡ 0 → plan ≡ decode s
+pub record Loaded (s : List ℕ) (refusal : ℕ) (plan : Plan) : Type 0 where
+  pub right : refusal ≡ readRefusal s
+  pub loaded : refusal ≡ 0 → plan ≡ decode s

@@ -117,7 +117,7 @@ fn put_plan(p: &Plan, out: &mut [u8])
 
 // Writes a plan value at the front of the buffer: the first of 14 to 19 that applies, 22, or 0.
 pub fn write(p: &Plan, out: &mut [u8]) -> u32
-    ensures { λ r. ⌜ record { answer = r; state = now (out .exit) } ≡ writePlan (now (p .entry)) (now (out .entry)) ⌝ }
+    ensures { λ r. ⌜ record { refusal = r; state = now (out .exit) } ≡ writePlan (now (p .entry)) (now (out .entry)) ⌝ }
 {
     let r = plan_check::check(p);
     if r != 0 {

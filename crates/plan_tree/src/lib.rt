@@ -163,7 +163,7 @@ fn grow(plan: &Plan, out: &mut [u8])
 
 // The central tree of a plan: refused by 14 to 20, or the L bytes are written.
 pub fn build(p: &Plan, out: &mut [u8]) -> u32
-    ensures { λ r. ⌜ record { answer = r; state = now (out .exit) } ≡ centralTree (now (p .entry)) (now (out .entry)) ⌝ }
+    ensures { λ r. ⌜ record { refusal = r; state = now (out .exit) } ≡ centralTree (now (p .entry)) (now (out .entry)) ⌝ }
 {
     let bad = plan_check::check(p);
     if bad != 0 {

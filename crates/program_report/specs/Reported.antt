@@ -19,7 +19,7 @@ refusedText number = line "refused " number
 
 -- of what the whole job leaves
 unfoldable pub settledText : Ran Held → List ℕ
-settledText r = cond (eqb (r .answer) 0) (reportText (r .state .field) (r .done)) (refusedText (r .answer))
+settledText r = cond (eqb (r .refusal) 0) (reportText (r .state .field) (r .done)) (refusedText (r .refusal))
 
 -- of what the reader answers: the job is done over M words
 unfoldable pub planText : Outcome → List ℕ

@@ -70,6 +70,6 @@ unfoldable pub ranText : Plan → Ran Held → List ℕ
 ranText p r =
     let f = r .state .field in
     let words = waitingIn (r .state .words) in
-    headText (r .done) (r .answer) (f .sent) (length words)
+    headText (r .done) (r .refusal) (f .sent) (length words)
     ++ modulesText p (f .cells) (f .marks) (modulesOf p)
     ++ wordsText words

@@ -21,7 +21,7 @@ mod render;
 // Setup of an accepted plan with exactly M words, then a run of the schedule.
 fn set_up_and_run(p: &Plan, lent: &mut [u64], schedule: &[u8]) -> Ran
     requires { ⌜ (planRefusal (now p) ≡ 0) × (length (now lent) ≡ ceilingOf (now p)) ⌝ }
-    ensures { λ r. ⌜ record { done = r .steps; answer = r .refusal; state = record { field = r .field; words = now (lent .exit) } }
+    ensures { λ r. ⌜ record { done = r .steps; refusal = r .refusal; state = record { field = r .field; words = now (lent .exit) } }
         ≡ runBytes (now (schedule .entry)) (start (now (p .entry))) ⌝ }
 {
     let begun = host_setup::setup(p, lent);

@@ -46,7 +46,7 @@ pub extern "C" fn muruapy_test_step(
     kind: u8,
     number: u16,
 ) -> u32
-    ensures { λ r. ⌜ record { answer = r; state = heldFrom (now (plan .entry)) (now (cells .exit)) (now (marks .exit)) (now (sent .exit)) (now (words .exit)) }
+    ensures { λ r. ⌜ record { refusal = r; state = heldFrom (now (plan .entry)) (now (cells .exit)) (now (marks .exit)) (now (sent .exit)) (now (words .exit)) }
         ≡ stepAlone kind number (heldFrom (now (plan .entry)) (now (cells .entry)) (now (marks .entry)) (now (sent .entry)) (now (words .entry))) ⌝ }
 {
     let f = field_of(plan, cells, marks, *sent);
@@ -66,7 +66,7 @@ pub extern "C" fn muruapy_test_run(
     bytes: &[u8],
     done: &mut usize,
 ) -> u32
-    ensures { λ r. ⌜ record { done = now (done .exit); answer = r; state = heldFrom (now (plan .entry)) (now (cells .exit)) (now (marks .exit)) (now (sent .exit)) (now (words .exit)) }
+    ensures { λ r. ⌜ record { done = now (done .exit); refusal = r; state = heldFrom (now (plan .entry)) (now (cells .exit)) (now (marks .exit)) (now (sent .exit)) (now (words .exit)) }
         ≡ runBytes (now (bytes .entry)) (heldFrom (now (plan .entry)) (now (cells .entry)) (now (marks .entry)) (now (sent .entry)) (now (words .entry))) ⌝ }
 {
     let f = field_of(plan, cells, marks, *sent);
@@ -87,7 +87,7 @@ pub extern "C" fn muruapy_test_rounds(
     limit: u16,
     done: &mut u16,
 ) -> u32
-    ensures { λ r. ⌜ record { done = now (done .exit); answer = r; state = heldFrom (now (plan .entry)) (now (cells .exit)) (now (marks .exit)) (now (sent .exit)) (now (words .exit)) }
+    ensures { λ r. ⌜ record { done = now (done .exit); refusal = r; state = heldFrom (now (plan .entry)) (now (cells .exit)) (now (marks .exit)) (now (sent .exit)) (now (words .exit)) }
         ≡ runRounds limit (heldFrom (now (plan .entry)) (now (cells .entry)) (now (marks .entry)) (now (sent .entry)) (now (words .entry))) ⌝ }
 {
     let f = field_of(plan, cells, marks, *sent);

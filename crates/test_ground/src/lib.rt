@@ -11,7 +11,7 @@ ghost use Rattle.test_ground.specs.Bytes.{treeOfBytes, planCopied, frame
 // The central tree of a plan's bytes: 11 to 19, then 20.
 #[no_mangle]
 pub extern "C" fn muruapy_test_tree(s: &[u8], out: &mut [u8]) -> u32
-    ensures { λ r. ⌜ record { answer = r; state = now (out .exit) } ≡ treeOfBytes (now (s .entry)) (now (out .entry)) ⌝ }
+    ensures { λ r. ⌜ record { refusal = r; state = now (out .exit) } ≡ treeOfBytes (now (s .entry)) (now (out .entry)) ⌝ }
 {
     let got = plan_file::read(s);
     if got.refusal != 0 {
@@ -23,7 +23,7 @@ pub extern "C" fn muruapy_test_tree(s: &[u8], out: &mut [u8]) -> u32
 // A plan's bytes read and written again: 11 to 19, then 22.
 #[no_mangle]
 pub extern "C" fn muruapy_test_plan_copy(s: &[u8], out: &mut [u8]) -> u32
-    ensures { λ r. ⌜ record { answer = r; state = now (out .exit) } ≡ planCopied (now (s .entry)) (now (out .entry)) ⌝ }
+    ensures { λ r. ⌜ record { refusal = r; state = now (out .exit) } ≡ planCopied (now (s .entry)) (now (out .entry)) ⌝ }
 {
     let got = plan_file::read(s);
     if got.refusal != 0 {
@@ -35,7 +35,7 @@ pub extern "C" fn muruapy_test_plan_copy(s: &[u8], out: &mut [u8]) -> u32
 // A frame read and written again: 61 to 63, then 64.
 #[no_mangle]
 pub extern "C" fn muruapy_test_frame_copy(s: &[u8], out: &mut [u8]) -> u32
-    ensures { λ r. ⌜ record { answer = r; state = now (out .exit) } ≡ frameCopied (now (s .entry)) (now (out .entry)) ⌝ }
+    ensures { λ r. ⌜ record { refusal = r; state = now (out .exit) } ≡ frameCopied (now (s .entry)) (now (out .entry)) ⌝ }
 {
     let got = format_frame::read(s);
     if got.refusal != 0 {
@@ -55,7 +55,7 @@ pub extern "C" fn muruapy_test_ceiling(n: u16, l: u16) -> u32
 // A frame of any header byte and carried number: 63, then 64.
 #[no_mangle]
 pub extern "C" fn muruapy_test_frame_write(header: u8, carried: u16, out: &mut [u8]) -> u32
-    ensures { λ r. ⌜ record { answer = r; state = now (out .exit) } ≡ frameWritten header carried (now (out .entry)) ⌝ }
+    ensures { λ r. ⌜ record { refusal = r; state = now (out .exit) } ≡ frameWritten header carried (now (out .entry)) ⌝ }
 {
     format_frame::write(header, carried, out)
 }
@@ -63,7 +63,7 @@ pub extern "C" fn muruapy_test_frame_write(header: u8, carried: u16, out: &mut [
 // Any plan value, written: 14 to 19, then 22.
 #[no_mangle]
 pub extern "C" fn muruapy_test_plan_write(plan: &Plan, out: &mut [u8]) -> u32
-    ensures { λ r. ⌜ record { answer = r; state = now (out .exit) } ≡ writePlan (now (plan .entry)) (now (out .entry)) ⌝ }
+    ensures { λ r. ⌜ record { refusal = r; state = now (out .exit) } ≡ writePlan (now (plan .entry)) (now (out .entry)) ⌝ }
 {
     plan_file::write(plan, out)
 }
@@ -71,7 +71,7 @@ pub extern "C" fn muruapy_test_plan_write(plan: &Plan, out: &mut [u8]) -> u32
 // The central tree of any plan value: 14 to 19, then 20.
 #[no_mangle]
 pub extern "C" fn muruapy_test_tree_build(plan: &Plan, out: &mut [u8]) -> u32
-    ensures { λ r. ⌜ record { answer = r; state = now (out .exit) } ≡ centralTree (now (plan .entry)) (now (out .entry)) ⌝ }
+    ensures { λ r. ⌜ record { refusal = r; state = now (out .exit) } ≡ centralTree (now (plan .entry)) (now (out .entry)) ⌝ }
 {
     plan_tree::build(plan, out)
 }

@@ -19,7 +19,7 @@ pub extern "C" fn muruapy_test_setup(
     sent: &mut u32,
 ) -> u32
     ensures { λ r. ⌜ record {
-      answer = r;
+      refusal = r;
       state = record {
         field = record { plan = now (held .exit); cells = now (cells .exit); marks = now (marks .exit); sent = now (sent .exit) };
         words = now (words .exit);

@@ -19,22 +19,22 @@ by-test false P y n = n
 
 -- taken, and P holds of what is left
 pub record Ok {S : Type 0} (P : S → Type 0) (a : After S) : Type 0 where
-  pub fine : a .answer ≡ 0
+  pub fine : a .refusal ≡ 0
   pub holds : P (a .state)
 
 module _ {S : Type 0} where
-  pub then-on : (a : After S) (g : S → After S) → a .answer ≡ 0 → then a g ≡ g (a .state)
+  pub then-on : (a : After S) (g : S → After S) → a .refusal ≡ 0 → then a g ≡ g (a .state)
   unfolding then
   then-on a g e = rw e
 
-  pub then-off : (a : After S) (g : S → After S) → a .answer ≢ 0 → then a g ≡ a
+  pub then-off : (a : After S) (g : S → After S) → a .refusal ≢ 0 → then a g ≡ a
   unfolding then
-  then-off a g n = rw (eqb-diff (a .answer) 0 n)
+  then-off a g n = rw (eqb-diff (a .refusal) 0 n)
 
   -- THE way to reason on it
-  pub then-elim {κ} : (P : After S → Type κ) (a : After S) (g : S → After S) → (a .answer ≡ 0 → P (g (a .state))) → (a .answer ≢ 0 → P a) → P (then a g)
+  pub then-elim {κ} : (P : After S → Type κ) (a : After S) (g : S → After S) → (a .refusal ≡ 0 → P (g (a .state))) → (a .refusal ≢ 0 → P a) → P (then a g)
   unfolding then
-  then-elim P a g y n = eqb-cases (a .answer) 0 (λ b. P (cond b (g (a .state)) a)) y n
+  then-elim P a g y n = eqb-cases (a .refusal) 0 (λ b. P (cond b (g (a .state)) a)) y n
 
   pub loop-suc : (n : ℕ) (g : ℕ → S → After S) (x : S) → loop (suc n) g x ≡ then (loop n g x) (g n)
   unfolding loop
@@ -50,14 +50,14 @@ module _ {S : Type 0} where
     next = ap (λ a. then a (g k)) d ∙ then-on (takenTo y) (g k) refl ∙ sym e
 
     -- it is taken
-    pub on : z .answer ≡ 0 → loop (k + 1) g x ≡ takenTo (z .state)
+    pub on : z .refusal ≡ 0 → loop (k + 1) g x ≡ takenTo (z .state)
     on h = ap (λ n. loop n g x) (add-one k) ∙ loop-suc k g x ∙ next ∙ is z h
       where
-        is : (a : After S) → a .answer ≡ 0 → a ≡ takenTo (a .state)
-        is a q = ap (λ r. record { answer = r; state = a .state }) q
+        is : (a : After S) → a .refusal ≡ 0 → a ≡ takenTo (a .state)
+        is a q = ap (λ r. record { refusal = r; state = a .state }) q
 
     -- it is refused
-    pub off : (n : ℕ) → k < n → z .answer ≢ 0 → loop n g x ≡ z
+    pub off : (n : ℕ) → k < n → z .refusal ≢ 0 → loop n g x ≡ z
     off zero l h = absurd (not-suc-le-zero l)
     off (suc n) l h = loop-suc n g x ∙ lt-suc-cases k n l
         (λ q. ap (λ i. then (loop i g x) (g i)) (sym q) ∙ next)
@@ -93,7 +93,7 @@ module _ {S : Type 0} where
     loop-tells (suc n) x turn =
         let y = loop n g x .state in
         let i = loop-tells n x (λ k z l. turn k z (omega arith)) in
-        by-test (eqb (loop n g x .answer) 0) (λ b. R x (loopTrace n g t x ++ cond b (t n y) []) (cond b (g n y) (loop n g x) .state))
+        by-test (eqb (loop n g x .refusal) 0) (λ b. R x (loopTrace n g t x ++ cond b (t n y) []) (cond b (g n y) (loop n g x) .state))
         (more x y (g n y .state) (loopTrace n g t x) (t n y) i (turn n y (omega arith)))
         (more x y y (loopTrace n g t x) [] i (none y))
 
@@ -104,7 +104,7 @@ module _ {S : Type 0} where
         let r = runs rest n g x in
         let y = r .state in
         let i = runs-tell rest n x (λ k z l. turn k z (omega arith)) in
-        by-test (eqb (r .answer) 0 && not (rest y)) (λ b. R x (runsTrace rest n g t x ++ cond b (t n y) []) (cond b (countedTurn (r .done) (g n y)) r .state))
+        by-test (eqb (r .refusal) 0 && not (rest y)) (λ b. R x (runsTrace rest n g t x ++ cond b (t n y) []) (cond b (countedTurn (r .done) (g n y)) r .state))
         (more x y (g n y .state) (runsTrace rest n g t x) (t n y) i (turn n y (omega arith)))
         (more x y y (runsTrace rest n g t x) [] i (none y))
 
@@ -116,28 +116,28 @@ module _ {S : Type 0} where
   runs-keep P rest (suc n) g x h s =
       let r = runs rest n g x in
       let i = runs-keep P rest n g x h (λ k y l. s k y (omega arith)) in
-      by-test (eqb (r .answer) 0 && not (rest (r .state))) (λ b. P (cond b (countedTurn (r .done) (g n (r .state))) r .state))
+      by-test (eqb (r .refusal) 0 && not (rest (r .state))) (λ b. P (cond b (countedTurn (r .done) (g n (r .state))) r .state))
       (s n (r .state) (omega arith) i) i
 
   -- an answer that no turn gives is not given by the run: A holds of 0 and of what the turns answer
-  pub runs-answer : (P : S → Type 0) (A : ℕ → Type 0) (rest : S → Bool) (n : ℕ) (g : ℕ → S → After S) (x : S) → P x → A 0
-      → ((k : ℕ) (y : S) → k < n → P y → P (g k y .state) × A (g k y .answer)) → A (runs rest n g x .answer)
+  pub runs-refusal : (P : S → Type 0) (A : ℕ → Type 0) (rest : S → Bool) (n : ℕ) (g : ℕ → S → After S) (x : S) → P x → A 0
+      → ((k : ℕ) (y : S) → k < n → P y → P (g k y .state) × A (g k y .refusal)) → A (runs rest n g x .refusal)
   unfolding runs
-  runs-answer P A rest zero g x h z s = z
-  runs-answer P A rest (suc n) g x h z s =
+  runs-refusal P A rest zero g x h z s = z
+  runs-refusal P A rest (suc n) g x h z s =
       let r = runs rest n g x in
       let p = runs-keep P rest n g x h (λ k y l i. s k y (omega arith) i .0) in
-      by-test (eqb (r .answer) 0 && not (rest (r .state))) (λ b. A (cond b (countedTurn (r .done) (g n (r .state))) r .answer))
+      by-test (eqb (r .refusal) 0 && not (rest (r .state))) (λ b. A (cond b (countedTurn (r .done) (g n (r .state))) r .refusal))
       (s n (r .state) (omega arith) p .1)
-      (runs-answer P A rest n g x h z (λ k y l. s k y (omega arith)))
+      (runs-refusal P A rest n g x h z (λ k y l. s k y (omega arith)))
 
 -- k turns done, none refused
 abbrev pub went : {S : Type 0} → ℕ → S → Ran S
-went k y = record { done = k; answer = 0; state = y }
+went k y = record { done = k; refusal = 0; state = y }
 
 module _ {S : Type 0} (rest : S → Bool) (g : ℕ → S → After S) where
   pub runs-suc : (n : ℕ) (x : S) → runs rest (suc n) g x
-      ≡ cond (eqb (runs rest n g x .answer) 0 && not (rest (runs rest n g x .state))) (countedTurn (runs rest n g x .done) (g n (runs rest n g x .state))) (runs rest n g x)
+      ≡ cond (eqb (runs rest n g x .refusal) 0 && not (rest (runs rest n g x .state))) (countedTurn (runs rest n g x .done) (g n (runs rest n g x .state))) (runs rest n g x)
   unfolding runs
   runs-suc n x = refl
 
@@ -154,15 +154,15 @@ module _ {S : Type 0} (rest : S → Bool) (g : ℕ → S → After S) where
       turned = runs-suc k x ∙ rw (d, more) (ap (countedTurn k) (sym e))
 
       -- turn z is taken
-      pub goes : z .answer ≡ 0 → runs rest (k + 1) g x ≡ went (k + 1) (z .state)
+      pub goes : z .refusal ≡ 0 → runs rest (k + 1) g x ≡ went (k + 1) (z .state)
       goes h = ap (λ i. runs rest i g x) (add-one k) ∙ turned ∙ rw (h, add-one k) refl
 
       -- turn z is refused
-      pub breaks : (n : ℕ) → k < n → z .answer ≢ 0 → runs rest n g x ≡ record { done = k; answer = z .answer; state = z .state }
+      pub breaks : (n : ℕ) → k < n → z .refusal ≢ 0 → runs rest n g x ≡ record { done = k; refusal = z .refusal; state = z .state }
       breaks zero l h = absurd (not-suc-le-zero l)
       breaks (suc n) l h = lt-suc-cases k n l
-          (λ q. ap (λ i. runs rest (suc i) g x) (sym q) ∙ turned ∙ rw (eqb-diff (z .answer) 0 h) refl)
-          (λ lt. let i = breaks n lt h in runs-suc n x ∙ rw (i, eqb-diff (z .answer) 0 h) refl)
+          (λ q. ap (λ i. runs rest (suc i) g x) (sym q) ∙ turned ∙ rw (eqb-diff (z .refusal) 0 h) refl)
+          (λ lt. let i = breaks n lt h in runs-suc n x ∙ rw (i, eqb-diff (z .refusal) 0 h) refl)
 
   -- no turn is left
   pub limit : (n k : ℕ) (x y : S) → runs rest k g x ≡ went k y → n ≤ k → k ≤ n → runs rest n g x ≡ went k y

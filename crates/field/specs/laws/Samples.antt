@@ -61,11 +61,11 @@ pub record Row : Type 0 where
   pub want : After Held
 
 abbrev row : Held → ℕ → ℕ → ℕ → Held → Row
-row h kind number answer left = record { start = h; kind = kind; number = number; want = record { answer = answer; state = left } }
+row h kind number refusal left = record { start = h; kind = kind; number = number; want = record { refusal = refusal; state = left } }
 
 -- refused: what it was given is left
 abbrev no : ℕ → Held → ℕ → ℕ → Row
-no answer h kind number = row h kind number answer h
+no refusal h kind number = row h kind number refusal h
 
 abbrev table : List Row
 table =

@@ -82,7 +82,7 @@ dones (c ∷ cs) h = does c h .done ∷ dones cs (does c h .state)
 
 unfoldable pub refusals : List Call → Held → List ℕ
 refusals [] h = []
-refusals (c ∷ cs) h = does c h .answer ∷ refusals cs (does c h .state)
+refusals (c ∷ cs) h = does c h .refusal ∷ refusals cs (does c h .state)
 
 abbrev pub shown : List Call → Held → Shown
 shown cs h =

@@ -24,21 +24,21 @@ steps-end bytes i (suc n) = ap (λ l. stepOf bytes i ∷ l) (steps-end bytes (su
 module _ (p : Plan) where
   -- a step, unless the run has ended
   abbrev goesOn : Step → Ran State → Ran State
-  goesOn x r = cond (eqb (r .answer) 0) (countedTurn (r .done) (step p (x .kind) (x .number) (r .state))) r
+  goesOn x r = cond (eqb (r .refusal) 0) (countedTurn (r .done) (step p (x .kind) (x .number) (r .state))) r
 
   list-end : (l : List Step) (x : Step) (d : ℕ) (s : State) → listRun p d (l ++ (x ∷ [])) s ≡ goesOn x (listRun p d l s)
   unfolding listRun
   list-end [] x d s =
       let a = step p (x .kind) (x .number) s in
-      let went : Ran State = record { done = suc d; answer = 0; state = a .state } in
-      let stopped : Ran State = record { done = d; answer = a .answer; state = a .state } in
-      eqb-cases (a .answer) 0 (λ b. cond b went stopped ≡ record { done = cond b (suc d) d; answer = a .answer; state = a .state }) (λ e. rw e refl) (λ n. refl)
+      let went : Ran State = record { done = suc d; refusal = 0; state = a .state } in
+      let stopped : Ran State = record { done = d; refusal = a .refusal; state = a .state } in
+      eqb-cases (a .refusal) 0 (λ b. cond b went stopped ≡ record { done = cond b (suc d) d; refusal = a .refusal; state = a .state }) (λ e. rw e refl) (λ n. refl)
   list-end (y ∷ l) x d s =
       let a = step p (y .kind) (y .number) s in
-      let stopped : Ran State = record { done = d; answer = a .answer; state = a .state } in
-      eqb-cases (a .answer) 0
+      let stopped : Ran State = record { done = d; refusal = a .refusal; state = a .state } in
+      eqb-cases (a .refusal) 0
       (λ b. cond b (listRun p (suc d) (l ++ (x ∷ [])) (a .state)) stopped ≡ goesOn x (cond b (listRun p (suc d) l (a .state)) stopped))
-      (λ e. list-end l x (suc d) (a .state)) (λ n. rw (eqb-diff (a .answer) 0 n) refl)
+      (λ e. list-end l x (suc d) (a .state)) (λ n. rw (eqb-diff (a .refusal) 0 n) refl)
 
   runs-list : (bytes : List ℕ) (n : ℕ) (s : State) → runs never n (stepAt p bytes) s ≡ listRun p 0 (stepsFrom bytes 0 n) s
   unfolding runs listRun stepsFrom
@@ -48,7 +48,7 @@ module _ (p : Plan) where
     where
       more : runs never (suc n) (stepAt p bytes) s ≡ goesOn (stepOf bytes n) (runs never n (stepAt p bytes) s)
       more = let r = runs never n (stepAt p bytes) s in
-          by-test (eqb (r .answer) 0) (λ b. cond (b && true) (countedTurn (r .done) (stepAt p bytes n (r .state))) r ≡ cond b (countedTurn (r .done) (stepAt p bytes n (r .state))) r) refl refl
+          by-test (eqb (r .refusal) 0) (λ b. cond (b && true) (countedTurn (r .done) (stepAt p bytes n (r .state))) r ≡ cond b (countedTurn (r .done) (stepAt p bytes n (r .state))) r) refl refl
 
       end : stepsFrom bytes 0 (suc n) ≡ stepsFrom bytes 0 n ++ (stepOf bytes n ∷ [])
       end = steps-end bytes 0 n ∙ (let e : 0 + n ≡ n = omega arith in ap (λ k. stepsFrom bytes 0 n ++ (stepOf bytes k ∷ [])) e)

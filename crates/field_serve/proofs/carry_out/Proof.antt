@@ -15,7 +15,7 @@ use Rattle.field_serve.proofs.carry_out.Tie as tie
 returns : tie.Need-returns
 returns c =
     let e = c .before in
-    out-32 _ _ _ _ _ _ _ _ (e .before .before .before .pre .laid) (e .if1 .taken) (c .with-answer .ensures)
+    out-32 _ _ _ _ _ _ _ _ (e .before .before .before .pre .laid) (e .if1 .taken) (c .refused .ensures)
 
 word-at-requires : tie.Need-word-at-requires
 word-at-requires c κs = c .before .before .before .before .pre .laid .within
@@ -37,7 +37,7 @@ returns-2 c =
     let e = x .before .before in
     let s = e .before .before .before in
     out-33 _ _ _ _ _ _ _ _ (e .if1 .left) (x .word-at .ensures) (m .many .ensures .0) (s .pre .laid)
-    (omega (arith, t .if2 .taken, l .ceiling-of .ensures, s .pre .ceiled)) (c .with-answer2 .ensures)
+    (omega (arith, t .if2 .taken, l .ceiling-of .ensures, s .pre .ceiled)) (c .refused2 .ensures)
 
 -- the messages fit behind the words that wait
 fits : (c : tie.Else2) → c .before .before .before .before .before .before .before .before .before .before .args .b .waiting + c .before .before .before .many .result

@@ -8,7 +8,7 @@ returns : tie.Need-returns
 returns c =
     let e = c .before in
     let m = e .before in
-    waking-41 _ _ _ _ (m .before .before .args .b) _ (m .before .before .pre) (omega (arith, m .modules .ensures, e .if1 .taken)) (c .with-answer .ensures)
+    waking-41 _ _ _ _ (m .before .before .args .b) _ (m .before .before .pre) (omega (arith, m .modules .ensures, e .if1 .taken)) (c .refused .ensures)
 
 load-requires : tie.Need-load-requires
 load-requires c κs =
@@ -22,7 +22,7 @@ returns-2 c =
     let o = t .before .before in
     let e = o .before .before in
     let m = e .before in
-    waking-43 _ _ _ _ (m .before .before .args .b) _ (m .before .before .pre) (omega (arith, m .modules .ensures, e .if1 .left)) _ (o .load .ensures) (t .if2 .taken) (c .with-answer2 .ensures)
+    waking-43 _ _ _ _ (m .before .before .args .b) _ (m .before .before .pre) (omega (arith, m .modules .ensures, e .if1 .left)) _ (o .load .ensures) (t .if2 .taken) (c .refused2 .ensures)
 
 wakeup-requires : tie.Need-wakeup-requires
 wakeup-requires c κs = c .before .before .before .before .before .before .before .before .pre .plan .linksOk

@@ -70,16 +70,16 @@ module _ (s : List ℕ) where
 
 -- the writer's three answers
 module _ (h c : ℕ) (out : List ℕ) where
-  pub write-unlisted : listed h c ≡ false → frameWritten h c out ≡ record { answer = 63; state = out }
+  pub write-unlisted : listed h c ≡ false → frameWritten h c out ≡ record { refusal = 63; state = out }
   unfolding frameWritten writeRefusal
   write-unlisted e = simp e
 
   module _ (l : listed h c ≡ true) where
-    pub write-short : (length out ≡ 6 → ⊥) → frameWritten h c out ≡ record { answer = 64; state = out }
+    pub write-short : (length out ≡ 6 → ⊥) → frameWritten h c out ≡ record { refusal = 64; state = out }
     unfolding frameWritten writeRefusal
     write-short n = simp (l, ne-eqb (length out) 6 n)
 
-    pub write-done : length out ≡ 6 → frameWritten h c out ≡ record { answer = 0; state = frameBytes h c }
+    pub write-done : length out ≡ 6 → frameWritten h c out ≡ record { refusal = 0; state = frameBytes h c }
     unfolding frameWritten writeRefusal
     write-done p = simp (l, eq-eqb (length out) 6 p)
 

@@ -47,12 +47,12 @@ same-bytes s b t =
 
 -- taken bytes, read and written into any six bytes, are the same bytes
 pub read-written : (s : List ℕ) → ((i : ℕ) → getD s i 0 < 256) → frameRefusal s ≡ 0 → (out : List ℕ) → length out ≡ 6
-    → frameWritten (frameRead s .header) (frameRead s .carried) out ≡ record { answer = 0; state = s }
+    → frameWritten (frameRead s .header) (frameRead s .carried) out ≡ record { refusal = 0; state = s }
 read-written s b e out p =
     let t = accepted s e in
     ap (λ f. frameWritten (f .header) (f .carried) out) (read-taken s e)
     ∙ write-done (getD s 3 0) (at16 s 4) out (t .holds) p
-    ∙ ap (λ x. record { answer = 0; state = x }) (same-bytes s b t)
+    ∙ ap (λ x. record { refusal = 0; state = x }) (same-bytes s b t)
 
 -- THE READER TAKES EXACTLY THE FRAMES OF LISTED MESSAGES
 

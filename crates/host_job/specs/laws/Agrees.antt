@@ -37,12 +37,12 @@ abbrev CarriedAs : ℕ → Type 0
 CarriedAs r = (r ≡ 0) ⊎ (r ≡ 32) ⊎ (r ≡ 33)
 
 -- a wake of a sleeper is refused by 32 or 33, if at all
-carry-only : (p : Plan) (v : ℕ) (w : Work) (s : State) (words back : List ℕ) → CarriedAs (carryOut p v w s words back .answer)
+carry-only : (p : Plan) (v : ℕ) (w : Work) (s : State) (words back : List ℕ) → CarriedAs (carryOut p v w s words back .refusal)
 unfolding carryOut
 carry-only p v w s words back = bool-cases (eqb (w .answer) REFUSED) (λ e. rw e (inr (inl refl)))
     (λ e. rw e (bool-cases (ltb (ceilingOf p) (s .sent + length (w .sends))) (λ b. rw b (inr (inr refl))) (λ b. rw b (inl refl))))
 
-wake-only : (h : Held) → Live h → 0 < modulesOf (h .field .plan) → nodeAt (stateOf h) 0 .status ≡ ASLEEP → CarriedAs (stepAlone 1 0 h .answer)
+wake-only : (h : Held) → Live h → 0 < modulesOf (h .field .plan) → nodeAt (stateOf h) 0 .status ≡ ASLEEP → CarriedAs (stepAlone 1 0 h .refusal)
 unfolding stepAlone step wake
 wake-only h i l e = rw (i .valid, lt-leb (modulesOf (h .field .plan)) 0 l, eq-eqb _ ASLEEP e) (carry-only (h .field .plan) 0 _ (stateOf h) (stateOf h .words) [])
 
@@ -60,14 +60,14 @@ head : {A : Type 0} {P : A → Type 0} {x : A} {l : List A} → All P (x ∷ l) 
 head (con h t) = h
 
 -- then a module was woken
-woken : (p : Plan) (h : Held) → Live h → stepAlone 1 0 h .answer ≡ 0 → (cs : List Call) → wokenIn p (trail (one 1 0 ∷ cs) h) ≢ []
+woken : (p : Plan) (h : Held) → Live h → stepAlone 1 0 h .refusal ≡ 0 → (cs : List Call) → wokenIn p (trail (one 1 0 ∷ cs) h) ≢ []
 unfolding stepAlone trail stepsOf ifTaken wokenIn wakesOne
 woken p h i z cs e =
-    let y : step (h .field .plan) 1 0 (stateOf h) .answer ≡ 0 = rw (i .valid) at z in
+    let y : step (h .field .plan) 1 0 (stateOf h) .refusal ≡ 0 = rw (i .valid) at z in
     let f = rw (i .valid, eq-eqb _ 0 y) at e in
     omega (arith, ap length f)
 
-module _ (p : Plan) (lent : List ℕ) (ok : setUp p lent .answer ≡ 0) where
+module _ (p : Plan) (lent : List ℕ) (ok : setUp p lent .refusal ≡ 0) where
   abbrev start : Held
   start = setUp p lent .state
 
@@ -81,7 +81,7 @@ module _ (p : Plan) (lent : List ℕ) (ok : setUp p lent .answer ≡ 0) where
   whole = demand3 p lent ok calls
 
   -- module 0 is there and asleep: the wake is taken
-  wakes : stepAlone 1 0 start .answer ≡ 0
+  wakes : stepAlone 1 0 start .refusal ≡ 0
   unfolding answers does
   wakes =
       let q = started p lent ok in
@@ -116,7 +116,7 @@ module _ (p : Plan) (lent : List ℕ) (ok : setUp p lent .answer ≡ 0) where
   }
 
   -- THE TREE OF THE CENTRAL BUILDER: both ends of a link say branch where its byte is 1, rejected where it is 0
-  module _ (out : List ℕ) (built : centralTree p out .answer ≡ 0) (k : ℕ) (l : k < linksOf p) where
+  module _ (out : List ℕ) (built : centralTree p out .refusal ≡ 0) (k : ℕ) (l : k < linksOf p) where
     pub same-tree : getD (centralTree p out .state) k 0 ≡ 1 → BothSay p (stateOf (settled p lent .state)) BRANCH k
     same-tree e = outcome .agreed .tree k l (tree-written p out built k l e)
 

@@ -12,15 +12,15 @@ use Rattle.host_job.specs.Settled.{next, settled}
 
 -- it stops at the first call that is refused
 module _ (p : Plan) (lent : List ℕ) (s : After Held) (set : s ≡ setUp p lent) where
-  pub not-set : s .answer ≢ 0 → refusedRun (s .answer) (s .state) ≡ settled p lent
+  pub not-set : s .refusal ≢ 0 → refusedRun (s .refusal) (s .state) ≡ settled p lent
   unfolding settled next
   not-set n = rw (sym set, eqb-diff _ 0 n) refl
 
-  module _ (z : s .answer ≡ 0) (w : After Held) (woken : w ≡ stepAlone 1 0 (s .state)) where
-    pub not-woken : w .answer ≢ 0 → refusedRun (w .answer) (w .state) ≡ settled p lent
+  module _ (z : s .refusal ≡ 0) (w : After Held) (woken : w ≡ stepAlone 1 0 (s .state)) where
+    pub not-woken : w .refusal ≢ 0 → refusedRun (w .refusal) (w .state) ≡ settled p lent
     unfolding settled next
     not-woken n = rw (sym set, z, sym woken, eqb-diff _ 0 n) refl
 
-    pub all-run : w .answer ≡ 0 → (r : Ran Held) → r ≡ runRounds 65535 (w .state) → r ≡ settled p lent
+    pub all-run : w .refusal ≡ 0 → (r : Ran Held) → r ≡ runRounds 65535 (w .state) → r ≡ settled p lent
     unfolding settled next
     all-run y r e = rw (sym set, z, sym woken, y) e

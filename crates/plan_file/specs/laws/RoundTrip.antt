@@ -79,15 +79,15 @@ module _ (p : Plan) where
   written-read z = rw (written-taken z, decode-encode)
 
   -- an answer of 0: the plan is accepted, and its bytes are at the front of the buffer
-  write-answered : (t : List ℕ) → writePlan p t .answer ≡ 0 → (planRefusal p ≡ 0) × (writePlan p t .state ≡ encode p ++ drop (size p) t)
+  write-answered : (t : List ℕ) → writePlan p t .refusal ≡ 0 → (planRefusal p ≡ 0) × (writePlan p t .state ≡ encode p ++ drop (size p) t)
   unfolding writePlan writeRefusal
   write-answered t e = (fine-first (planRefusal p) e .0, sym (ap (λ (a : After (List ℕ)). a .state) (answers-taken (writeRefusal p t) t (encode p ++ drop (size p) t) e)))
 
-  front : (t : List ℕ) → writePlan p t .answer ≡ 0 → take (size p) (writePlan p t .state) ≡ encode p
+  front : (t : List ℕ) → writePlan p t .refusal ≡ 0 → take (size p) (writePlan p t .state) ≡ encode p
   front t e = ap₂ take (sym (length-encode p)) (write-answered t e .1) ∙ take-append-seam (encode p) (drop (size p) t)
 
   -- so what the writer leaves at the front of a buffer reads back
-  pub left-read : (t : List ℕ) → writePlan p t .answer ≡ 0 → readPlan (take (size p) (writePlan p t .state)) ≡ record { refusal = 0; plan = trimmed p }
+  pub left-read : (t : List ℕ) → writePlan p t .refusal ≡ 0 → readPlan (take (size p) (writePlan p t .state)) ≡ record { refusal = 0; plan = trimmed p }
   left-read t e = ap readPlan (front t e) ∙ written-read (write-answered t e .0)
 
   -- an accepted plan's numbers are of 16 bits
@@ -149,13 +149,13 @@ module _ (s : List ℕ) (z : readRefusal s ≡ 0) where
 -- what the reader takes is accepted
 pub read-taken : (s : List ℕ) (r : Outcome) → r ≡ readPlan s → r .refusal ≡ 0 → planRefusal (r .plan) ≡ 0
 unfolding readPlan
-read-taken s r e z = rw e (eqb-cases (readRefusal s) 0 (λ b. answer b .refusal ≡ 0 → planRefusal (answer b .plan) ≡ 0)
+read-taken s r e z = rw e (eqb-cases (readRefusal s) 0 (λ b. refusal b .refusal ≡ 0 → planRefusal (refusal b .plan) ≡ 0)
     (λ h y. read-accepted s h)
     (λ n y. absurd (n y))
     (rw e at z))
   where
-    answer : Bool → Outcome
-    answer b = cond b (record { refusal = 0; plan = decode s }) (record { refusal = readRefusal s; plan = blank })
+    refusal : Bool → Outcome
+    refusal b = cond b (record { refusal = 0; plan = decode s }) (record { refusal = readRefusal s; plan = blank })
 
 -- THE READER TAKES EXACTLY THE WRITTEN PLANS
 

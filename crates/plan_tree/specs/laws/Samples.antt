@@ -13,7 +13,7 @@ use Rattle.plan.specs.Links.{Plan}
 pub record Row : Type 0 where
   pub plan : Plan
   pub lent : List ℕ
-  pub answer : ℕ
+  pub refusal : ℕ
   pub bytes : List ℕ
 
 -- "Three modules, three links, each with readings 2 and 3: tree 0-1 and 0-2."
@@ -23,9 +23,9 @@ triangle = 3 ∷ 3 ∷ 0 ∷ 1 ∷ 2 ∷ 3 ∷ 0 ∷ 2 ∷ 2 ∷ 3 ∷ 1 ∷ 2 �
 -- the same with a buffer of two bytes; "two modules, no link: 19"
 unfoldable pub rows : List Row
 rows =
-    record { plan = triangle; lent = 9 ∷ 9 ∷ 9 ∷ []; answer = 0; bytes = 1 ∷ 1 ∷ 0 ∷ [] }
-    ∷ record { plan = triangle; lent = 9 ∷ 9 ∷ []; answer = 20; bytes = 9 ∷ 9 ∷ [] }
-    ∷ record { plan = 2 ∷ 0 ∷ []; lent = []; answer = 19; bytes = [] }
+    record { plan = triangle; lent = 9 ∷ 9 ∷ 9 ∷ []; refusal = 0; bytes = 1 ∷ 1 ∷ 0 ∷ [] }
+    ∷ record { plan = triangle; lent = 9 ∷ 9 ∷ []; refusal = 20; bytes = 9 ∷ 9 ∷ [] }
+    ∷ record { plan = 2 ∷ 0 ∷ []; lent = []; refusal = 19; bytes = [] }
     ∷ []
 
 -- what the builder does, and what the row says
@@ -34,7 +34,7 @@ unfolding centralTree
 done r = centralTree (r .plan) (r .lent)
 
 abbrev pub said : Row → After (List ℕ)
-said r = record { answer = r .answer; state = r .bytes }
+said r = record { refusal = r .refusal; state = r .bytes }
 
 pub samples : map done rows ≡ map said rows
 unfolding rows done earlier cost planRefusal linksRefusal linkVerdict inOrder ascends connected

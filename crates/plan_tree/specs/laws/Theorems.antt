@@ -28,7 +28,7 @@ use Rattle.plan.specs.laws.Accepted.{accepted}
 use Rattle.plan_tree.specs.Tree.{treeLink, treeBytes, treeRefusal, centralTree}
 use Rattle.plan_tree.specs.laws.Tree.{answered, answered-bytes}
 
-module _ (p : Plan) (out : List ℕ) (taken : centralTree p out .answer ≡ 0) where
+module _ (p : Plan) (out : List ℕ) (taken : centralTree p out .refusal ≡ 0) where
   -- byte k, and the set of links that it marks
   abbrev pub byte : ℕ → ℕ
   byte k = getD (centralTree p out .state) k 0
@@ -87,6 +87,6 @@ module _ (p : Plan) (out : List ℕ) (taken : centralTree p out .answer ≡ 0) w
       (λ k l. let o = a.each k l in (omega (arith, o.ordered, o.inside), o.inside)) s all)
 
 -- a refused call alters no byte
-pub refused-keeps : (p : Plan) (out : List ℕ) → centralTree p out .answer ≢ 0 → centralTree p out .state ≡ out
+pub refused-keeps : (p : Plan) (out : List ℕ) → centralTree p out .refusal ≢ 0 → centralTree p out .state ≡ out
 unfolding centralTree
 refused-keeps p out n = rw (eqb-diff (treeRefusal p out) 0 n)

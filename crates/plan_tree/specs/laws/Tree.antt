@@ -26,25 +26,25 @@ module _ (p : Plan) (out : List ℕ) where
   unfolding centralTree
   answers n q = ap (λ m. answering m out (treeBytes p)) (sym q)
 
-  pub refused-plan : planRefusal p ≢ 0 → record { answer = planRefusal p; state = out } ≡ centralTree p out
+  pub refused-plan : planRefusal p ≢ 0 → record { refusal = planRefusal p; state = out } ≡ centralTree p out
   unfolding treeRefusal
   refused-plan n = answers-refused (planRefusal p) out (treeBytes p) n ∙ answers (planRefusal p) (rw (eqb-diff (planRefusal p) 0 n))
 
-  pub refused-size : planRefusal p ≡ 0 → length out ≢ linksOf p → record { answer = 20; state = out } ≡ centralTree p out
+  pub refused-size : planRefusal p ≡ 0 → length out ≢ linksOf p → record { refusal = 20; state = out } ≡ centralTree p out
   unfolding treeRefusal
   refused-size z n = answers 20 (rw (z, eqb-diff (length out) (linksOf p) n))
 
-  pub built : planRefusal p ≡ 0 → length out ≡ linksOf p → record { answer = 0; state = treeBytes p } ≡ centralTree p out
+  pub built : planRefusal p ≡ 0 → length out ≡ linksOf p → record { refusal = 0; state = treeBytes p } ≡ centralTree p out
   unfolding treeRefusal
   built z e = answers 0 (rw (z, e, eqb-same (linksOf p)))
 
   -- what an answer of 0 tells
-  pub answered : centralTree p out .answer ≡ 0 → (planRefusal p ≡ 0) × (length out ≡ linksOf p)
+  pub answered : centralTree p out .refusal ≡ 0 → (planRefusal p ≡ 0) × (length out ≡ linksOf p)
   answered e = by-eq (planRefusal p) 0
-      (λ z. by-eq (length out) (linksOf p) (λ l. (z, l)) (λ n. absurd (omega (arith, ap (λ b. b .answer) (refused-size z n)))))
-      (λ n. absurd (n (ap (λ b. b .answer) (refused-plan n) ∙ e)))
+      (λ z. by-eq (length out) (linksOf p) (λ l. (z, l)) (λ n. absurd (omega (arith, ap (λ b. b .refusal) (refused-size z n)))))
+      (λ n. absurd (n (ap (λ b. b .refusal) (refused-plan n) ∙ e)))
 
-  pub answered-bytes : centralTree p out .answer ≡ 0 → centralTree p out .state ≡ treeBytes p
+  pub answered-bytes : centralTree p out .refusal ≡ 0 → centralTree p out .state ≡ treeBytes p
   answered-bytes e = let a = answered e in sym (ap (λ b. b .state) (built (a .0) (a .1)))
 
 -- bytes that mark the tree edges are the tree's bytes

@@ -52,7 +52,7 @@ module _ (s : List ℕ) (z : readPlan s .refusal ≡ 0) where
   abbrev pub ran : Ran Held
   ran = settled p lent
 
-  set : setUp p lent .answer ≡ 0
+  set : setUp p lent .refusal ≡ 0
   unfolding setUp
   set = rw (read-taken s (readPlan s) refl z, length-replicate {A = ℕ} (ceilingOf p) 0, le-ltb (ceilingOf p) (ceilingOf p) (omega arith)) refl
 

@@ -91,8 +91,8 @@ refused-length number = omega (arith, line-length "refused " number)
 
 settled-length : (r : Ran Held) → length (settledText r) ≤ 46202
 unfolding settledText
-settled-length r = by-test (eqb (r .answer) 0) (λ b. length (cond b (reportText (r .state .field) (r .done)) (refusedText (r .answer))) ≤ 46202)
-    (report-length (r .state .field) (r .done)) (refused-length (r .answer))
+settled-length r = by-test (eqb (r .refusal) 0) (λ b. length (cond b (reportText (r .state .field) (r .done)) (refusedText (r .refusal))) ≤ 46202)
+    (report-length (r .state .field) (r .done)) (refused-length (r .refusal))
 
 pub reported-length : (s : List ℕ) → length (reported s) ≤ 46202
 unfolding planText

@@ -15,13 +15,13 @@ use Rattle.program_report.specs.Reported.{refusedText, settledText, plan
 
 -- For code: which of the two.
 module _ (r x : Ran Held) (e : r ≡ x) where
-  pub settled-refused : r .answer ≢ 0 → settledText x ≡ refusedText (r .answer)
+  pub settled-refused : r .refusal ≢ 0 → settledText x ≡ refusedText (r .refusal)
   unfolding settledText
-  settled-refused h = rw (sym e, ne-eqb (r .answer) 0 h) refl
+  settled-refused h = rw (sym e, ne-eqb (r .refusal) 0 h) refl
 
-  pub settled-shown : r .answer ≡ 0 → settledText x ≡ reportText (r .state .field) (r .done)
+  pub settled-shown : r .refusal ≡ 0 → settledText x ≡ reportText (r .state .field) (r .done)
   unfolding settledText
-  settled-shown h = rw (sym e, eq-eqb (r .answer) 0 h) refl
+  settled-shown h = rw (sym e, eq-eqb (r .refusal) 0 h) refl
 
 module _ (g x : Outcome) (e : g ≡ x) where
   pub plan-refused : g .refusal ≢ 0 → planText x ≡ refusedText (g .refusal)

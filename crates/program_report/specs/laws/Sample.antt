@@ -76,7 +76,7 @@ rest = roundsRun (woken .field .plan) 4 (stateOf woken) .state
 record Computed : Type 0 where
   taken : record { refusal = 0; plan = p } ≡ readPlan given
   words : lent ≡ replicate (ceilingOf p) 0
-  set : setUp p lent .answer ≡ 0
+  set : setUp p lent .refusal ≡ 0
   four : roundsRun (woken .field .plan) 4 (stateOf woken) ≡ went 4 rest
   still : atRest rest ≡ true
   shown : settledText (runRounds 4 woken) ≡ printed

@@ -167,13 +167,13 @@ unfolding ranText
 ran-length p r a l =
     let f = r .state .field in
     let ws = waitingIn (r .state .words) in
-    let h = headText (r .done) (r .answer) (f .sent) (length ws) in
+    let h = headText (r .done) (r .refusal) (f .sent) (length ws) in
     let m = modulesText p (f .cells) (f .marks) (modulesOf p) in
     omega (
       arith,
       length-append (h ++ m) (wordsText ws),
       length-append h m,
-      head-length (r .done) (r .answer) (f .sent) (length ws),
+      head-length (r .done) (r .refusal) (f .sent) (length ws),
       all-modules p (f .cells) (f .marks) (modulesOf p) (a .modulesOk) (a .linksOk),
       words-length ws,
     )

@@ -80,12 +80,12 @@ module _ (q : Page) (ws : List ℕ) (i : ℕ) where
 
 -- the three parts of the whole, each put on what the part before left, for what a run is known to answer and leave
 pub ran-parts : (p : Plan) {r x : Ran Held} → r ≡ x → (q : Page) {q₁ q₂ q₃ : Page}
-    → q₁ ≡ put q (headText (r .done) (r .answer) (r .state .field .sent) (length (waitingIn (r .state .words))))
+    → q₁ ≡ put q (headText (r .done) (r .refusal) (r .state .field .sent) (length (waitingIn (r .state .words))))
     → q₂ ≡ put q₁ (modulesText p (r .state .field .cells) (r .state .field .marks) (modulesOf p))
     → q₃ ≡ put q₂ (wordsText (waitingIn (r .state .words)))
     → q₃ ≡ put q (ranText p x)
 unfolding ranText
 ran-parts p {r} e q e₁ e₂ e₃ =
-    let h = headText (r .done) (r .answer) (r .state .field .sent) (length (waitingIn (r .state .words))) in
+    let h = headText (r .done) (r .refusal) (r .state .field .sent) (length (waitingIn (r .state .words))) in
     let m = modulesText p (r .state .field .cells) (r .state .field .marks) (modulesOf p) in
     put-on q (h ++ m) _ (put-on q h m e₁ e₂) e₃ ∙ ap (λ (y : Ran Held). put q (ranText p y)) e

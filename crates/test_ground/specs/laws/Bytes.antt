@@ -8,7 +8,7 @@ use Rattle.base.specs.Loop.{After}
 use Rattle.test_ground.specs.Bytes.{unless}
 
 -- the two outcomes
-pub unless-refused : {r s : ℕ} (out : List ℕ) (rest : After (List ℕ)) → r ≡ s → r ≢ 0 → record { answer = r; state = out } ≡ unless s out rest
+pub unless-refused : {r s : ℕ} (out : List ℕ) (rest : After (List ℕ)) → r ≡ s → r ≢ 0 → record { refusal = r; state = out } ≡ unless s out rest
 unfolding unless
 unless-refused {r} {s} out rest e n = rw (e, eqb-diff s 0 (λ z. n (e ∙ z)))
 

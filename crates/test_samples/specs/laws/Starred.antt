@@ -82,7 +82,7 @@ aConnect = packWaiting (record { msg = connect 0; link = 1; handed = false })
 abbrev served : Held → List ℕ
 served h =
     let a = stepAlone 3 1 h in
-    a .answer ∷ a .state .field .sent ∷ (a .state .field .cells ++ (a .state .field .marks ++ a .state .words))
+    a .refusal ∷ a .state .field .sent ∷ (a .state .field .cells ++ (a .state .field .marks ++ a .state .words))
 
 abbrev shown : Held → List ℕ
 shown h = 0 ∷ h .field .sent ∷ (h .field .cells ++ (h .field .marks ++ h .words))

@@ -16,7 +16,7 @@ returns c =
     let h = t .before .before .before in
     let s = h .before .before .before in
     let r = s .pre .0 in
-    renamed (hands _ _ _ _ (s .args .b) r handPhase (hand-phase-sound _ _ (r .plan) (r .sound)) (h .hand-phase .ensures) (search needs) (c .with-answer .ensures))
+    renamed (hands _ _ _ _ (s .args .b) r handPhase (hand-phase-sound _ _ (r .plan) (r .sound)) (h .hand-phase .ensures) (search needs) (c .refused .ensures))
     (round-off _ _ _ (h .hand-phase .ensures .is _ _ _) (t .if1 .taken))
 
 serve-phase-requires : tie.Need-serve-phase-requires
