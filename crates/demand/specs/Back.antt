@@ -27,4 +27,4 @@ module _ (o : Own) (limit : ℕ) (s : ProtocolState) {n : Node} {v : ℕ} (shows
   blocks change h = h
 
   pub back-blocked : (m : Msg) → respond o limit m j n (s.mark v) .answer ≡ BACK → Blocked s v j m
-  back-blocked m e = ⊎-elim (λ k. absurd (k .refusal e)) (λ t. blocks m (t .0)) (ends-awake o limit j m w (record { unblocked = λ q. omega arith; awake = λ q. up (st-is shows ∙ q) }))
+  back-blocked m e = ⊎-elim (λ k. absurd (k .unblocked e)) (λ t. blocks m (t .0)) (ends-awake o limit j m w (record { unblocked = λ q. omega arith; awake = λ q. up (st-is shows ∙ q) }))

@@ -29,10 +29,10 @@ frameRead s =
     (record { refusal = frameRefusal s; header = 0; carried = 0 })
 
 -- "63 header or carried number not listed (the frame writer too, then 64 for a buffer not 6 bytes)"
-unfoldable pub writeRefusal : ℕ → ℕ → List ℕ → ℕ
-writeRefusal header carried out = orElse (not (listed header carried)) 63 (orElse (not (eqb (length out) 6)) 64 0)
+unfoldable pub frameWriteRefusal : ℕ → ℕ → List ℕ → ℕ
+frameWriteRefusal header carried out = orElse (not (listed header carried)) 63 (orElse (not (eqb (length out) 6)) 64 0)
 
 -- the writer's answer, and what the buffer holds then
 unfoldable pub frameWritten : ℕ → ℕ → List ℕ → After (List ℕ)
-unfolding writeRefusal
-frameWritten header carried out = answering (writeRefusal header carried out) out (frameBytes header carried)
+unfolding frameWriteRefusal
+frameWritten header carried out = answering (frameWriteRefusal header carried out) out (frameBytes header carried)

@@ -23,16 +23,16 @@ abbrev pub most : ℕ
 most = planNumbers maxLinks
 
 module _ (f : ℕ → ℕ) where
-  abbrev pub begun : ℕ → Plan
-  begun i = tabulate most (upto i f (λ j. 0))
+  abbrev pub readTo : ℕ → Plan
+  readTo i = tabulate most (upto i f (λ j. 0))
 
-  pub none-read : (p : Plan) → p ≡ blank → p ≡ begun 0
+  pub none-read : (p : Plan) → p ≡ blank → p ≡ readTo 0
   none-read p e = e ∙ fill-start most f (λ i. 0) blank (length-replicate {A = ℕ} most 0) (λ i l. getD-replicate {A = ℕ} most i 0 0 l)
 
-  pub one-read : (p : Plan) (i x : ℕ) → i < most → p ≡ begun i → x ≡ f i → set p i x ≡ begun (suc i)
+  pub one-read : (p : Plan) (i x : ℕ) → i < most → p ≡ readTo i → x ≡ f i → set p i x ≡ readTo (suc i)
   one-read p i x l e q = rw e (fill-turn most f (λ i. 0) i x l q)
 
-  pub all-read : (n : ℕ) → n ≤ most → begun n ≡ padded n f
+  pub all-read : (n : ℕ) → n ≤ most → readTo n ≡ padded n f
   unfolding padded
   all-read n m = sym (tabulated most (upto n f (λ j. 0)) (padded n f) size entry)
     where

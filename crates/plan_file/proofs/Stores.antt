@@ -36,16 +36,16 @@ module _ (f : ℕ → ℕ) (s : List ℕ) where
   unfolding tabulate bytesOf
   put-start = refl
 
-  pub put-turn : (t : List ℕ) (i : ℕ) → t ≡ sets s 3 (bytesOf (tabulate i f)) → put16 t (3 + 2 * i) (f i) ≡ sets s 3 (bytesOf (tabulate (i + 1) f))
+  pub write-turn : (t : List ℕ) (i : ℕ) → t ≡ sets s 3 (bytesOf (tabulate i f)) → put16 t (3 + 2 * i) (f i) ≡ sets s 3 (bytesOf (tabulate (i + 1) f))
   unfolding bytesOf
-  put-turn t i e = let xs = bytesOf (tabulate i f) in rw (add-one (3 + 2 * i), add-one i, tabulate-next i f, bytesOf-append (tabulate i f) (f i ∷ []), e)
+  write-turn t i e = let xs = bytesOf (tabulate i f) in rw (add-one (3 + 2 * i), add-one i, tabulate-next i f, bytesOf-append (tabulate i f) (f i ∷ []), e)
       (sym (sets-append s 3 xs (bytesOf (f i ∷ []))
       ∙ ap (λ n. sets (sets s 3 xs) n (bytesOf (f i ∷ []))) (let l : 3 + length xs ≡ 3 + 2 * i = omega (arith, length-bytesOf (tabulate i f), length-tabulate i f) in l)))
 
-pub put-end : (p : Plan) (s : List ℕ) (l : ℕ) {t u : List ℕ} → l ≡ linksOf p → t ≡ put16 (set s 0 1) 1 (4 + 8 * l)
+pub write-end : (p : Plan) (s : List ℕ) (l : ℕ) {t u : List ℕ} → l ≡ linksOf p → t ≡ put16 (set s 0 1) 1 (4 + 8 * l)
     → u ≡ sets t 3 (bytesOf (tabulate (planNumbers (linksOf p)) (λ i. getD p i 0))) → u ≡ sets s 0 (encode p)
 unfolding encode bytesOf
-put-end p s l q e f = f ∙ rw (e, q)
+write-end p s l q e f = f ∙ rw (e, q)
 
 -- THE OUTCOMES
 

@@ -22,8 +22,8 @@ unfoldable pub encode : Plan → List ℕ
 encode p = 1 ∷ bytesOf ((4 + 8 * linksOf p) ∷ tabulate (planNumbers (linksOf p)) (λ i. getD p i 0))
 
 -- the integer number i after the version byte
-abbrev pub number : List ℕ → ℕ → ℕ
-number s i = at16 s (1 + 2 * i)
+abbrev pub numberAt : List ℕ → ℕ → ℕ
+numberAt s i = at16 s (1 + 2 * i)
 
 -- a plan value of n numbers, zeros past them
 unfoldable pub padded : ℕ → (ℕ → ℕ) → Plan
@@ -32,7 +32,7 @@ padded n f = tabulate n f ++ replicate (planNumbers maxLinks - n) 0
 -- the plan that bytes mean: the numbers after the length
 unfoldable pub decode : List ℕ → Plan
 unfolding padded
-decode s = padded (planNumbers (number s 2)) (λ i. number s (suc i))
+decode s = padded (planNumbers (numberAt s 2)) (λ i. numberAt s (suc i))
 
 -- a plan with zeros past its links: the form in which it is read back
 unfoldable pub trimmed : Plan → Plan

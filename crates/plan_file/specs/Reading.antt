@@ -9,7 +9,7 @@ use Rattle.base.specs.Refuse.{orElse, firstRefusal}
 use Rattle.plan.specs.Refusal.{countsRefusal, planRefusal}
 use Rattle.plan.specs.Links.{Plan}
 use Rattle.plan_file.specs.declared.Outcome.{Outcome}
-use Rattle.plan_file.specs.Layout.{number, decode, blank}
+use Rattle.plan_file.specs.Layout.{numberAt, decode, blank}
 
 -- "11 fewer than 3 bytes; 12 version; 13 length not the bytes that follow, or below 4"
 unfoldable pub headVerdict : ℕ → ℕ → ℕ → ℕ → ℕ
@@ -18,7 +18,7 @@ headVerdict size version len counts =
 
 -- then "14 ..; 15 L above 600 or not fitting the length", as of the plan value, with the length to fit
 abbrev pub headRefusal : List ℕ → ℕ
-headRefusal s = headVerdict (length s) (getD s 0 0) (number s 0) (countsRefusal (number s 1) (number s 2) (eqb (number s 0) (4 + 8 * number s 2)))
+headRefusal s = headVerdict (length s) (getD s 0 0) (numberAt s 0) (countsRefusal (numberAt s 1) (numberAt s 2) (eqb (numberAt s 0) (4 + 8 * numberAt s 2)))
 
 -- "then for each link 16 ..; 17 ..; 18 ..; at the end 19 not connected": as of the plan value
 unfoldable pub readRefusal : List ℕ → ℕ

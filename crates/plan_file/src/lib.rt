@@ -7,7 +7,7 @@ ghost use lib.ListN.{length};
 ghost use lib.Seq.{sets};
 ghost use Rattle.base.specs.Limits.{maxLinks};
 ghost use Rattle.plan.specs.Links.{linksOf};
-ghost use Rattle.plan_file.specs.Layout.{number, decode, encode, blank};
+ghost use Rattle.plan_file.specs.Layout.{numberAt, decode, encode, blank};
 ghost use Rattle.plan_file.specs.laws.Head.{HeadOk};
 ghost use Rattle.plan_file.specs.Reading.{headRefusal, readRefusal, readPlan, Loaded};
 ghost use Rattle.plan_file.specs.Writing.{size, writePlan};
@@ -19,9 +19,9 @@ pub struct Outcome {
 }
 
 // The integer number i after the version byte.
-fn number(s: &[u8], i: usize) -> u16
+fn number_at(s: &[u8], i: usize) -> u16
     requires { ⌜ 2 + 2 * i < length (now s) ⌝ }
-    ensures { λ r. ⌜ r ≡ number (now (s .entry)) i ⌝ }
+    ensures { λ r. ⌜ r ≡ numberAt (now (s .entry)) i ⌝ }
 {
     format_int16::at(s, 1 + 2 * i)
 }
@@ -36,15 +36,15 @@ fn head_check(s: &[u8]) -> u32
     if s[0] != 1 {
         return 12;
     }
-    let len = number(s, 0) as usize;
+    let len = number_at(s, 0) as usize;
     if len != s.len() - 3 {
         return 13;
     }
     if len < 4 {
         return 13;
     }
-    let l = number(s, 2);
-    plan_check::counts_check(number(s, 1), l, len == 4 + 8 * (l as usize))
+    let l = number_at(s, 2);
+    plan_check::counts_check(number_at(s, 1), l, len == 4 + 8 * (l as usize))
 }
 
 // Reads the numbers after the length into a plan of zeros.
@@ -52,10 +52,10 @@ fn fill(s: &[u8], plan: &mut Plan)
     requires { ⌜ HeadOk (now s) × (now plan ≡ blank) ⌝ }
     ensures { λ _. ⌜ now (plan .exit) ≡ decode (now (s .entry)) ⌝ }
 {
-    let end = 2 + 4 * (number(s, 2) as usize);
+    let end = 2 + 4 * (number_at(s, 2) as usize);
     let mut i: usize = 0;
     while i < end {
-        plan[i] = number(s, i + 1);
+        plan[i] = number_at(s, i + 1);
         i += 1;
     }
 }

@@ -16,19 +16,19 @@ use Rattle.graph.specs.Graph.{Graph}
 use Rattle.graph.specs.Labels.{rename}
 use Rattle.plan_tree.specs.laws.Forest.{Ends, Forest, Joined, joined-coarser, joined-inside, joined-range, joined-forest, grows-then}
 use Rattle.plan_tree.specs.laws.Phase.{Leaves, First, first-pick, first-some, apart, apart-none, apart-some, apart-falls}
-use Rattle.plan_tree.specs.Lent.{at, Parts, Takes, TakesTo, Phased}
+use Rattle.plan_tree.specs.Lent.{at, LabelsFit, Takes, TakesTo, Phased}
 
 -- each node a part of its own
 pub own-label : (s : List ℕ) → s ≡ tabulate maxModules (λ v. v) → (v : ℕ) → v < maxModules → at s v ≡ v
 own-label s e v l = rw e (getD-tabulate maxModules (λ i. i) v l)
 
-pub own-parts : (s : List ℕ) → s ≡ tabulate maxModules (λ v. v) → Parts s
+pub own-parts : (s : List ℕ) → s ≡ tabulate maxModules (λ v. v) → LabelsFit s
 own-parts s e = record { size = rw e (length-tabulate maxModules (λ i. i)); range = λ v l. omega (arith, own-label s e v l) }
 
 -- edge k, of ends u and v: the labels are renamed, the byte is set
-pub joined : (g : Graph) (label label′ out : List ℕ) (u v k : ℕ) → u ≡ g.lo k → v ≡ g.hi k → k < length out
+pub set-joined : (g : Graph) (label label′ out : List ℕ) (u v k : ℕ) → u ≡ g.lo k → v ≡ g.hi k → k < length out
     → label′ ≡ tabulate maxModules (λ w. rename (at label u) (at label v) (at label w)) → Joined g k (at label) (at out) (at label′) (at (set out k 1))
-joined g label label′ out u v k p q l e = record {
+set-joined g label label′ out u v k p q l e = record {
   labels = λ w lw. rw (← p, ← q, e) (getD-tabulate maxModules (λ i. rename (at label u) (at label v) (at label i)) w lw);
   marked = getD-set-same out k 1 0 l;
   others = λ j n. getD-set-other out k j 1 0 (λ e. n (sym e));
@@ -38,7 +38,7 @@ joined g label label′ out u v k p q l e = record {
 pub not-none : {k l : ℕ} → k ≢ none → (k ≡ none) ⊎ (k < l) → k < l
 not-none n s = ⊎-elim (λ e. absurd (n e)) (λ h. h) s
 
-pub takes : (g : Graph) (k : ℕ) (label out label′ out′ : List ℕ) → k ≢ none → k < g.L → Ends g → Parts label → length label′ ≡ maxModules
+pub takes : (g : Graph) (k : ℕ) (label out label′ out′ : List ℕ) → k ≢ none → k < g.L → Ends g → LabelsFit label → length label′ ≡ maxModules
     → Joined g k (at label) (at out) (at label′) (at out′) → Takes g k label out label′ out′
 takes g k label out label′ out′ n l ends parts size j = record {
   parts = record { size = size; range = joined-range j (ends k l .1) (parts.range) };
@@ -58,7 +58,7 @@ takes-next g best label₀ out₀ label out label′ out′ a ends bounds l befo
 }
 
 -- THE WHOLE PHASE: the picks are the earliest edges that leave the parts
-pub phased : (g : Graph) (earlier : ℕ → ℕ → Bool) (best label out label′ out′ : List ℕ) (r : ℕ) → g.L ≤ maxLinks → Ends g → Parts label
+pub phased : (g : Graph) (earlier : ℕ → ℕ → Bool) (best label out label′ out′ : List ℕ) (r : ℕ) → g.L ≤ maxLinks → Ends g → LabelsFit label
     → Forest g earlier (at label) (at out) → r ≡ apart g (at label) → ((a : ℕ) → a < maxModules → First (Leaves g (at label) a) earlier (g.L) (at best a))
     → TakesTo maxModules g best label out label′ out′ → Phased g earlier label label′ out′ r
 phased g earlier best label out label′ out′ r few ends parts f e firsts t = record {

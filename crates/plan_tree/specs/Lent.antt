@@ -17,7 +17,7 @@ abbrev pub at : List ℕ → ℕ → ℕ
 at l k = getD l k 0
 
 -- a label for each node, each the number of a node
-pub record Parts (label : List ℕ) : Type 0 where
+pub record LabelsFit (label : List ℕ) : Type 0 where
   pub size : length label ≡ maxModules
   pub range : (v : ℕ) → v < maxModules → at label v < maxModules
 
@@ -26,23 +26,23 @@ pub record Fit (p : Plan) (label out : List ℕ) : Type 0 where
   pub few : linksOf p ≤ maxLinks
   pub ends : Ends (graphOf p)
   pub size : length out ≡ linksOf p
-  pub parts : Parts label
+  pub parts : LabelsFit label
 
 -- the pick k is joined, if it is not none
 pub record Takes (g : Graph) (k : ℕ) (label out label′ out′ : List ℕ) : Type 0 where
-  pub parts : Parts label′
+  pub parts : LabelsFit label′
   pub grows : Grows g (λ earlier. Pick g earlier k) (at label) (at out) (at label′) (at out′)
   pub closes : k ≢ none → Inside g (at label′) k
 
 -- the picks of the parts below n are joined
 pub record TakesTo (n : ℕ) (g : Graph) (best label out label′ out′ : List ℕ) : Type 0 where
-  pub parts : Parts label′
+  pub parts : LabelsFit label′
   pub grows : Grows g (λ earlier. (a : ℕ) → a < maxModules → Pick g earlier (at best a)) (at label) (at out) (at label′) (at out′)
   pub closes : (a : ℕ) → a < n → at best a ≢ none → Inside g (at label′) (at best a)
 
 -- one phase, which found r edges between different parts
 pub record Phased (g : Graph) (earlier : ℕ → ℕ → Bool) (label label′ out′ : List ℕ) (r : ℕ) : Type 0 where
-  pub parts : Parts label′
+  pub parts : LabelsFit label′
   pub forest : Forest g earlier (at label′) (at out′)
   pub over : r ≡ 0 → (k : ℕ) → k < g.L → Inside g (at label′) k
   pub fewer : r ≢ 0 → apart g (at label′) < apart g (at label)

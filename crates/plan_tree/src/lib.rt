@@ -15,7 +15,7 @@ ghost use Rattle.plan.specs.Weights.{earlier};
 ghost use Rattle.plan_tree.specs.Tree.{centralTree};
 ghost use Rattle.plan_tree.specs.laws.Forest.{Joined, Forest, Exact, Ends};
 ghost use Rattle.plan_tree.specs.laws.Phase.{sooner, apartAt, apart};
-ghost use Rattle.plan_tree.specs.Lent.{at, Parts, Fit, Takes, TakesTo, Firsts, Phased};
+ghost use Rattle.plan_tree.specs.Lent.{at, LabelsFit, Fit, Takes, TakesTo, Firsts, Phased};
 
 // For each part the edge to join by, or none.
 type Picks = [u16; LABELS];
@@ -49,7 +49,7 @@ fn offer(plan: &Plan, best: &mut Picks, a: usize, k: u16)
 
 // Edge k is offered to the parts of its ends, if they differ. Answers 1 if they do, else 0.
 fn scan_edge(plan: &Plan, label: &PartLabels, best: &mut Picks, k: usize) -> u16
-    requires { ⌜ (k < maxLinks) × (lowerOf (now plan) k < maxModules) × (higherOf (now plan) k < maxModules) × Parts (now label)
+    requires { ⌜ (k < maxLinks) × (lowerOf (now plan) k < maxModules) × (higherOf (now plan) k < maxModules) × LabelsFit (now label)
         × Firsts (now plan) (now label) k (now best) ⌝ }
     ensures { λ r. ⌜ (r ≡ apartAt (graphOf (now (plan .entry))) (at (now (label .entry))) k)
         × Firsts (now (plan .entry)) (now (label .entry)) (k + 1) (now (best .exit)) ⌝ }
@@ -67,7 +67,7 @@ fn scan_edge(plan: &Plan, label: &PartLabels, best: &mut Picks, k: usize) -> u16
 
 // The earliest edge that leaves each part, into best. Answers how many edges join different parts.
 fn scan(plan: &Plan, label: &PartLabels, best: &mut Picks) -> u16
-    requires { ⌜ (linksOf (now plan) ≤ maxLinks) × Ends (graphOf (now plan)) × Parts (now label) × Firsts (now plan) (now label) 0 (now best) ⌝ }
+    requires { ⌜ (linksOf (now plan) ≤ maxLinks) × Ends (graphOf (now plan)) × LabelsFit (now label) × Firsts (now plan) (now label) 0 (now best) ⌝ }
     ensures { λ r. ⌜ (r ≡ apart (graphOf (now (plan .entry))) (at (now (label .entry))))
         × Firsts (now (plan .entry)) (now (label .entry)) (linksOf (now (plan .entry))) (now (best .exit)) ⌝ }
 {

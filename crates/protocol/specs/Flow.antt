@@ -5,7 +5,7 @@ use mathlib.Core.List.{List}
 use Rattle.format_message.specs.Msg.{Msg}
 use Rattle.protocol.specs.Network.{Network}
 use Rattle.protocol.specs.State.{ProtocolState, set-te, set-mark, set-ch, set-ot, set-op}
-use Rattle.protocol.specs.Fragments.{Ranges, Cores, Sleepers, Marks, Inbounds}
+use Rattle.protocol.specs.Fragments.{Ranges, Cores, Sleepers, MarksOk, Inbounds}
 use Rattle.protocol.specs.Decisions.{Halves, ChangeRoots, Rootings, Finishes}
 use Rattle.protocol.specs.Search.{Kids, Pending, Tests}
 use Rattle.protocol.specs.Traffic.{Hush, Tokens, Connects, Initiates, Telling, Testing, Answers, Reports, Owing, Bests, Ordered}
@@ -26,7 +26,7 @@ pub record MarkClauses (p : Network) (s : ProtocolState) (m : ℕ → ℕ → �
   pub W0 : Ranges s.st s.halt s.due s.dk m
   pub G5 : Cores p s.fr s.gl s.gc m
   pub G6 : Sleepers p s.st s.fr s.gl s.dk s.due s.bw s.be s.ub s.halt m
-  pub M1 : Marks p s.fr m
+  pub M1 : MarksOk p s.fr m
   pub U1 : Inbounds p s.ub s.ib m
   pub D1 : Halves p s.dk s.dn s.de s.fr s.gl s.lev s.ub m
   pub D2 : ChangeRoots p s.dk s.dn s.de s.fr s.gl s.gc s.lev s.ib s.ub s.bw m

@@ -66,7 +66,7 @@ pub record Sleepers (p : Network) (st fr gl dk due bw be ub halt : ℕ → ℕ) 
   pub g7n : (v : ℕ) → st v ≢ 0 → gl (fr v) ≡ 0 → ((k u : ℕ) → Edge p k v u → ⊥) → (dk (fr v) ≡ 4) × (halt v ≡ 1)
 
 -- M1, M3 to M5: marks and fragments
-pub record Marks (p : Network) (fr : ℕ → ℕ) (mark : ℕ → ℕ → ℕ) : Type 0 where
+pub record MarksOk (p : Network) (fr : ℕ → ℕ) (mark : ℕ → ℕ → ℕ) : Type 0 where
   -- only own edges are marked
   pub own : (v k : ℕ) → mark v k ≢ 0 → (u : ℕ) × Edge p k v u
   -- Rejected: inside the fragment, and not Branch at the other end

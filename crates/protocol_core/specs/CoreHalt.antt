@@ -6,7 +6,7 @@ use Rattle.protocol.specs.Prelude.{isR, In, else-same, pop-in, pop-bef, none-in
 use Rattle.protocol.specs.Prelude.{GL, GC, DK, Inf, CoreEnds, Spent, Inv, joined-level, decided-find, decided-report, no-root}
 use Rattle.protocol_core.specs.Late.{late-report}
 use Rattle.protocol_core.specs.Core as C
-use Rattle.protocol_core.specs.Rule.{Done, Ruling, inv-rule}
+use Rattle.protocol_core.specs.Rule.{FragmentDone, Ruling, inv-rule}
 
 -- the fragment of the core end v is finished, or about to be; u is the other end, c′ are the channels, S′ the state afterwards
 record Ending (p : Network) (s : ProtocolState) (u v k : ℕ) (c′ : ℕ → ℕ → List Msg) (S′ : ProtocolState) : Type 0 where
@@ -134,7 +134,7 @@ module _ {p : Network} {s : ProtocolState} (i : Inv p s) {u v k w : ℕ} {r : Li
   own-off : c′ v k ≡ s.ch v k
   own-off = else-same s.ch u k r v k (inl (λ z. v≢u (sym z)))
 
-  done : Done p s v S′.halt c′
+  done : FragmentDone p s v S′.halt c′
   done = record {
     tight = ending .tight;
     nothing = λ j x y e f g. at-end (λ j x y. Inf s x × (s.bw x ≡ none)) j x y e f g (ending .end-u) (ending .end-v);

@@ -16,7 +16,7 @@ abbrev pub ruled : ProtocolState → ℕ → ℕ → ℕ → List Msg → ℕ �
 ruled s u v k r d dn halt oo = set-oo (set-halt (set-dn (set-dk (pop s u k r) (upd s.dk (s.fr v) d)) dn) halt) oo
 
 -- v's fragment is finished; c′ are the channels
-pub record Done (p : Network) (s : ProtocolState) (v : ℕ) (halt : ℕ → ℕ) (c′ : ℕ → ℕ → List Msg) : Type 0 where
+pub record FragmentDone (p : Network) (s : ProtocolState) (v : ℕ) (halt : ℕ → ℕ) (c′ : ℕ → ℕ → List Msg) : Type 0 where
   -- nothing is Basic in it, its core ends found nothing
   pub tight : (j x y : ℕ) → Edge p j x y → s.fr x ≡ s.fr v → s.mark x j ≢ 0
   pub nothing : (j x y : ℕ) → Edge p j x y → s.fr x ≡ s.fr v → GC s x ≡ j → Inf s x × (s.bw x ≡ none)
@@ -37,7 +37,7 @@ pub record Ruling (p : Network) (s : ProtocolState) (u v k : ℕ) (r : List Msg)
   pub halt-off : (x : ℕ) → s.fr v ≢ s.fr x → halt x ≡ s.halt x
   pub halt-le : (x : ℕ) → halt x ≤ 1
   -- the new decision
-  pub verdict : ((d ≡ 1) × ((x : ℕ) → s.fr x ≡ s.fr v → halt x ≡ 0)) ⊎ ((d ≡ 4) × Done p s v halt (upd2 s.ch u k r))
+  pub verdict : ((d ≡ 1) × ((x : ℕ) → s.fr x ≡ s.fr v → halt x ≡ 0)) ⊎ ((d ≡ 4) × FragmentDone p s v halt (upd2 s.ch u k r))
   pub rootings : Rootings p (upd s.dk (s.fr v) d) dn s.fr s.gl s.lev s.ib s.ub s.bw s.mark oo
   pub no-report : (j x y : ℕ) → Edge p j x y → Root (ruled s u v k r d dn halt oo) x → s.ib x ≡ j → sumL isR (upd2 s.ch u k r y j) ≡ 0
   -- no Change-root is left in it, and every Report in it is spent
@@ -133,13 +133,13 @@ module _ {p : Network} {s : ProtocolState} (i : Inv p s) {u v k d : ℕ} {m : Ms
   }
 
   -- what is finished: v's fragment, or one that was
-  finished {κ} : {C : Type κ} (x : ℕ) → DK S′ x ≡ 4 → (s.fr x ≡ s.fr v → Done p s v halt c′ → C) → (s.fr v ≢ s.fr x → DK s x ≡ 4 → C) → C
+  finished {κ} : {C : Type κ} (x : ℕ) → DK S′ x ≡ 4 → (s.fr x ≡ s.fr v → FragmentDone p s v halt c′ → C) → (s.fr v ≢ s.fr x → DK s x ≡ 4 → C) → C
   finished x z y n = by-eq (s.fr v) (s.fr x)
       (λ e. ⊎-elim (λ t. absurd (omega (arith, t .0, dk-in x e))) (λ t. y (sym e) (t .1)) (h.verdict))
       (λ e. n e (sym (dk-off x e) ∙ z))
 
   -- who has halted: of v's fragment, or one who had
-  halting {κ} : {C : Type κ} (x : ℕ) → halt x ≢ 0 → (s.fr v ≡ s.fr x → d ≡ 4 → Done p s v halt c′ → C) → (s.fr v ≢ s.fr x → s.halt x ≢ 0 → C) → C
+  halting {κ} : {C : Type κ} (x : ℕ) → halt x ≢ 0 → (s.fr v ≡ s.fr x → d ≡ 4 → FragmentDone p s v halt c′ → C) → (s.fr v ≢ s.fr x → s.halt x ≢ 0 → C) → C
   halting x z y n = by-eq (s.fr v) (s.fr x)
       (λ e. ⊎-elim (λ t. absurd (z (t .1 x (sym e)))) (λ t. y e (t .0) (t .1)) (h.verdict))
       (λ e. n e (λ o. z (h.halt-off x e ∙ o)))

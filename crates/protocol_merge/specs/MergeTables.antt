@@ -4,7 +4,7 @@ use Rattle.protocol.specs.Prelude.{upd, upd-elim, upd2-elim, at2, relabel-cases
 use Rattle.protocol.specs.Prelude.{Network, Edge, Tree, key, rank, Way, go, join, both-joined, joins-lt, flip, same-edge, other-end, end-lt, ProtocolState}
 use Rattle.protocol.specs.Prelude.{Both, Decision, GL, GC, DK, Half, waits-find}
 use Rattle.graph.specs.laws.Size.{partSize, size-mono, level-merge}
-use Rattle.protocol.specs.Fragments.{Ranges, Levels, Sizes, Cores, Sleepers, Marks, Inbounds}
+use Rattle.protocol.specs.Fragments.{Ranges, Levels, Sizes, Cores, Sleepers, MarksOk, Inbounds}
 use Rattle.protocol.specs.Decisions.{Halves, ChangeRoots, Rootings, Finishes}
 use Rattle.protocol.specs.Search.{Parents, LowOk, Kids, Finds, Tests, Weights}
 use Rattle.protocol_merge.specs.Move as M
@@ -102,7 +102,7 @@ module _ {p : Network} {s : ProtocolState} {v k y l : ℕ} (r : MergeReady p s v
 
   -- ---- marks, inbound edges
 
-  pub M1-merge : Marks p S′.fr S′.mark
+  pub M1-merge : MarksOk p S′.fr S′.mark
   M1-merge = record {
     own = M.own (r.inv) (r.turn) (U.mv r);
     m1 = λ j w u e z. let a = M.beyond-move (r.inv) (r.turn) (U.mv r) j w u e z in (U.keep-merge r w u (a .0), a .1);

@@ -6,7 +6,7 @@ use Rattle.protocol.specs.Prelude.{Msg, connect, report, change}
 use Rattle.protocol.specs.Prelude.{Network, Edge, Tree, flip, ProtocolState, set-st, set-oo, set-ub, sendOver, remarked, decided}
 use Rattle.protocol.specs.Prelude.{isC, isI, isT, isA, isR, isK, Only, In, snoc, snoc-in, snoc-all}
 use Rattle.protocol.specs.Prelude.{Both, Decision, GL, DK, Inf, Jn, Outst, Counting, CoreEnds, Spent, Inv, joined-level}
-use Rattle.protocol.specs.Fragments.{Ranges, Cores, Sleepers, Marks, Inbounds}
+use Rattle.protocol.specs.Fragments.{Ranges, Cores, Sleepers, MarksOk, Inbounds}
 use Rattle.protocol.specs.Decisions.{HalfOk, Halves, ChangingOk, ChangeRoots, Rootings, Finishes}
 use Rattle.protocol.specs.Search.{Parents, Kids, Finds, Tests}
 use Rattle.protocol.specs.Traffic.{Tokens, Connects, Initiates, Telling, Testing, Answers, Reports, Owing, Bests}
@@ -176,7 +176,7 @@ module _ {p : Network} {s : ProtocolState} (i : Inv p s) {v y k d : ℕ} {m : Ms
       single : GL s v ≡ 0 → d ≡ 3
       single g = o.half (λ z. ⊎-elim (λ a. omega (arith, joined-level i k v y (h.ends) (a, z))) (λ n. n z) (o.joins))
 
-  M1′ : Marks p s.fr S′.mark
+  M1′ : MarksOk p s.fr S′.mark
   M1′ = record {
     own = M.own i t h;
     m1 = M.beyond-move i t h;

@@ -2,7 +2,7 @@
 use Rattle.protocol.specs.Prelude.{ℕ, _≤_, arith, _≡_, refl, sym, ap, subst, _∙_, _≢_, _⊎_, inl, inr, ⊎-elim}
 use Rattle.protocol.specs.Prelude.{upd2, upd2-elim, by-eq, Network, Edge, key, rank, flip, other-end, wider, ProtocolState, Strike, set-mark, set-ch, set-ot, List, Msg}
 use Rattle.protocol.specs.Prelude.{Both, Bounding, Inv, Flow, inv-search, init-ok, at2}
-use Rattle.protocol.specs.Fragments.{Ranges, Cores, Sleepers, Marks, Inbounds}
+use Rattle.protocol.specs.Fragments.{Ranges, Cores, Sleepers, MarksOk, Inbounds}
 use Rattle.protocol.specs.Decisions.{Halves, ChangeRoots, Rootings, Finishes}
 use Rattle.protocol.specs.Search.{Kids, Pending, Tests}
 use Rattle.protocol.specs.Traffic.{Connects, Initiates, Telling, Testing, Answers, Reports, Owing, Bests}
@@ -118,7 +118,7 @@ module _ {p : Network} {s : ProtocolState} (i : Inv p s) {u v k c : ℕ} (ends :
     g7n = i.G6.g7n;
   }
 
-  marks-strike : Marks p s.fr m′
+  marks-strike : MarksOk p s.fr m′
   marks-strike = record {
     own = λ w j n. upd2-elim (λ x. x ≢ 0 → (y : ℕ) × Edge p j w y) s.mark v k c w j
         (λ a b m. (u, subst (λ x. Edge p j x u) a (subst (λ x. Edge p x v u) b ends))) (λ d m. i.M1.own w j m) n;

@@ -7,7 +7,7 @@ use Rattle.protocol.specs.Prelude.{bulk-elim, sum-row, row-else, both-joined}
 use Rattle.protocol.specs.Prelude.{at2}
 use Rattle.protocol.specs.Prelude.{Both, JoinedEdge, members, GL, Inv}
 use Rattle.protocol.specs.Prelude.{waits-find, no-waits}
-use Rattle.protocol.specs.Fragments.{Ranges, Levels, Sizes, Cores, Sleepers, Marks, Inbounds}
+use Rattle.protocol.specs.Fragments.{Ranges, Levels, Sizes, Cores, Sleepers, MarksOk, Inbounds}
 use Rattle.protocol.specs.Decisions.{Halves, ChangeRoots, Rootings, Finishes}
 use Rattle.protocol.specs.Search.{Parents, Kids, Finds, Pending, FindCounts, Tests, Weights}
 use Rattle.protocol_tell.specs.Sunk.{Absorbs}
@@ -74,7 +74,7 @@ module _ {p : Network} {s : ProtocolState} (i : Inv p s) {u v k l x : ℕ} {r : 
         (λ n. subst (λ b. s.gl b ≡ 0 → ((j y : ℕ) → Edge p j w y → ⊥) → (s.dk b ≡ 4) × (s.halt w ≡ 1)) (sym (F.fr-out-absorb i act w n)) (i.G6.g7n w a));
   }
 
-  pub M1-absorb : Marks p S′.fr S′.mark
+  pub M1-absorb : MarksOk p S′.fr S′.mark
   M1-absorb = record {
     own = λ w j. upd2-elim (λ y. y ≢ 0 → (z : ℕ) × Edge p j w z) s.mark v k 1 w j
         (λ a b n. (u, subst (λ y. Edge p y w u) b (subst (λ y. Edge p k y u) a (flip act.ends)))) (λ m n. i.M1.own w j n);

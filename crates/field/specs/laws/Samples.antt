@@ -54,20 +54,20 @@ abbrev held : List ℕ → List ℕ → ℕ → ℕ → ℕ → List ℕ → Hel
 held a b m n sent words =
     record { field = record { plan = two; cells = a ++ b; marks = m ∷ n ∷ []; sent = sent }; words = field4.layout 12 words }
 
-pub record Row : Type 0 where
+pub record StepRow : Type 0 where
   pub start : Held
   pub kind : ℕ
   pub number : ℕ
   pub want : After Held
 
-abbrev row : Held → ℕ → ℕ → ℕ → Held → Row
+abbrev row : Held → ℕ → ℕ → ℕ → Held → StepRow
 row h kind number refusal left = record { start = h; kind = kind; number = number; want = record { refusal = refusal; state = left } }
 
 -- refused: what it was given is left
-abbrev no : ℕ → Held → ℕ → ℕ → Row
+abbrev no : ℕ → Held → ℕ → ℕ → StepRow
 no refusal h kind number = row h kind number refusal h
 
-abbrev table : List Row
+abbrev table : List StepRow
 table =
     -- "Serving a Test of level 1 at a sleeper: it wakes, sends Connect, the Test goes to the end."
     row (held searching asleep 0 0 1 (aTest 0 1 ∷ [])) 3 1 0 (held searching woken 0 1 2 (aConnect 1 0 ∷ aTest 0 1 ∷ []))
@@ -97,12 +97,12 @@ table =
     ∷ no 33 (held asleep asleep 0 0 12 []) 1 0
     ∷ []
 
-abbrev gots : List Row → List (After Held)
+abbrev gots : List StepRow → List (After Held)
 gots l = map (λ r. stepAlone (r .kind) (r .number) (r .start)) l
 
-abbrev wants : List Row → List (After Held)
+abbrev wants : List StepRow → List (After Held)
 wants l = map (λ r. r .want) l
 
-pub samples : gots table ≡ wants table
+pub step-samples : gots table ≡ wants table
 unfolding base1.upd base2.place base3.log2-to base3.log2 base5.every graph1.label graph1.joinedOver graph1.connected message1.partsOf message1.msgOf message2.bare message2.listedAs message2.listed plan1.ascends plan1.inOrder plan1.linkVerdict plan1.linksRefusal plan1.planRefusal base7.beforeBy plan2.cost plan2.earlier node1.wakeOn node1.awake node1.doReport node1.testOn node1.changeRoot node1.countUp node1.absorb node1.coreEnd node1.onConnect node1.seek node1.onInitiate node1.onTest node1.childReport node1.coreReport node1.onReport node1.unlessAsleep node1.respondTo node2.earliest node2.number node2.onEach field0.isOwn field0.endOf field0.marksIn field1.newMarks field2.carryOut field2.wake field2.hand field2.backOf field2.serve field2.step field3.allOf field3.waitingIn field3.wordFits field3.nodeFits field3.fits field4.valid field4.freshCells field4.setUp field4.stepAlone
-samples = refl
+step-samples = refl

@@ -71,7 +71,7 @@ pub record Shown : Type 0 where
   pub halted : List ℕ
   pub words : List ℕ
 
-pub record Row : Type 0 where
+pub record CallRow : Type 0 where
   pub start : Held
   pub calls : List Call
   pub want : Shown
@@ -100,7 +100,7 @@ shown cs h =
       words = stateOf l .words;
     }
 
-abbrev row : Held → List Call → List ℕ → List ℕ → List Message → List Message → List ℕ → List ℕ → List ℕ → List ℕ → Row
+abbrev row : Held → List Call → List ℕ → List ℕ → List Message → List Message → List ℕ → List ℕ → List ℕ → List ℕ → CallRow
 row h cs done refused sends consumed woken marks halted words =
     record {
       start = h;
@@ -125,7 +125,7 @@ aMessage link header carried = record { link = link; header = header; carried = 
 abbrev six : List Message
 six = aMessage 0 1 none ∷ aMessage 1 1 none ∷ aMessage 1 74 0 ∷ aMessage 0 74 0 ∷ aMessage 0 6 none ∷ aMessage 1 6 none ∷ []
 
-abbrev table : List Row
+abbrev table : List CallRow
 table =
     -- the reporting program: 6 messages, 4 rounds; both ends Branch, both halted
     row begun (one 1 0 ∷ rounds 20 ∷ []) (1 ∷ 4 ∷ []) (0 ∷ 0 ∷ []) six six (0 ∷ 1 ∷ []) (1 ∷ 1 ∷ []) (1 ∷ 1 ∷ []) []
@@ -139,7 +139,7 @@ table =
     ∷ []
 
 -- "Serving a Test of level 1 at a sleeper: it wakes, sends Connect, the Test goes to the end."
-abbrev sleeper : Row
+abbrev sleeper : CallRow
 sleeper =
     record {
       start = tested;
@@ -157,12 +157,12 @@ sleeper =
       };
     }
 
-abbrev gots : List Row → List Shown
+abbrev gots : List CallRow → List Shown
 gots l = map (λ r. shown (r .calls) (r .start)) l
 
-abbrev wants : List Row → List Shown
+abbrev wants : List CallRow → List Shown
 wants l = map (λ r. r .want) l
 
-pub samples : gots (sleeper ∷ table) ≡ wants (sleeper ∷ table)
+pub call-samples : gots (sleeper ∷ table) ≡ wants (sleeper ∷ table)
 unfolding dones refusals base1.upd base2.place base3.log2-to base3.log2 base4.then base4.loop base4.runs base4.loopTrace base4.runsTrace base5.every graph1.label graph1.joinedOver graph1.connected message1.partsOf message1.msgOf message2.bare message2.listedAs message2.listed plan1.ascends plan1.inOrder plan1.linkVerdict plan1.linksRefusal plan1.planRefusal base7.beforeBy plan2.cost plan2.earlier node1.wakeOn node1.awake node1.doReport node1.testOn node1.changeRoot node1.countUp node1.absorb node1.coreEnd node1.onConnect node1.seek node1.onInitiate node1.onTest node1.childReport node1.coreReport node1.onReport node1.unlessAsleep node1.respondTo node2.earliest node2.number node2.onEach field0.isOwn field0.endOf field0.marksIn field1.newMarks field2.carryOut field2.wake field2.hand field2.backOf field2.serve field2.step field3.allOf field3.waitingIn field3.wordFits field3.nodeFits field3.fits field4.valid field4.freshCells field4.setUp field4.stepAlone calls1.scheduleRefusal base2.many calls2.handTurn calls2.serveTurn calls2.round calls3.runBytes calls3.runRounds calls3.does calls3.after calls3.answers calls4.ifTaken calls4.handTurnSteps calls4.serveTurnSteps calls4.roundSteps calls4.stepsOf calls4.trail flatMap calls4.sendsAt calls4.consumedAt calls4.wakesOne calls4.wokenIn
-samples = refl
+call-samples = refl

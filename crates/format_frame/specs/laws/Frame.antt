@@ -9,7 +9,7 @@ use borrow.Author.Tests.{eq-eqb, ne-eqb, eqb-true, not-false}
 use Rattle.base.specs.laws.Refuse.{fine}
 use Rattle.format_int16.specs.Int16.{at16}
 use Rattle.format_message.specs.Listed.{listed}
-use Rattle.format_frame.specs.Frame.{frameBytes, frameRefusal, frameRead, writeRefusal, frameWritten}
+use Rattle.format_frame.specs.Frame.{frameBytes, frameRefusal, frameRead, frameWriteRefusal, frameWritten}
 use Rattle.format_frame.specs.laws.Six.{six}
 
 -- the refusal, test by test
@@ -38,15 +38,15 @@ module _ (s : List ℕ) where
         taken e = simp (eq-eqb (length s) 6 p, eq-eqb (getD s 0 0) 1 v, eq-eqb (at16 s 1) 3 l, e)
 
 -- what a taken frame is
-pub record Taken (s : List ℕ) : Type 0 where
+pub record FrameOk (s : List ℕ) : Type 0 where
   pub size : length s ≡ 6
   pub version : getD s 0 0 ≡ 1
   pub rest : at16 s 1 ≡ 3
   pub holds : listed (getD s 3 0) (at16 s 4) ≡ true
 
-pub accepted : (s : List ℕ) → frameRefusal s ≡ 0 → Taken s
+pub frame-ok : (s : List ℕ) → frameRefusal s ≡ 0 → FrameOk s
 unfolding frameRefusal
-accepted s e =
+frame-ok s e =
     let f61 = fine _ 60 e in
     let f62 = fine _ 61 (f61 .1) in
     let f63 = fine _ 62 (f62 .1) in
@@ -64,23 +64,23 @@ module _ (s : List ℕ) where
   unfolding frameRead
   read-refused n = simp (ne-eqb (frameRefusal s) 0 n)
 
-  pub read-taken : frameRefusal s ≡ 0 → frameRead s ≡ record { refusal = 0; header = getD s 3 0; carried = at16 s 4 }
+  pub frame-read-taken : frameRefusal s ≡ 0 → frameRead s ≡ record { refusal = 0; header = getD s 3 0; carried = at16 s 4 }
   unfolding frameRead
-  read-taken e = simp (eq-eqb (frameRefusal s) 0 e)
+  frame-read-taken e = simp (eq-eqb (frameRefusal s) 0 e)
 
 -- the writer's three answers
 module _ (h c : ℕ) (out : List ℕ) where
   pub write-unlisted : listed h c ≡ false → frameWritten h c out ≡ record { refusal = 63; state = out }
-  unfolding frameWritten writeRefusal
+  unfolding frameWritten frameWriteRefusal
   write-unlisted e = simp e
 
   module _ (l : listed h c ≡ true) where
     pub write-short : (length out ≡ 6 → ⊥) → frameWritten h c out ≡ record { refusal = 64; state = out }
-    unfolding frameWritten writeRefusal
+    unfolding frameWritten frameWriteRefusal
     write-short n = simp (l, ne-eqb (length out) 6 n)
 
     pub write-done : length out ≡ 6 → frameWritten h c out ≡ record { refusal = 0; state = frameBytes h c }
-    unfolding frameWritten writeRefusal
+    unfolding frameWritten frameWriteRefusal
     write-done p = simp (l, eq-eqb (length out) 6 p)
 
 -- six bytes, overwritten one after the other

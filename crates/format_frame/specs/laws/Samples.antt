@@ -9,11 +9,11 @@ use Rattle.format_message.specs.Header.{partsOf, headerOf, carriedOf}
 use Rattle.format_message.specs.Listed.{bare, listedAs, listed}
 use Rattle.format_frame.specs.Frame.{frameBytes, frameRefusal}
 
-pub data Row : Type 0 where
+pub data FrameRow : Type 0 where
   -- a message and its frame
-  says : Msg → List ℕ → Row
+  says : Msg → List ℕ → FrameRow
   -- bytes and what the check answers
-  answers : List ℕ → ℕ → Row
+  answers : List ℕ → ℕ → FrameRow
 
 unfoldable pub sameBytes : List ℕ → List ℕ → Bool
 sameBytes [] [] = true
@@ -21,16 +21,16 @@ sameBytes (a ∷ s) (b ∷ t) = eqb a b && sameBytes s t
 sameBytes [] (b ∷ t) = false
 sameBytes (a ∷ s) [] = false
 
-unfoldable pub holds : Row → Bool
-holds (says m s) = sameBytes (frameBytes (headerOf m) (carriedOf m)) s && eqb (frameRefusal s) 0
-holds (answers s r) = eqb (frameRefusal s) r
+unfoldable pub rowHolds : FrameRow → Bool
+rowHolds (says m s) = sameBytes (frameBytes (headerOf m) (carriedOf m)) s && eqb (frameRefusal s) 0
+rowHolds (answers s r) = eqb (frameRefusal s) r
 
-unfoldable pub allHold : List Row → Bool
+unfoldable pub allHold : List FrameRow → Bool
 allHold [] = true
-allHold (r ∷ rs) = holds r && allHold rs
+allHold (r ∷ rs) = rowHolds r && allHold rs
 
-abbrev pub rows : List Row
-rows =
+abbrev pub frameRows : List FrameRow
+frameRows =
     -- * "Initiate, level 2, link 5, Find: frame 01 00 03 52 00 05 (hexadecimal)."
     says (initiate 2 5 1) (0x01 ∷ 0x00 ∷ 0x03 ∷ 0x52 ∷ 0x00 ∷ 0x05 ∷ [])
     -- * "Connect, level 0: 01 00 03 01 FF FF."
@@ -48,6 +48,6 @@ rows =
     ∷ answers (1 ∷ 0 ∷ 3 ∷ 11 ∷ 2 ∷ 88 ∷ []) 63
     ∷ []
 
-pub all-hold : allHold rows ≡ true
-unfolding holds sameBytes frameRefusal listed listedAs bare partsOf allHold
+pub all-hold : allHold frameRows ≡ true
+unfolding rowHolds sameBytes frameRefusal listed listedAs bare partsOf allHold
 all-hold = refl

@@ -3,8 +3,8 @@ use Prim.Native.Nat.{ℕ, _+_, _*_, _/_, _%_, _<_}
 use mathlib.Core.Path.{_≡_}
 use native.Mathlib.Omega.{arith}
 
-pub joined : (x : ℕ) → x / 256 * 256 + x % 256 ≡ x
-joined x = omega arith
+pub bytes-join : (x : ℕ) → x / 256 * 256 + x % 256 ≡ x
+bytes-join x = omega arith
 
 -- two bytes, of which the low one is a byte, are those of the integer they make
 pub high-byte : (a b : ℕ) → b < 256 → (a * 256 + b) / 256 ≡ a

@@ -1,7 +1,7 @@
 -- The parts lie apart, so that each `|` is a sum.
 use mathlib.Core.Path.{sym, _∙_}
 use borrow.Author.Needs.{needs}
-use Rattle.format_message.specs.laws.Byte.{joined, from-fits, from-kind, from-level, from-find}
+use Rattle.format_message.specs.laws.Byte.{or-header, from-fits, from-kind, from-level, from-find}
 use Rattle.format_message.proofs.header.Statement.{statement}
 use Rattle.format_message.proofs.header.Tie as tie
 
@@ -19,7 +19,7 @@ returns-4 c =
     let l = c .before in
     let k = l .before in
     let a = k .before .args in
-    joined (a .kind) (a .level) (a .find) (k .if1 .left) (l .if2 .left) (c .if3 .left)
+    or-header (a .kind) (a .level) (a .find) (k .if1 .left) (l .if2 .left) (c .if3 .left)
     ∙ sym (from-fits (a .kind) (a .level) (a .find) (k .if1 .left) (l .if2 .left) (c .if3 .left))
 
 pub header-spec : {M : Type 1} → statement M

@@ -36,8 +36,8 @@ module _ (k l f : ℕ) (pk : k < 8) (pl : l < 8) (pf : f < 2) where
   parts-of-byte = (omega arith, omega arith, omega arith)
 
   -- put together by shifts, from the low bits up
-  pub joined : bitOr (bitOr k (l * 2 ^ 3 % 2 ^ 8)) (f * 2 ^ 6 % 2 ^ 8) ≡ headerByte k l f
-  joined =
+  pub or-header : bitOr (bitOr k (l * 2 ^ 3 % 2 ^ 8)) (f * 2 ^ 6 % 2 ^ 8) ≡ headerByte k l f
+  or-header =
       let low : l * 2 ^ 3 + k < 2 ^ 6 = omega arith in
       let a : l * 2 ^ 3 % 2 ^ 8 ≡ l * 2 ^ 3 = omega arith in
       let b : f * 2 ^ 6 % 2 ^ 8 ≡ f * 2 ^ 6 = omega arith in

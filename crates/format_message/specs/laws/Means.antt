@@ -95,15 +95,15 @@ module _ (l c f : ℕ) where
       pk
 
 -- every message is told by its parts
-pub told : (m : Msg) → msgOf (partsOf m .kind) (partsOf m .level) (partsOf m .carried) (partsOf m .find) ≡ m
+pub msg-of-parts : (m : Msg) → msgOf (partsOf m .kind) (partsOf m .level) (partsOf m .carried) (partsOf m .find) ≡ m
 unfolding msgOf partsOf
-told (connect l) = refl
-told (initiate l i f) = refl
-told (test l i) = refl
-told accept = refl
-told reject = refl
-told (report w) = refl
-told change = refl
+msg-of-parts (connect l) = refl
+msg-of-parts (initiate l i f) = refl
+msg-of-parts (test l i) = refl
+msg-of-parts accept = refl
+msg-of-parts reject = refl
+msg-of-parts (report w) = refl
+msg-of-parts change = refl
 
 -- the parts of a listed message fit the bits they have
 pub record InBits (p : Parts) : Type 0 where
@@ -168,7 +168,7 @@ has-listed m h = let q = header-parts m h in simp (lt-ltb _ 128 (header-lt m h),
 
 -- .. and is the only one that has them
 pub means-back : (m : Msg) → Listed m → meant (headerOf m) (carriedOf m) ≡ m
-means-back m h = let q = header-parts m h in rw (q .0, q .1, q .2) (told m)
+means-back m h = let q = header-parts m h in rw (q .0, q .1, q .2) (msg-of-parts m)
 
 pub means-one : {h c : ℕ} {m : Msg} → Means h c m → m ≡ meant h c
 means-one {h} {c} {m} x = sym (means-back m (x .fits)) ∙ ap₂ meant (x .header) (x .carried)

@@ -27,9 +27,9 @@ pub unpacked : (h c d b : ℕ) → h < 256 → c < 65536 → d < 65536 → b < 2
 unpacked h c d b ph pc pd pb = record { header = omega arith; carried = omega arith; link = omega arith; handed = omega arith; shape = omega arith }
 
 -- packed by shifts, from the low bits up: the parts lie apart, so that each `|` is a sum
-pub joined : (h c d : ℕ) → h < 256 → c < 65536 → d < 65536
+pub or-packed : (h c d : ℕ) → h < 256 → c < 65536 → d < 65536
     → bitOr (bitOr (bitOr h (c * 2 ^ 8 % 2 ^ 64)) (d * 2 ^ 24 % 2 ^ 64)) (2 ^ 41) ≡ packed h c d 0
-joined h c d ph pc pd =
+or-packed h c d ph pc pd =
     let low : c * 2 ^ 8 + h < 2 ^ 24 = omega arith in
     let all : d * 2 ^ 24 + (c * 2 ^ 8 + h) < 2 ^ 41 = omega arith in
     let ec : c * 2 ^ 8 % 2 ^ 64 ≡ c * 2 ^ 8 = omega arith in

@@ -20,9 +20,9 @@ use Rattle.host_reader.specs.declared.Schedule.{Schedule}
 use Rattle.host_reader.specs.Reader.{leftFrom, opened, leftOf, readOf}
 
 -- the reader after n reads
-unfoldable pub after : ℕ → Schedule → Schedule
-after zero s = s
-after (suc n) s = readOf (after n s) .reader
+unfoldable pub afterReads : ℕ → Schedule → Schedule
+afterReads zero s = s
+afterReads (suc n) s = readOf (afterReads n s) .reader
 
 -- what n reads give
 unfoldable pub reads : ℕ → Schedule → List Step
@@ -56,13 +56,13 @@ module _ (bytes : RefT (List ℕ)) where
   read-on i l = simp (more i l, add-one)
 
   -- after n reads it is at place n
-  pub after-at : (n : ℕ) → n ≤ stepsIn (now bytes) → after n (opened bytes) ≡ at n
-  unfolding after
+  pub after-at : (n : ℕ) → n ≤ stepsIn (now bytes) → afterReads n (opened bytes) ≡ at n
+  unfolding afterReads
   after-at zero l = refl
   after-at (suc n) l = rw (after-at n (omega arith)) (read-on n l)
 
   -- read i gives step i
-  pub read-nth : (i : ℕ) → i < stepsIn (now bytes) → readOf (after i (opened bytes)) .step ≡ stepOf (now bytes) i
+  pub read-nth : (i : ℕ) → i < stepsIn (now bytes) → readOf (afterReads i (opened bytes)) .step ≡ stepOf (now bytes) i
   read-nth i l = rw (after-at i (omega arith)) (read-step i l)
 
   reads-from : (n i : ℕ) → i + n ≤ stepsIn (now bytes) → reads n (at i) ≡ stepsFrom (now bytes) i n
@@ -78,11 +78,11 @@ module _ (bytes : RefT (List ℕ)) where
   reads-all = rw all-left (reads-from (stepsIn (now bytes)) 0 (omega arith))
 
   -- and then none is left
-  pub none-left : leftOf (after (leftOf (opened bytes)) (opened bytes)) ≡ 0
+  pub none-left : leftOf (afterReads (leftOf (opened bytes)) (opened bytes)) ≡ 0
   none-left = rw (all-left, after-at (stepsIn (now bytes)) (omega arith)) (omega arith)
 
   -- of a schedule that is taken each of these has a listed kind: kind 0 says that none is left
-  pub read-listed : scheduleRefusal (now bytes) ≡ 0 → (i : ℕ) → i < leftOf (opened bytes) → kindListed (readOf (after i (opened bytes)) .step .kind) ≡ true
+  pub read-listed : scheduleRefusal (now bytes) ≡ 0 → (i : ℕ) → i < leftOf (opened bytes) → kindListed (readOf (afterReads i (opened bytes)) .step .kind) ≡ true
   read-listed fine i l = rw (read-nth i (omega arith)) (taken-kinds (now bytes) fine i (omega arith))
 
   -- the run of a schedule is the run of what the reader gives

@@ -7,11 +7,11 @@ use Rattle.base.specs.None.{beforeBy}
 use Rattle.format_message.specs.Msg.{Msg, none, connect, initiate, test, accept, reject, report, change}
 use Rattle.node.specs.Work.{earliest, number, onEach}
 use Rattle.node.specs.Rules.{wakeOn, awake, doReport, testOn, changeRoot, countUp, absorb, coreEnd, onConnect, seek, onInitiate, onTest, childReport, coreReport, onReport, unlessAsleep, respondTo}
-use Rattle.node.specs.laws.Table.{Row, Outcome, gots, wants}
+use Rattle.node.specs.laws.Table.{ResponseRow, ResponseShown, gots, wants}
 
 -- All samples are of one node with the own edges 0, 1 and 3, of weights 7, 5 and 5; edge 2 is not its own; the level limit is 2.
 -- A node is (status, level, identity, weight, best, test, branch, count, halted), a send (edge, kind, level, carried, Find).
-abbrev row : List ℕ → List ℕ → ℕ → Msg → Outcome → Row
+abbrev row : List ℕ → List ℕ → ℕ → Msg → ResponseShown → ResponseRow
 row n marks j m want =
     record {
       own = 1 ∷ 1 ∷ 0 ∷ 1 ∷ [];
@@ -24,13 +24,13 @@ row n marks j m want =
       want = want;
     }
 
-abbrev taken : List ℕ → List ℕ → List (List ℕ) → Outcome
+abbrev taken : List ℕ → List ℕ → List (List ℕ) → ResponseShown
 taken n marks sends = record { answer = 0; node = n; marks = marks; sends = sends }
 
-abbrev back : List ℕ → List ℕ → List (List ℕ) → Outcome
+abbrev back : List ℕ → List ℕ → List (List ℕ) → ResponseShown
 back n marks sends = record { answer = 1; node = n; marks = marks; sends = sends }
 
-abbrev refusal : Outcome
+abbrev refusal : ResponseShown
 refusal = record { answer = 32; node = []; marks = []; sends = [] }
 
 abbrev asleep : List ℕ
@@ -58,10 +58,10 @@ abbrev one : List ℕ
 one = 0 ∷ 1 ∷ 0 ∷ 0 ∷ []
 
 -- * "Serving a Test of level 1 at a sleeper: it wakes, sends Connect, the Test goes to the end." Of the equal edges 1 and 3 the lower number is earlier.
-abbrev pub testAtSleeper : Row
+abbrev pub testAtSleeper : ResponseRow
 testAtSleeper = row asleep basics 0 (test 1 2) (back woken one ((1 ∷ 1 ∷ 0 ∷ none ∷ 0 ∷ []) ∷ []))
 
-abbrev pub table : List Row
+abbrev pub table : List ResponseRow
 table =
     testAtSleeper
     -- a Connect on the edge that the wake chose: both ends are branch, so the next level begins
@@ -98,6 +98,6 @@ table =
     ∷ row woken one 3 reject refusal
     ∷ []
 
-pub samples : gots table ≡ wants table
+pub response-samples : gots table ≡ wants table
 unfolding upd beforeBy earliest number onEach wakeOn awake doReport testOn changeRoot countUp absorb coreEnd onConnect seek onInitiate onTest childReport coreReport onReport unlessAsleep respondTo
-samples = refl
+response-samples = refl

@@ -11,13 +11,13 @@ use Rattle.node.specs.laws.Values.{tabled}
 use Rattle.node.specs.Rules.{respond}
 
 -- what a response gives: answer, the node's values, the marks by edge number, the sends as (edge, kind, level, carried, find)
-pub record Outcome : Type 0 where
+pub record ResponseShown : Type 0 where
   pub answer : ℕ
   pub node : List ℕ
   pub marks : List ℕ
   pub sends : List (List ℕ)
 
-pub record Row : Type 0 where
+pub record ResponseRow : Type 0 where
   -- for each edge number 1 if it is an own edge, and its weight; equal weights go by number
   pub own : List ℕ
   pub weights : List ℕ
@@ -27,7 +27,7 @@ pub record Row : Type 0 where
   pub marks : List ℕ
   pub edge : ℕ
   pub msg : Msg
-  pub want : Outcome
+  pub want : ResponseShown
 
 abbrev pub sampleOwn : List ℕ → List ℕ → Own
 sampleOwn own ws =
@@ -54,21 +54,21 @@ sendsOf [] = []
 sendsOf (s ∷ ss) = (s .edge ∷ numbers (s .msg)) ∷ sendsOf ss
 
 -- of a refused response only its number counts
-abbrev pub outcome : ℕ → Work → Outcome
-outcome n w =
+abbrev pub responseShown : ℕ → Work → ResponseShown
+responseShown n w =
     cond (eqb (w .answer) REFUSED)
     (record { answer = REFUSED; node = []; marks = []; sends = [] })
     (record { answer = w .answer; node = values (w .node); marks = tabled (w .mark) 0 n; sends = sendsOf (w .sends) })
 
-abbrev pub got : Row → Outcome
+abbrev pub got : ResponseRow → ResponseShown
 got r =
-    outcome (length (r .own))
+    responseShown (length (r .own))
     (respond (sampleOwn (r .own) (r .weights)) (r .limit) (r .msg) (r .edge) (nodeOf (r .node)) (λ k. getD (r .marks) k 0))
 
-abbrev pub gots : List Row → List Outcome
+abbrev pub gots : List ResponseRow → List ResponseShown
 gots [] = []
 gots (r ∷ rs) = got r ∷ gots rs
 
-abbrev pub wants : List Row → List Outcome
+abbrev pub wants : List ResponseRow → List ResponseShown
 wants [] = []
 wants (r ∷ rs) = r .want ∷ wants rs

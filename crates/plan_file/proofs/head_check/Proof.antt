@@ -13,13 +13,13 @@ returns-2 c = h-version _ _ _ _ (c .before .before .if1 .left) (c .if2 .taken)
 returns-3 : tie.Need-returns-3
 returns-3 c = let w = c .before in
     let e2 = w .before in
-    h-length _ _ _ _ (e2 .before .before .if1 .left) (e2 .if2 .left) (rw (w .number .ensures) at (c .if3 .taken))
+    h-length _ _ _ _ (e2 .before .before .if1 .left) (e2 .if2 .left) (rw (w .number-at .ensures) at (c .if3 .taken))
 
 returns-4 : tie.Need-returns-4
 returns-4 c = let e3 = c .before in
     let w = e3 .before in
     let e2 = w .before in
-    h-least _ _ _ _ (e2 .before .before .if1 .left) (e2 .if2 .left) (rw (w .number .ensures) at (e3 .if3 .left)) (rw (w .number .ensures) at (c .if4 .taken))
+    h-least _ _ _ _ (e2 .before .before .if1 .left) (e2 .if2 .left) (rw (w .number-at .ensures) at (e3 .if3 .left)) (rw (w .number-at .ensures) at (c .if4 .taken))
 
 returns-5 : tie.Need-returns-5
 returns-5 c = let w3 = c .before in
@@ -28,8 +28,8 @@ returns-5 c = let w3 = c .before in
     let e3 = e4 .before in
     let w = e3 .before in
     let e2 = w .before in
-    rw (w3 .number3 .ensures, w2 .number2 .ensures, w .number .ensures) at (c .counts-check .ensures)
-    ∙ h-counts _ _ _ _ (e2 .before .before .if1 .left) (e2 .if2 .left) (rw (w .number .ensures) at (e3 .if3 .left)) (rw (w .number .ensures) at (e4 .if4 .left))
+    rw (w3 .number-at3 .ensures, w2 .number-at2 .ensures, w .number-at .ensures) at (c .counts-check .ensures)
+    ∙ h-counts _ _ _ _ (e2 .before .before .if1 .left) (e2 .if2 .left) (rw (w .number-at .ensures) at (e3 .if3 .left)) (rw (w .number-at .ensures) at (e4 .if4 .left))
 
 pub head-check-spec : {M : Type 1} → statement M
 head-check-spec =

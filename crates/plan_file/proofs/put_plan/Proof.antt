@@ -7,7 +7,7 @@ use lib.Seq.{sets}
 use Rattle.base.specs.Table.{tabulate}
 use Rattle.plan.specs.Links.{linksOf}
 use Rattle.plan_file.specs.Layout.{planNumbers, bytesOf}
-use Rattle.plan_file.proofs.Stores.{put-start, put-turn, put-end}
+use Rattle.plan_file.proofs.Stores.{put-start, write-turn, write-end}
 use borrow.Author.Needs.{needs}
 use Rattle.plan_file.proofs.put_plan.Statement.{statement}
 use Rattle.plan_file.proofs.put_plan.Tie as tie
@@ -38,7 +38,7 @@ loop-again : tie.Need-loop-again Inv-loop μ-loop
 loop-again c =
     let q = c .before .before in
     let e = q .before .before .before .before in
-    (omega arith, e .loop .inv .1, q .put2 .kept .0 ∙ e .loop .inv .2, q .put2 .ensures ∙ put-turn _ _ _ _ (e .loop .inv .3))
+    (omega arith, e .loop .inv .1, q .put2 .kept .0 ∙ e .loop .inv .2, q .put2 .ensures ∙ write-turn _ _ _ _ (e .loop .inv .3))
 
 same-length : tie.Need-same-length Inv-loop μ-loop
 same-length c = c .before .loop .inv .2 ∙ long (c .before .before .before .before)
@@ -49,7 +49,7 @@ returns c =
     let q = e .before .before .before in
     let n = q .before .before in
     let k : e .loop .i ≡ planNumbers (linksOf (n .before .before .args .p .now)) = omega arith in
-    put-end _ _ _ (n .links .ensures) (q .put .ensures) (rw k at (e .loop .inv .3))
+    write-end _ _ _ (n .links .ensures) (q .put .ensures) (rw k at (e .loop .inv .3))
 
 pub put-plan-spec : {M : Type 1} → statement M
 put-plan-spec =

@@ -10,34 +10,34 @@ use Rattle.base.specs.Limits.{maxLinks}
 use Rattle.base.specs.Table.{tabulate}
 use Rattle.base.specs.laws.Table.{tabulate-ext, length-tabulate, getD-tabulate}
 use Rattle.format_int16.specs.Int16.{at16}
-use Rattle.format_int16.specs.laws.Int16.{joined, high-byte, low-byte}
-use Rattle.plan_file.specs.Layout.{planNumbers, bytesOf, number, padded}
+use Rattle.format_int16.specs.laws.Int16.{bytes-join, high-byte, low-byte}
+use Rattle.plan_file.specs.Layout.{planNumbers, bytesOf, numberAt, padded}
 
 -- bytes, as a lent slice of them holds
 abbrev pub Bytes : List ℕ → Type 0
 Bytes s = All (λ b. b < 256) s
 
 -- the next integer, two bytes on
-number-next : (b x y : ℕ) (s : List ℕ) (i : ℕ) → number (b ∷ x ∷ y ∷ s) (suc i) ≡ number (y ∷ s) i
+number-next : (b x y : ℕ) (s : List ℕ) (i : ℕ) → numberAt (b ∷ x ∷ y ∷ s) (suc i) ≡ numberAt (y ∷ s) i
 number-next b x y s i = ap (at16 (b ∷ x ∷ y ∷ s)) (let e : 1 + 2 * suc i ≡ suc (suc (1 + 2 * i)) = omega arith in e)
     ∙ ap (λ n. getD (y ∷ s) (1 + 2 * i) 0 * 256 + getD (b ∷ x ∷ y ∷ s) n 0) (let e : suc (suc (1 + 2 * i)) + 1 ≡ suc (suc (1 + 2 * i + 1)) = omega arith in e)
 
 -- integers, from their bytes
-pub number-of : (b : ℕ) (xs : List ℕ) (i : ℕ) → i < length xs → number (b ∷ bytesOf xs) i ≡ getD xs i 0
+pub number-of : (b : ℕ) (xs : List ℕ) (i : ℕ) → i < length xs → numberAt (b ∷ bytesOf xs) i ≡ getD xs i 0
 unfolding bytesOf
 number-of b [] i l = absurd (not-suc-le-zero l)
-number-of b (x ∷ xs) zero l = joined x
+number-of b (x ∷ xs) zero l = bytes-join x
 number-of b (x ∷ xs) (suc i) l = number-next b (x / 256) (x % 256) (bytesOf xs) i ∙ number-of (x % 256) xs i (omega arith)
 
 -- bytes, from their integers
-pub bytes-numbers : (b : ℕ) (s : List ℕ) (n : ℕ) → length s ≡ 2 * n → Bytes s → bytesOf (tabulate n (number (b ∷ s))) ≡ s
+pub bytes-numbers : (b : ℕ) (s : List ℕ) (n : ℕ) → length s ≡ 2 * n → Bytes s → bytesOf (tabulate n (numberAt (b ∷ s))) ≡ s
 unfolding bytesOf tabulate
 bytes-numbers b [] zero e h = refl
 bytes-numbers b (x ∷ s) zero e h = absurd (omega arith)
 bytes-numbers b [] (suc n) e h = absurd (omega arith)
 bytes-numbers b (x ∷ []) (suc n) e h = absurd (omega arith)
 bytes-numbers b (x ∷ y ∷ s) (suc n) e (con p (con q h)) =
-    rw (high-byte x y q, low-byte x y q, tabulate-ext n (λ i. number (b ∷ x ∷ y ∷ s) (suc i)) (number (y ∷ s)) (λ i l. number-next b x y s i), bytes-numbers y s n (omega arith) h)
+    rw (high-byte x y q, low-byte x y q, tabulate-ext n (λ i. numberAt (b ∷ x ∷ y ∷ s) (suc i)) (numberAt (y ∷ s)) (λ i l. number-next b x y s i), bytes-numbers y s n (omega arith) h)
 
 pub bytes-of : (xs : List ℕ) → All (λ x. x < 65536) xs → Bytes (bytesOf xs)
 unfolding bytesOf

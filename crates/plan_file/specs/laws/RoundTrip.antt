@@ -20,7 +20,7 @@ use Rattle.plan.specs.laws.Accepted.{Accepted, accepted}
 use Rattle.plan.specs.Same.{Same}
 use Rattle.plan.specs.laws.Same.{same-taken}
 use Rattle.plan_file.specs.declared.Outcome.{Outcome}
-use Rattle.plan_file.specs.Layout.{planNumbers, bytesOf, encode, number, padded, decode, trimmed, blank}
+use Rattle.plan_file.specs.Layout.{planNumbers, bytesOf, encode, numberAt, padded, decode, trimmed, blank}
 use Rattle.plan_file.specs.laws.Lengths.{length-encode}
 use Rattle.plan_file.specs.Reading.{headRefusal, readRefusal, readPlan}
 use Rattle.plan_file.specs.Writing.{size, writeRefusal, writePlan}
@@ -33,7 +33,7 @@ module _ (p : Plan) where
   abbrev ownNumbers : List ℕ
   ownNumbers = tabulate (planNumbers (linksOf p)) (λ i. getD p i 0)
 
-  number-encode : (i : ℕ) → i < planNumbers (linksOf p) → number (encode p) (suc i) ≡ getD p i 0
+  number-encode : (i : ℕ) → i < planNumbers (linksOf p) → numberAt (encode p) (suc i) ≡ getD p i 0
   unfolding encode
   number-encode i l = number-of 1 ((4 + 8 * linksOf p) ∷ ownNumbers) (suc i) (omega (arith, length-tabulate (planNumbers (linksOf p)) (λ i. getD p i 0)))
       ∙ getD-tabulate (planNumbers (linksOf p)) (λ i. getD p i 0) i l
@@ -41,7 +41,7 @@ module _ (p : Plan) where
   decode-encode : decode (encode p) ≡ trimmed p
   unfolding decode trimmed padded
   decode-encode = rw (number-encode 1 (omega arith))
-      (ap (λ xs. xs ++ replicate (planNumbers maxLinks - planNumbers (linksOf p)) 0) (tabulate-ext (planNumbers (linksOf p)) (λ i. number (encode p) (suc i)) (λ i. getD p i 0) number-encode))
+      (ap (λ xs. xs ++ replicate (planNumbers maxLinks - planNumbers (linksOf p)) 0) (tabulate-ext (planNumbers (linksOf p)) (λ i. numberAt (encode p) (suc i)) (λ i. getD p i 0) number-encode))
 
   -- its numbers up to its links are the plan's
   pub trimmed-same : Same p (trimmed p)
@@ -120,23 +120,23 @@ module _ (s : List ℕ) (z : readRefusal s ≡ 0) where
   unfolding readRefusal
   read-accepted = fine-first (headRefusal s) z .1
 
-  number-decode : (i : ℕ) → i < planNumbers (number s 2) → getD (decode s) i 0 ≡ number s (suc i)
+  number-decode : (i : ℕ) → i < planNumbers (numberAt s 2) → getD (decode s) i 0 ≡ numberAt s (suc i)
   unfolding decode
-  number-decode i l = padded-at (planNumbers (number s 2)) (λ j. number s (suc j)) i l
+  number-decode i l = padded-at (planNumbers (numberAt s 2)) (λ j. numberAt s (suc j)) i l
 
-  numbers-decode : (4 + 8 * linksOf (decode s)) ∷ tabulate (planNumbers (linksOf (decode s))) (λ i. getD (decode s) i 0) ≡ tabulate (suc (planNumbers (number s 2))) (number s)
+  numbers-decode : (4 + 8 * linksOf (decode s)) ∷ tabulate (planNumbers (linksOf (decode s))) (λ i. getD (decode s) i 0) ≡ tabulate (suc (planNumbers (numberAt s 2))) (numberAt s)
   unfolding tabulate
   numbers-decode = rw (number-decode 1 (omega arith))
-      (ap₂ (λ x xs. x ∷ xs) (sym (read-head .len)) (tabulate-ext (planNumbers (number s 2)) (λ i. getD (decode s) i 0) (λ i. number s (suc i)) number-decode))
+      (ap₂ (λ x xs. x ∷ xs) (sym (read-head .len)) (tabulate-ext (planNumbers (numberAt s 2)) (λ i. getD (decode s) i 0) (λ i. numberAt s (suc i)) number-decode))
 
   -- "bytes that are taken and written again are the same bytes"
   pub read-written : Bytes s → encode (decode s) ≡ s
   unfolding encode
   read-written b = ap (λ xs. 1 ∷ bytesOf xs) numbers-decode ∙ again s (read-head .version) (read-head .size) b
     where
-      again : (t : List ℕ) → getD t 0 0 ≡ 1 → length t ≡ 7 + 8 * number s 2 → Bytes t → _≡_ {A = List ℕ} (1 ∷ bytesOf (tabulate (suc (planNumbers (number s 2))) (number t))) t
+      again : (t : List ℕ) → getD t 0 0 ≡ 1 → length t ≡ 7 + 8 * numberAt s 2 → Bytes t → _≡_ {A = List ℕ} (1 ∷ bytesOf (tabulate (suc (planNumbers (numberAt s 2))) (numberAt t))) t
       again [] v e h = absurd (omega arith)
-      again (x ∷ t) v e (con q h) = rw (bytes-numbers x t (suc (planNumbers (number s 2))) (omega arith) h, v)
+      again (x ∷ t) v e (con q h) = rw (bytes-numbers x t (suc (planNumbers (numberAt s 2))) (omega arith) h, v)
 
   -- so the writer puts them back at the front of any buffer that they fit
   pub written-again : Bytes s → (t : List ℕ) → length s ≤ length t → writePlan (decode s) t ≡ takenTo (s ++ drop (length s) t)

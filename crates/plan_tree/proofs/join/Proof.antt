@@ -3,7 +3,7 @@ use borrow.Author.Needs.{needs}
 use Rattle.base.specs.Limits.{maxModules}
 use Rattle.base.specs.laws.Table.{length-tabulate}
 use Rattle.plan.specs.Links.{graphOf}
-use Rattle.plan_tree.proofs.Joins.{joined}
+use Rattle.plan_tree.proofs.Joins.{set-joined}
 use Rattle.plan_tree.proofs.join.Statement.{statement}
 use Rattle.plan_tree.proofs.join.Tie as tie
 
@@ -29,7 +29,7 @@ returns c =
     let l = h .before .before in
     let s = l .before .before in
     let a = s .args in (
-      joined (graphOf (a .plan .now)) (a .label .now) (c .relabel .last .0) (a .out .now) _ _ (a .k) (l .lower .ensures) (h .higher .ensures) (omega (arith, s .pre .0 .size)) (c .relabel .ensures),
+      set-joined (graphOf (a .plan .now)) (a .label .now) (c .relabel .last .0) (a .out .now) _ _ (a .k) (l .lower .ensures) (h .higher .ensures) (omega (arith, s .pre .0 .size)) (c .relabel .ensures),
       rw (c .relabel .ensures) (length-tabulate maxModules _),
     )
 

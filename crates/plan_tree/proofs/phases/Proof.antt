@@ -5,12 +5,12 @@ use Rattle.plan.specs.Weights.{earlier}
 use Rattle.plan.specs.laws.Weights.{orderOf}
 use Rattle.plan_tree.specs.laws.Forest.{Forest, finished}
 use Rattle.plan_tree.specs.laws.Phase.{apart}
-use Rattle.plan_tree.specs.Lent.{at, Parts}
+use Rattle.plan_tree.specs.Lent.{at, LabelsFit}
 use Rattle.plan_tree.proofs.phases.Statement.{statement}
 use Rattle.plan_tree.proofs.phases.Tie as tie
 
 abbrev Inv-loop : tie.InvT-loop
-Inv-loop plan label₀ out₀ label out = (length out ≡ length out₀) × Parts label × Forest (graphOf plan) (earlier plan) (at label) (at out)
+Inv-loop plan label₀ out₀ label out = (length out ≡ length out₀) × LabelsFit label × Forest (graphOf plan) (earlier plan) (at label) (at out)
 
 abbrev μ-loop : tie.MeasureT-loop
 μ-loop plan label₀ out₀ label out = apart (graphOf plan) (at label)

@@ -17,8 +17,8 @@ use Rattle.graph.specs.laws.Cycle.{needed}
 abbrev pub Ends : Graph → Type 0
 Ends g = (k : ℕ) → k < g.L → (g.lo k < maxModules) × (g.hi k < maxModules)
 
-abbrev pub Node : ℕ → Type 0
-Node v = v < maxModules
+abbrev pub IsNode : ℕ → Type 0
+IsNode v = v < maxModules
 
 abbrev pub Marked : (ℕ → ℕ) → ℕ → Type 0
 Marked t k = t k ≡ 1
@@ -29,7 +29,7 @@ Inside g lab k = lab (g.lo k) ≡ lab (g.hi k)
 
 -- the parts are those that the marked edges make, and the marked edges are tree edges
 pub record Forest (g : Graph) (earlier : ℕ → ℕ → Bool) (lab t : ℕ → ℕ) : Type 0 where
-  pub parts : Labels g Node (Marked t) lab
+  pub parts : Labels g IsNode (Marked t) lab
   pub tree : (k : ℕ) → k < g.L → t k ≡ 1 → InTree g earlier k
   pub byte : (k : ℕ) → k < g.L → t k ≤ 1
 
@@ -38,17 +38,17 @@ ends-node {g} {e} ends (up l p q) = (omega (arith, ends e l .0), omega (arith, e
 ends-node {g} {e} ends (down l p q) = (omega (arith, ends e l .1), omega (arith, ends e l .0))
 
 -- the same labels of the nodes
-labels-ext : {g : Graph} {S : ℕ → Type 0} {lab lab′ : ℕ → ℕ} → Ends g → ((v : ℕ) → v < maxModules → lab′ v ≡ lab v) → Labels g Node S lab → Labels g Node S lab′
+labels-ext : {g : Graph} {S : ℕ → Type 0} {lab lab′ : ℕ → ℕ} → Ends g → ((v : ℕ) → v < maxModules → lab′ v ≡ lab v) → Labels g IsNode S lab → Labels g IsNode S lab′
 labels-ext ends same l = record {
   sound = λ u v du dv e. l.sound u v du dv (sym (same u du) ∙ e ∙ same v dv);
   whole = λ e u v j s. let n = ends-node ends j in same u (n .0) ∙ l.whole e u v j s ∙ sym (same v (n .1));
 }
 
 -- THE START: each node a part, no edge marked
-pub start : (g : Graph) (earlier : ℕ → ℕ → Bool) (lab t : ℕ → ℕ) → Ends g → ((v : ℕ) → v < maxModules → lab v ≡ v) → ((k : ℕ) → k < g.L → t k ≡ 0)
+pub forest-start : (g : Graph) (earlier : ℕ → ℕ → Bool) (lab t : ℕ → ℕ) → Ends g → ((v : ℕ) → v < maxModules → lab v ≡ v) → ((k : ℕ) → k < g.L → t k ≡ 0)
     → Forest g earlier lab t
-start g earlier lab t ends own clear = record {
-  parts = labels-same (λ e l s. absurd s) (λ e l s. omega (arith, clear e l)) (labels-ext ends own (labels-none g Node));
+forest-start g earlier lab t ends own clear = record {
+  parts = labels-same (λ e l s. absurd s) (λ e l s. omega (arith, clear e l)) (labels-ext ends own (labels-none g IsNode));
   tree = λ k l m. absurd (omega (arith, clear k l));
   byte = λ k l. omega (arith, clear k l);
 }

@@ -10,7 +10,7 @@ use Rattle.plan_tree.specs.Tree.{centralTree}
 use Rattle.plan.specs.Links.{Plan}
 
 -- a plan, the buffer lent for it, the answer and the buffer after
-pub record Row : Type 0 where
+pub record TreeRow : Type 0 where
   pub plan : Plan
   pub lent : List ℕ
   pub refusal : ℕ
@@ -21,21 +21,21 @@ abbrev triangle : Plan
 triangle = 3 ∷ 3 ∷ 0 ∷ 1 ∷ 2 ∷ 3 ∷ 0 ∷ 2 ∷ 2 ∷ 3 ∷ 1 ∷ 2 ∷ 2 ∷ 3 ∷ []
 
 -- the same with a buffer of two bytes; "two modules, no link: 19"
-unfoldable pub rows : List Row
-rows =
+unfoldable pub treeRows : List TreeRow
+treeRows =
     record { plan = triangle; lent = 9 ∷ 9 ∷ 9 ∷ []; refusal = 0; bytes = 1 ∷ 1 ∷ 0 ∷ [] }
     ∷ record { plan = triangle; lent = 9 ∷ 9 ∷ []; refusal = 20; bytes = 9 ∷ 9 ∷ [] }
     ∷ record { plan = 2 ∷ 0 ∷ []; lent = []; refusal = 19; bytes = [] }
     ∷ []
 
 -- what the builder does, and what the row says
-unfoldable pub done : Row → After (List ℕ)
+unfoldable pub done : TreeRow → After (List ℕ)
 unfolding centralTree
 done r = centralTree (r .plan) (r .lent)
 
-abbrev pub said : Row → After (List ℕ)
+abbrev pub said : TreeRow → After (List ℕ)
 said r = record { refusal = r .refusal; state = r .bytes }
 
-pub samples : map done rows ≡ map said rows
-unfolding rows done earlier cost planRefusal linksRefusal linkVerdict inOrder ascends connected
-samples = refl
+pub tree-samples : map done treeRows ≡ map said treeRows
+unfolding treeRows done earlier cost planRefusal linksRefusal linkVerdict inOrder ascends connected
+tree-samples = refl

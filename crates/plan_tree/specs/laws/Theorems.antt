@@ -33,8 +33,8 @@ module _ (p : Plan) (out : List ℕ) (taken : centralTree p out .refusal ≡ 0) 
   abbrev pub byte : ℕ → ℕ
   byte k = getD (centralTree p out .state) k 0
 
-  abbrev pub marked : ℕ → Bool
-  marked k = eqb (byte k) 1
+  abbrev pub chosen : ℕ → Bool
+  chosen k = eqb (byte k) 1
 
   -- L bytes
   pub written-length : length (centralTree p out .state) ≡ linksOf p
@@ -45,7 +45,7 @@ module _ (p : Plan) (out : List ℕ) (taken : centralTree p out .refusal ≡ 0) 
   unfolding treeBytes
   written-byte k l = rw (answered-bytes p out taken) (getD-tabulate (linksOf p) (λ j. bit (treeLink p j)) k l)
 
-  written-marked : (k : ℕ) → k < linksOf p → marked k ≡ treeLink p k
+  written-marked : (k : ℕ) → k < linksOf p → chosen k ≡ treeLink p k
   written-marked k l = rw (written-byte k l) (bool-cases (treeLink p k) (λ t. rw t) (λ f. rw f))
 
   -- 1 FOR A TREE LINK, 0 otherwise: by the path rule
@@ -70,17 +70,17 @@ module _ (p : Plan) (out : List ℕ) (taken : centralTree p out .refusal ≡ 0) 
   written-acyclic k l e w = spare (graphOf p) (orderOf p) k l (tree-written k l e) (wider (λ j lj m. (tree-written j lj (m .0), m .1)) w)
 
   -- LEAST TOTAL COST
-  written-total : totalCost (graphOf p) (cost p) marked ≡ totalCost (graphOf p) (cost p) (treeLink p)
+  written-total : totalCost (graphOf p) (cost p) chosen ≡ totalCost (graphOf p) (cost p) (treeLink p)
   unfolding totalCost
   written-total = sum-eq (linksOf p) _ _ (λ k l. rw (written-marked k l))
 
   -- among the sets that join what the links join
-  pub written-least-parts : (s : ℕ → Bool) → Spanning (graphOf p) s → totalCost (graphOf p) (cost p) marked ≤ totalCost (graphOf p) (cost p) s
+  pub written-least-parts : (s : ℕ → Bool) → Spanning (graphOf p) s → totalCost (graphOf p) (cost p) chosen ≤ totalCost (graphOf p) (cost p) s
   written-least-parts s sp = rw written-total (tree-least (graphOf p) (orderOf p) (cost p) (earlier-cost p) s sp)
 
   -- "no set of links joining all modules has a smaller total cost"
   pub written-least : (s : ℕ → Bool) → ((u v : ℕ) → u < modulesOf p → v < modulesOf p → Way (graphOf p) (Set s) u v)
-      → totalCost (graphOf p) (cost p) marked ≤ totalCost (graphOf p) (cost p) s
+      → totalCost (graphOf p) (cost p) chosen ≤ totalCost (graphOf p) (cost p) s
   written-least s all =
       let a = accepted p (answered p out taken .0) in
       rw written-total (tree-least-all (graphOf p) (orderOf p) (cost p) (earlier-cost p) (modulesOf p)

@@ -15,7 +15,7 @@ use Rattle.base.specs.Refuse.{orElse}
 use Rattle.format_text.specs.Input.{AllBytes}
 use Rattle.format_text.specs.laws.Input.{Enough}
 use Rattle.plan_file.specs.declared.Outcome.{Outcome}
-use Rattle.plan_file.specs.Layout.{number, blank}
+use Rattle.plan_file.specs.Layout.{numberAt, blank}
 use Rattle.plan_file.specs.Reading.{headVerdict, headRefusal, readRefusal, readPlan}
 use Rattle.program_report.specs.Reported.{planText, reported}
 
@@ -28,12 +28,12 @@ abbrev longOutcome : ℕ → Outcome
 longOutcome version = record { refusal = orElse (not (eqb version 1)) 12 13; plan = blank }
 
 -- more bytes than a 16-bit length can tell of
-module _ (s : List ℕ) (far : PLANROOM ≤ length s) (small : number s 0 ≤ 65535) where
+module _ (s : List ℕ) (far : PLANROOM ≤ length s) (small : numberAt s 0 ≤ 65535) where
   head-long : headRefusal s ≡ orElse (not (eqb (getD s 0 0) 1)) 12 13
   unfolding headVerdict
-  head-long = rw (le-ltb (length s) 3 (omega arith), ne-eqb (number s 0) (length s - 3) apart) refl
+  head-long = rw (le-ltb (length s) 3 (omega arith), ne-eqb (numberAt s 0) (length s - 3) apart) refl
     where
-      apart : number s 0 ≡ length s - 3 → ⊥
+      apart : numberAt s 0 ≡ length s - 3 → ⊥
       apart e = omega arith
 
   read-long : readPlan s ≡ longOutcome (getD s 0 0)
@@ -46,7 +46,7 @@ module _ (n : ℕ) (far : PLANROOM ≤ n) (s : List ℕ) (bytes : AllBytes s) wh
   same-outcome l =
       let size = length-take-le n s l in
       let here : (i : ℕ) → i ≤ 2 → getD (take n s) i 0 ≡ getD s i 0 = λ i h. getD-take n s i 0 (omega arith) in
-      let less : number (take n s) 0 ≤ 65535 = omega (arith, here 1 (omega arith), here 2 (omega arith), bytes 1, bytes 2) in
+      let less : numberAt (take n s) 0 ≤ 65535 = omega (arith, here 1 (omega arith), here 2 (omega arith), bytes 1, bytes 2) in
       read-long (take n s) (omega arith) less ∙ ap longOutcome (here 0 (omega arith))
       ∙ sym (read-long s (omega arith) (omega (arith, bytes 1, bytes 2)))
 

@@ -30,11 +30,11 @@ use Rattle.field.specs.Step.{carryOut, backOf, serve, step}
 use Rattle.field.specs.Valid.{allOf, waitingIn, wordFits, nodeFits, fits}
 
 -- what the definitions compute, and what document 01 says
-pub record Row : Type 0 where
+pub record StarredRow : Type 0 where
   pub computed : List ℕ
   pub said : List ℕ
 
-abbrev row : List ℕ → List ℕ → Row
+abbrev row : List ℕ → List ℕ → StarredRow
 row a b = record { computed = a; said = b }
 
 -- the refusal of a plan's bytes
@@ -87,7 +87,7 @@ served h =
 abbrev shown : Held → List ℕ
 shown h = 0 ∷ h .field .sent ∷ (h .field .cells ++ (h .field .marks ++ h .words))
 
-abbrev rows : List Row
+abbrev rows : List StarredRow
 rows =
     -- "M: N 1, L 0: 0. N 2, L 1: 12. N 3, L 3: 21. N 192, L 600: 7920."
     row (ceiling 1 0 ∷ ceiling 2 1 ∷ ceiling 3 3 ∷ ceiling 192 600 ∷ []) (0 ∷ 12 ∷ 21 ∷ 7920 ∷ [])
