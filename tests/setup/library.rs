@@ -18,6 +18,7 @@ extern "C" {
         marks: *mut Marks, sent: *mut u32,
     ) -> u32;
     fn muruapy_test_schedule_check(bytes: *const u8, len: usize) -> u32;
+    fn muruapy_test_schedule_open(bytes: *const u8, len: usize) -> usize;
     fn muruapy_test_read_step(
         bytes: *const u8, len: usize, at: usize, kind: *mut u8, number: *mut u16, next: *mut usize,
     ) -> usize;
@@ -73,6 +74,11 @@ impl Parts {
 /// 51 to 54, or 0 for a schedule that is taken.
 pub fn schedule_check(bytes: &[u8]) -> u32 {
     unsafe { muruapy_test_schedule_check(bytes.as_ptr(), bytes.len()) }
+}
+
+/// How many steps the schedule reader has left when it is opened.
+pub fn schedule_open(bytes: &[u8]) -> usize {
+    unsafe { muruapy_test_schedule_open(bytes.as_ptr(), bytes.len()) }
 }
 
 /// The schedule reader at a place: how many steps stand from there on, the step there, the place after it.

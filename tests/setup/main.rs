@@ -1,11 +1,11 @@
 //! Compares the compiled setup, schedule check and schedule reader with the oracle. Setup: on plan values good and
 //! damaged, in words that hold anything, fewer than M, M and more; the answer, every word, every number of the field.
-//! The reader: on schedules good and damaged, at every place and past the end. Prints counts, or panics at the first
+//! The reader: on schedules good and damaged, opened, at every place and past the end. Prints counts, or panics at the first
 //! difference.
 
 mod library;
 
-use library::{numbers, read_step, schedule_check, Numbers, Parts};
+use library::{numbers, read_step, schedule_check, schedule_open, Numbers, Parts};
 use oracle::field::{setup_value, Field, HAND_OVER, SERVE, WAKE};
 use oracle::plan::{Link, Plan};
 use oracle::plans;
@@ -110,12 +110,14 @@ fn compare_place(bytes: &[u8], place: usize) {
     assert_eq!(read_step(bytes, place), (left, step, reader.place), "place {place} of {bytes:02x?}");
 }
 
-/// A schedule's bytes, taken or refused: the check, every place of the reader, and all its steps read one after the other.
+/// A schedule's bytes, taken or refused: the check, the reader opened and at every place, and all its steps read one after
+/// the other.
 fn compare_schedule(tally: &mut Tally, bytes: &[u8]) {
     let steps = read(bytes);
     let answer = steps.as_ref().err().copied().unwrap_or(0);
     assert_eq!(schedule_check(bytes), answer, "the check of {bytes:02x?}");
     tally.count(answer);
+    assert_eq!(schedule_open(bytes), Reader::at(bytes, 0).left(), "a reader opened on {bytes:02x?}");
     for place in (0..bytes.len() / 3 + 3).chain([usize::MAX / 3, usize::MAX / 3 + 1, usize::MAX - 1, usize::MAX]) {
         compare_place(bytes, place);
     }

@@ -12,7 +12,9 @@ ghost use Prim.Native.Nat.{_<_, _≤_};
 ghost use mathlib.Core.Path.{_≡_};
 ghost use mathlib.Core.List.{_++_};
 ghost use lib.ListN.{length, take};
+ghost use lib.Dec.{leb};
 ghost use Rattle.base.specs.Limits.{maxModules};
+ghost use Rattle.plan.specs.Links.{modulesOf};
 ghost use Rattle.node.specs.Work.{Work, BACK};
 ghost use Rattle.node_dispatch.specs.Receives.{Receives};
 ghost use Rattle.field.specs.State.{nodeIn};
@@ -138,6 +140,13 @@ fn response<'a>(plan: &'a Plan, cells: &'a Cells, marks: &'a Marks, v: u16, x: u
     node_dispatch::respond(plan, marks, v, packet, node)
 }
 
+// Number v is no module's: 41.
+fn no_module(plan: &Plan, v: u16) -> bool
+    ensures { λ r. ⌜ r ≡ leb (modulesOf (now (plan .entry))) v ⌝ }
+{
+    plan::modules(plan) <= v
+}
+
 // Module v wakes: 0, or refused by 41, 43, 32 or 33. b is what the step before left.
 pub fn wake<'a>(
     plan: &'a Plan,
@@ -150,7 +159,7 @@ pub fn wake<'a>(
     requires { ⌜ Ready (now plan) (now cells) (now marks) (now lent) (b .waiting) (b .sent) ⌝ }
     ensures { λ r. ⌜ Advances (λ p. wake p v) (now (plan .entry)) (now (cells .entry)) (now (marks .entry)) (now (lent .entry)) b r (now (cells .exit)) (now (marks .exit)) (now (lent .exit)) ⌝ }
 {
-    if plan::modules(plan) <= v {
+    if no_module(plan, v) {
         return refused(41, b);
     }
     let node = field_cells::load(cells, v);
@@ -173,7 +182,7 @@ pub fn serve<'a>(
     requires { ⌜ Ready (now plan) (now cells) (now marks) (now lent) (b .waiting) (b .sent) ⌝ }
     ensures { λ r. ⌜ Advances (λ p. serve p v) (now (plan .entry)) (now (cells .entry)) (now (marks .entry)) (now (lent .entry)) b r (now (cells .exit)) (now (marks .exit)) (now (lent .exit)) ⌝ }
 {
-    if plan::modules(plan) <= v {
+    if no_module(plan, v) {
         return refused(41, b);
     }
     let n = b.waiting;

@@ -2,8 +2,10 @@
 use field::Marks;
 use node::ASLEEP;
 use node::Node;
+use node_response::CONNECT;
 use node_response::Packet;
 use node_response::Response;
+use node_response::TEST;
 use plan::Plan;
 ghost use mathlib.Core.Path.{_≡_};
 ghost use mathlib.Core.Bool.{not, _&&_};
@@ -19,11 +21,11 @@ ghost use Rattle.node_response.specs.Response.{Does, Formed, packetMsg, workOf}
 ghost use Rattle.node_joining.specs.laws.Copies.{copiesIn};
 ghost use Rattle.node_dispatch.specs.Receives.{Receives, Fresh};
 
-// Whether a node of this status refuses this kind: a sleeper takes Connect (1) and Test (3) only.
+// Whether a node of this status refuses this kind: a sleeper takes Connect and Test only.
 fn deaf(status: u16, kind: u8) -> bool
     ensures { λ r. ⌜ r ≡ (eqb status ASLEEP && not (eqb kind 1) && not (eqb kind 3)) ⌝ }
 {
-    (status == ASLEEP) & (kind != 1) & (kind != 3)
+    (status == ASLEEP) & (kind != CONNECT) & (kind != TEST)
 }
 
 // The response to x, before which nothing was done.

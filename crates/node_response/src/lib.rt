@@ -12,7 +12,22 @@ ghost use Rattle.format_message.specs.Msg.{none, connect, initiate, test, accep
 ghost use Rattle.node.specs.Work.{Send, putBack, refused};
 ghost use Rattle.node_response.specs.Response.{Does, Says, packetFor, begun};
 
-// A message and the own edge that it goes or came by, none for no message. Kinds are numbered as in document 01.
+// The kinds, numbered as in document 01.
+pub const CONNECT: u8 = 1;
+
+pub const INITIATE: u8 = 2;
+
+pub const TEST: u8 = 3;
+
+pub const ACCEPT: u8 = 4;
+
+pub const REJECT: u8 = 5;
+
+pub const REPORT: u8 = 6;
+
+pub const CHANGE_ROOT: u8 = 7;
+
+// A message and the own edge that it goes or came by, none for no message.
 pub struct Packet {
     pub edge: u16,
     pub kind: u8,
@@ -38,7 +53,7 @@ pub fn a_connect(edge: u16, level: u16) -> Packet
 {
     Packet {
         edge: edge,
-        kind: 1,
+        kind: CONNECT,
         level: level,
         carried: NONE,
         find: 0,
@@ -50,7 +65,7 @@ pub fn an_initiate(edge: u16, level: u16, identity: u16, find: u8) -> Packet
 {
     Packet {
         edge: edge,
-        kind: 2,
+        kind: INITIATE,
         level: level,
         carried: identity,
         find: find,
@@ -62,9 +77,22 @@ pub fn a_test(edge: u16, level: u16, identity: u16) -> Packet
 {
     Packet {
         edge: edge,
-        kind: 3,
+        kind: TEST,
         level: level,
         carried: identity,
+        find: 0,
+    }
+}
+
+// A message that is its kind alone.
+fn bare(edge: u16, kind: u8) -> Packet
+    ensures { λ r. ⌜ r ≡ record { edge = edge; kind = kind; level = 0; carried = none; find = 0 } ⌝ }
+{
+    Packet {
+        edge: edge,
+        kind: kind,
+        level: 0,
+        carried: NONE,
         find: 0,
     }
 }
@@ -72,25 +100,13 @@ pub fn a_test(edge: u16, level: u16, identity: u16) -> Packet
 pub fn an_accept(edge: u16) -> Packet
     ensures { λ r. ⌜ r ≡ packetFor edge accept ⌝ }
 {
-    Packet {
-        edge: edge,
-        kind: 4,
-        level: 0,
-        carried: NONE,
-        find: 0,
-    }
+    bare(edge, ACCEPT)
 }
 
 pub fn a_reject(edge: u16) -> Packet
     ensures { λ r. ⌜ r ≡ packetFor edge reject ⌝ }
 {
-    Packet {
-        edge: edge,
-        kind: 5,
-        level: 0,
-        carried: NONE,
-        find: 0,
-    }
+    bare(edge, REJECT)
 }
 
 pub fn a_report(edge: u16, weight: u16) -> Packet
@@ -98,7 +114,7 @@ pub fn a_report(edge: u16, weight: u16) -> Packet
 {
     Packet {
         edge: edge,
-        kind: 6,
+        kind: REPORT,
         level: 0,
         carried: weight,
         find: 0,
@@ -108,13 +124,7 @@ pub fn a_report(edge: u16, weight: u16) -> Packet
 pub fn a_change(edge: u16) -> Packet
     ensures { λ r. ⌜ r ≡ packetFor edge change ⌝ }
 {
-    Packet {
-        edge: edge,
-        kind: 7,
-        level: 0,
-        carried: NONE,
-        find: 0,
-    }
+    bare(edge, CHANGE_ROOT)
 }
 
 // Nothing done yet.

@@ -1,11 +1,15 @@
 // What the comparison with independent programs calls for setup and for schedules, under C names: setup of any plan value in any
-// words, the check of any bytes, and what the schedule reader finds at any place of them.
+// words, the check of any bytes, and what the schedule reader finds at any place of them. The two functions that have a reader in a
+// local are proved by hand.
 ghost use mathlib.Core.Path.{_≡_};
 ghost use Rattle.field.specs.Held.{setUp};
 ghost use Rattle.field_calls.specs.Schedule.{scheduleRefusal};
-ghost use Rattle.host_reader.specs.Reader.{leftFrom, stepFrom, placeAfter};
+ghost use Rattle.host_reader.specs.Reader.{leftFrom, stepFrom, placeAfter, opened, leftOf};
+ghost use Rattle.test_setup.specs.Found.{foundBy};
 use field::Cells;
 use field::Marks;
+use field_calls::Step;
+use host_reader::Schedule;
 use plan::Plan;
 
 // Setup. The field that it hands back lies in its parts in `held`, `cells`, `marks` and `sent`, beside a refusal too.
@@ -46,6 +50,32 @@ pub extern "C" fn muruapy_test_schedule_check(bytes: &[u8]) -> u32
     host_schedule::check(bytes)
 }
 
+// A reader is opened: how many steps it has left.
+#[no_mangle]
+pub extern "C" fn muruapy_test_schedule_open(bytes: &[u8]) -> usize
+    ensures { λ r. ⌜ r ≡ leftOf (opened (bytes .entry)) ⌝ }
+{
+    host_reader::left(host_reader::open(bytes))
+}
+
+// What a reader at a place finds: how many steps are left, the step there, its place after that.
+pub struct Found {
+    pub left: usize,
+    pub step: Step,
+    pub place: usize,
+}
+
+// A reader is made at a place, asked, and reads a step.
+fn read_at(bytes: &[u8], at: usize) -> Found
+    ensures { λ r. ⌜ r ≡ foundBy (record { bytes = bytes .entry; at = at }) ⌝ }
+{
+    let mut s = Schedule { bytes, at };
+    let left = host_reader::left(s);
+    let step = host_reader::next(&mut s);
+    let place = s.at;
+    Found { left, step, place }
+}
+
 // The reader at a place: answers how many steps stand from there on; the step there goes into `kind` and `number`, the place
 // after it into `next`.
 #[no_mangle]
@@ -60,9 +90,10 @@ pub extern "C" fn muruapy_test_read_step(
         × (record { kind = now (kind .exit); number = now (number .exit) } ≡ stepFrom (now (bytes .entry)) at)
         × (now (next .exit) ≡ placeAfter (now (bytes .entry)) at) ⌝ }
 {
-    let step = host_reader::step_from(bytes, at);
+    let found = read_at(bytes, at);
+    let step = found.step;
     *kind = step.kind;
     *number = step.number;
-    *next = host_reader::place_after(bytes, at);
-    host_reader::left_from(bytes, at)
+    *next = found.place;
+    found.left
 }

@@ -1,7 +1,8 @@
 use native.Mathlib.Omega.{arith}
-use mathlib.Core.Path.{sym}
+use mathlib.Core.Path.{sym, _∙_}
 use lib.Seq.{length-take-le}
 use borrow.Author.Needs.{needs}
+use borrow.Author.Tests.{leb-true, leb-false}
 use Rattle.field_serve.proofs.Steps.{serving-41, serving-45, serving-receives, serving-feasible, serving}
 use Rattle.field_serve.proofs.serve.Statement.{statement}
 use Rattle.field_serve.proofs.serve.Tie as tie
@@ -10,7 +11,7 @@ returns : tie.Need-returns
 returns c =
     let e = c .before in
     let m = e .before in
-    serving-41 _ _ _ _ (m .before .before .args .b) _ (m .before .before .pre) (omega (arith, m .modules .ensures, e .if1 .taken)) (c .refused .ensures)
+    serving-41 _ _ _ _ (m .before .before .args .b) _ (m .before .before .pre) (leb-true _ _ (sym (m .no-module .ensures) ∙ e .if1 .taken)) (c .refused .ensures)
 
 slice-aggregate-first-in-queue : tie.Need-slice-aggregate-first-in-queue
 slice-aggregate-first-in-queue c = let s = c .before .before .before .before in sym (length-take-le (s .args .b .waiting) (s .args .lent .now) (s .pre .laid .within))
@@ -24,7 +25,7 @@ returns-2 c =
     let q = t .before in
     let e = q .before .before in
     let m = e .before in
-    serving-45 _ _ _ _ (m .before .before .args .b) _ (m .before .before .pre) (omega (arith, m .modules .ensures, e .if1 .left)) _ (q .first-in-queue .ensures) (t .if2 .taken) (c .refused2 .ensures)
+    serving-45 _ _ _ _ (m .before .before .args .b) _ (m .before .before .pre) (leb-false _ _ (sym (m .no-module .ensures) ∙ e .if1 .left)) _ (q .first-in-queue .ensures) (t .if2 .taken) (c .refused2 .ensures)
 
 response-requires : tie.Need-response-requires
 response-requires c κs =
@@ -33,8 +34,8 @@ response-requires c κs =
     let e = q .before .before in
     let m = e .before in
     let r = m .before .before .pre in (
-      omega (arith, m .modules .ensures, e .if1 .left, r .plan .modulesOk),
-      serving-receives _ _ _ _ (m .before .before .args .b) _ r (omega (arith, m .modules .ensures, e .if1 .left)) _ (q .first-in-queue .ensures) (t .if2 .left),
+      omega (arith, leb-false, sym (m .no-module .ensures) ∙ e .if1 .left, r .plan .modulesOk),
+      serving-receives _ _ _ _ (m .before .before .args .b) _ r (leb-false _ _ (sym (m .no-module .ensures) ∙ e .if1 .left)) _ (q .first-in-queue .ensures) (t .if2 .left),
     )
 
 carry-out-requires : tie.Need-carry-out-requires
@@ -44,7 +45,7 @@ carry-out-requires c κs =
     let q = t .before in
     let e = q .before .before in
     let m = e .before in
-    serving-feasible _ _ _ _ (m .before .before .args .b) _ (m .before .before .pre) (omega (arith, m .modules .ensures, e .if1 .left)) _ (q .first-in-queue .ensures) (t .if2 .left) _ (o .response .ensures)
+    serving-feasible _ _ _ _ (m .before .before .args .b) _ (m .before .before .pre) (leb-false _ _ (sym (m .no-module .ensures) ∙ e .if1 .left)) _ (q .first-in-queue .ensures) (t .if2 .left) _ (o .response .ensures)
 
 returns-3 : tie.Need-returns-3
 returns-3 c =
@@ -54,7 +55,7 @@ returns-3 c =
     let q = t .before in
     let e = q .before .before in
     let m = e .before in
-    serving _ _ _ _ (m .before .before .args .b) _ (m .before .before .pre) (omega (arith, m .modules .ensures, e .if1 .left)) _ (q .first-in-queue .ensures) (t .if2 .left) _ (o .response .ensures)
+    serving _ _ _ _ (m .before .before .args .b) _ (m .before .before .pre) (leb-false _ _ (sym (m .no-module .ensures) ∙ e .if1 .left)) _ (q .first-in-queue .ensures) (t .if2 .left) _ (o .response .ensures)
     (d .carry-out .ensures) (search needs)
 
 pub serve-spec : {M : Type 1} → statement M

@@ -1,5 +1,7 @@
 use native.Mathlib.Omega.{arith}
+use mathlib.Core.Path.{sym, _∙_}
 use borrow.Author.Needs.{needs}
+use borrow.Author.Tests.{leb-true, leb-false}
 use Rattle.field_serve.proofs.Steps.{waking-41, waking-43, waking-feasible, waking}
 use Rattle.field_serve.proofs.wake.Statement.{statement}
 use Rattle.field_serve.proofs.wake.Tie as tie
@@ -8,13 +10,13 @@ returns : tie.Need-returns
 returns c =
     let e = c .before in
     let m = e .before in
-    waking-41 _ _ _ _ (m .before .before .args .b) _ (m .before .before .pre) (omega (arith, m .modules .ensures, e .if1 .taken)) (c .refused .ensures)
+    waking-41 _ _ _ _ (m .before .before .args .b) _ (m .before .before .pre) (leb-true _ _ (sym (m .no-module .ensures) ∙ e .if1 .taken)) (c .refused .ensures)
 
 load-requires : tie.Need-load-requires
 load-requires c κs =
     let e = c .before in
     let m = e .before in
-    omega (arith, m .modules .ensures, e .if1 .left, m .before .before .pre .plan .modulesOk)
+    omega (arith, leb-false, sym (m .no-module .ensures) ∙ e .if1 .left, m .before .before .pre .plan .modulesOk)
 
 returns-2 : tie.Need-returns-2
 returns-2 c =
@@ -22,7 +24,7 @@ returns-2 c =
     let o = t .before .before in
     let e = o .before .before in
     let m = e .before in
-    waking-43 _ _ _ _ (m .before .before .args .b) _ (m .before .before .pre) (omega (arith, m .modules .ensures, e .if1 .left)) _ (o .load .ensures) (t .if2 .taken) (c .refused2 .ensures)
+    waking-43 _ _ _ _ (m .before .before .args .b) _ (m .before .before .pre) (leb-false _ _ (sym (m .no-module .ensures) ∙ e .if1 .left)) _ (o .load .ensures) (t .if2 .taken) (c .refused2 .ensures)
 
 wakeup-requires : tie.Need-wakeup-requires
 wakeup-requires c κs = c .before .before .before .before .before .before .before .before .pre .plan .linksOk
@@ -34,7 +36,7 @@ carry-out-requires c κs =
     let o = t .before .before in
     let e = o .before .before in
     let m = e .before in
-    waking-feasible _ _ _ _ (m .before .before .args .b) _ (m .before .before .pre) (omega (arith, m .modules .ensures, e .if1 .left)) _ (o .load .ensures) (t .if2 .left) _ (w .wakeup .ensures .1) (w .wakeup .ensures .0)
+    waking-feasible _ _ _ _ (m .before .before .args .b) _ (m .before .before .pre) (leb-false _ _ (sym (m .no-module .ensures) ∙ e .if1 .left)) _ (o .load .ensures) (t .if2 .left) _ (w .wakeup .ensures .1) (w .wakeup .ensures .0)
 
 returns-3 : tie.Need-returns-3
 returns-3 c =
@@ -44,7 +46,7 @@ returns-3 c =
     let o = t .before .before in
     let e = o .before .before in
     let m = e .before in
-    waking _ _ _ _ (m .before .before .args .b) _ (m .before .before .pre) (omega (arith, m .modules .ensures, e .if1 .left)) _ (o .load .ensures) (t .if2 .left) _ (w .wakeup .ensures .1) (w .wakeup .ensures .0)
+    waking _ _ _ _ (m .before .before .args .b) _ (m .before .before .pre) (leb-false _ _ (sym (m .no-module .ensures) ∙ e .if1 .left)) _ (o .load .ensures) (t .if2 .left) _ (w .wakeup .ensures .1) (w .wakeup .ensures .0)
     (d .carry-out .ensures) (search needs)
 
 pub wake-spec : {M : Type 1} → statement M

@@ -12,30 +12,18 @@ Inv-loop plan words v i₀ i = Sought (inQueue plan v) words i
 abbrev μ-loop : tie.MeasureT-loop
 μ-loop plan words v i₀ i = length words - i
 
-loop-holds : tie.Need-loop-holds Inv-loop μ-loop
-loop-holds c = sought _ _
-
-returns : tie.Need-returns Inv-loop μ-loop
-returns c = let e = c .before .before .before in found _ _ (e .loop-test .taken) (c .before .in-queue .ensures) (e .before .loop .inv) (c .if1 .taken)
-
-loop-again : tie.Need-loop-again Inv-loop μ-loop
-loop-again c = let e = c .before .before .before in sought-on _ _ (e .loop-test .taken) (c .before .in-queue .ensures) (e .before .loop .inv) (c .if1 .left)
-
-returns-2 : tie.Need-returns-2 Inv-loop μ-loop
-returns-2 c = found-none _ _ (c .before .loop .inv) (c .loop-test .left)
-
 pub first-in-queue-spec : {M : Type 1} → statement M
 first-in-queue-spec =
     tie.close
     (tie.spec
     Inv-loop
     μ-loop
-    loop-holds
+    (λ c. search (needs, sought))
     (λ c. search needs)
     (λ c. search needs)
     (λ c κs. search needs)
-    returns
+    (λ c. search (needs, found))
     (λ c. search needs)
     (λ c. search needs)
-    loop-again
-    returns-2)
+    (λ c. search (needs, sought-on))
+    (λ c. search (needs, found-none)))
