@@ -1,7 +1,7 @@
 use crate::difference;
 use crate::map;
 use crate::tables::{claims, defined, functions, rows, theorems, Found};
-use crate::trust::closure;
+use crate::trust::{closure, unlisted};
 use scan::Tree;
 
 #[path = "../scan/made.rs"]
@@ -47,7 +47,9 @@ fn the_heading_names_the_crates() {
 fn a_claim_names_its_files() {
     let (_made, tree) = tree();
     let faults = |definition: &str, function: &str| {
-        let page = format!("| Definition | Function | Theorem |\n|---|---|---|\n| {definition} | {function} | `n-law` a/F |\n");
+        let page = format!(
+            "| Definition | Function | Theorem |\n|---|---|---|\n| {definition} | {function} | `n-law` a/F |\n"
+        );
         let mut found = Found::default();
         for row in rows("PAGE", &page) {
             claims(&row, &defined(&tree), &mut found);
@@ -76,12 +78,24 @@ fn the_map_is_compared() {
 }
 
 #[test]
-fn definitions_are_followed_and_theorems_are_not() {
+fn every_name_is_followed() {
     let (_made, tree) = tree();
     let at = |name: &str| tree.all().find(|(.., item)| item.name == name).map(|(f, i, ..)| (f, i)).unwrap();
     let (seen, outside) = closure(&tree, &[at("Big")]);
     assert_eq!(seen, [at("Big"), at("R"), at("n")].into());
     assert_eq!(outside.len(), 2);
+    assert_eq!(closure(&tree, &[at("idle")]).0, [at("idle"), at("R"), at("n"), at("n-law")].into());
+}
+
+#[test]
+fn what_a_host_may_call_is_listed() {
+    let code = "// Head.\npub fn free(x: u8) -> u8\n    ensures { λ r. ⌜ r ≡ x ⌝ }\n{\n    x\n}\n\npub fn bound(x: u8) -> u8\n    requires { ⌜ x < 9 ⌝ }\n{\n    x\n}\n\nfn own() {\n}\n";
+    let made = Made::new(&[("crates/host_a/src/lib.rt", code), ("crates/b/src/lib.rt", code)]);
+    let tree = Tree::load(made.top());
+    assert_eq!(unlisted(&tree, &[]), ["host_a::free is neither listed nor spared"]);
+    let free =
+        tree.all().find(|(_, _, file, item)| file.of == "host_a" && item.name == "free").map(|(f, i, ..)| (f, i));
+    assert!(unlisted(&tree, &[free.unwrap()]).is_empty());
 }
 
 #[test]
