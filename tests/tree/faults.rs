@@ -118,10 +118,15 @@ pub fn lengths(tree: &Tree) -> Vec<Fault> {
     long.map(|(f, g)| fault(&f.path, g.line, format!("{}: {} lines", g.name, g.lines))).collect()
 }
 
-/// Files of antt that do not begin with a comment; Lib.antt and laws.antt hold lists of files, Proof.antt one proof.
+/// Files that do not begin with a comment. Spared: laws.antt and Lib.antt, which are lists of files, but not where the crate's
+/// source is empty, since specs/Lib.antt then says what the crate holds; and that source.
 pub fn heads(tree: &Tree) -> Vec<Fault> {
-    let spared = |path: &str| ["/Lib.antt", "/laws.antt", "/Proof.antt"].iter().any(|end| path.ends_with(end));
-    let bare = tree.files.iter().filter(|f| f.path.ends_with(".antt") && !spared(&f.path) && !f.headed);
+    let coded: BTreeSet<&str> =
+        tree.files.iter().filter(|f| f.path.ends_with(".rt") && f.headed).map(|f| f.of.as_str()).collect();
+    let list = |f: &File| f.path.ends_with("/laws.antt") || f.path.ends_with("/proofs/Lib.antt");
+    let said = |f: &File| f.path.ends_with("/specs/Lib.antt") && coded.contains(f.of.as_str());
+    let empty = |f: &File| f.path.ends_with("/src/lib.rt") && f.uses.is_empty() && f.items.is_empty();
+    let bare = tree.files.iter().filter(|f| !f.headed && !list(f) && !said(f) && !empty(f));
     bare.map(|f| fault(&f.path, 1, "no head")).collect()
 }
 

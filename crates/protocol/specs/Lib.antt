@@ -1,3 +1,5 @@
+-- The protocol as a transition system: its state with ghosts (State), 24 small steps (Step), the invariant clause by clause (Inv), which holds at
+-- setup (`inv-setup`); then what the crates of the steps share (`flow-take`, `flow-post`, `inv-search`, `inv-weighed`).
 pub mod Network
 pub mod State
 pub mod Step

@@ -1,3 +1,4 @@
+-- The message budget: every small step pays for what it sends (`paid-step`, `lone-step`), and so no more is sent than the ceiling (`paid-low`).
 pub mod Paid
 pub mod Height
 pub mod Still

@@ -1,1 +1,2 @@
+-- The step of a Report that is sent keeps the invariant: `inv-report-now`.
 pub mod ReportNow
