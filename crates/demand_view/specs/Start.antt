@@ -1,4 +1,4 @@
--- The view of a setup is the protocol's setup.
+-- The view of a setup is the protocol's setup (`view-start`).
 use Prim.Native.Nat.{ℕ}
 use native.Mathlib.Omega.{arith}
 use mathlib.Core.Path.{_≡_, refl, ap, ap₂, _∙_, fun-ext}

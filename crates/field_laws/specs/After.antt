@@ -1,4 +1,5 @@
--- Setup, and lists of calls from it on: never 31, the counts are exact, an invariant of the steps holds after every list.
+-- Setup (`started`), and lists of calls from it on: never 31 (`after-live`), the counts are exact (`list-counts`), an invariant of the steps holds after
+-- every list (`list-keeps`).
 use Prim.Native.Nat.{ℕ, zero, suc, _+_, _≤_, _<_}
 use native.Mathlib.Omega.{arith}
 use native.Mathlib.Nat.{not-suc-le-zero}

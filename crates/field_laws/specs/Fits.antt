@@ -1,4 +1,4 @@
--- Refusal 31 as facts: what the test `fits` says of a state, both ways.
+-- Refusal 31 as facts: what the test `fits` says of a state, both ways (`fits-facts`, `facts-fits`).
 use Prim.Native.Nat.{ℕ, _*_, _/_, _^_, _≤_, _<_}
 use native.Mathlib.Omega.{arith}
 use mathlib.Core.Path.{_≡_, refl, ap, _∙_}

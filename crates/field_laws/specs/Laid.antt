@@ -1,5 +1,5 @@
--- The lent words and the field: waiting words are laid out and read back, a call on what the host holds is the call on its state, and a field
--- that passes 31 passes it ever after.
+-- The lent words and the field: waiting words are laid out and read back (`layout-back`, `layout-zeros`), a call on what the host holds is the call on its
+-- state (`does-state`), and a field that passes 31 passes it ever after (`does-live`). A refused call alters nothing (`refused-alters-nothing`).
 use Prim.Native.Nat.{ℕ, zero, suc, _-_, _≤_}
 use native.Mathlib.Omega.{arith}
 use mathlib.Core.Path.{_≡_, refl, sym, ap, ap₂, _∙_}

@@ -1,4 +1,4 @@
--- All sends of a response at once, in the words and in the channels.
+-- All sends of a response at once, in the words (`posted-carry`, `length-posted`) and in the channels (`post-chan`).
 use Prim.Native.Nat.{ℕ, suc, _<_}
 use native.Mathlib.Omega.{arith}
 use mathlib.Core.Path.{_≡_, refl, sym, ap, ap₂, _∙_}

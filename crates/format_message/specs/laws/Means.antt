@@ -1,4 +1,4 @@
--- A listed header byte and carried number are those of exactly one message, whose parts are in range; and back.
+-- A listed header byte and carried number are those of exactly one message, whose parts are in range (`means`, `means-one`); and back (`has-listed`).
 use Prim.Native.Nat.{ℕ, zero, suc, _<_}
 use mathlib.Core.Path.{_≡_, refl, sym, ap, ap₂, _∙_}
 use mathlib.Core.Logic.{_⊎_, inl, inr, ⊎-elim}
