@@ -78,6 +78,26 @@ fn the_map_is_compared() {
 }
 
 #[test]
+fn the_crates_are_compared() {
+    let made = Made::new(&[
+        ("crates.txt", "b: a\na:\n"),
+        ("crates/a/src/lib.rt", ""),
+        ("crates/a/specs/Lib.antt", "-- Laws of x.y,\n-- and more. Others.\npub mod F\n"),
+        ("crates/b/src/lib.rt", "// Code.\nfn f() {\n}\n"),
+        ("crates/b/specs/Lib.antt", "-- Other.\n"),
+    ]);
+    let tree = Tree::load(made.top());
+    let page = map::crates_table(&tree);
+    assert_eq!(page, "| Crate | What it holds |\n|---|---|\n| b | Code. |\n| a | Laws of x.y, and more. |\n");
+    let faults = |page: &str| {
+        let mut found = Found::default();
+        map::compare_crates(&rows("TOUR", page), &tree, &mut found);
+        found.faults.len()
+    };
+    assert_eq!((faults(&page), faults(&page.replace("Code", "Text"))), (0, 1));
+}
+
+#[test]
 fn every_name_is_followed() {
     let (_made, tree) = tree();
     let at = |name: &str| tree.all().find(|(.., item)| item.name == name).map(|(f, i, ..)| (f, i)).unwrap();

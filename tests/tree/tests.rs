@@ -11,7 +11,7 @@ const DEFINES: &str = "-- Head.\nuse M.{ℕ}\n\nunfoldable pub f : ℕ\nf = 0\n\
 const CODE: &str =
     "// Head.\nghost use Rattle.a.specs.A.{f};\n\npub fn g() -> u16\n    ensures { λ r. ⌜ r ≡ f ⌝ }\n{\n    0\n}\n";
 const PROOF: &str =
-    "-- Head.\nuse Rattle.a.specs.A.{f-law}\nuse Rattle.b.proofs.g.Tie as tie\n\npub g-spec : tie.T\ng-spec = f-law\n";
+    "-- b::g: by `f-law`.\nuse Rattle.a.specs.A.{f-law}\nuse Rattle.b.proofs.g.Tie as tie\n\npub g-spec : tie.T\ng-spec = f-law\n";
 
 /// A clean tree with one file more, or one replaced.
 fn with(path: &str, text: &str) -> Made {
@@ -94,9 +94,11 @@ fn a_file_without_a_head() {
     for (path, text) in [("a/specs/Lib.antt", "pub mod A\n"), ("b/src/lib.rt", &CODE[9..])] {
         assert_eq!(only(with(&format!("crates/{path}"), text).top(), 5), [format!("crates/{path}:1: no head")]);
     }
-    let bare = PROOF.replace("-- Head.\n", "");
+    let bare = PROOF.replace("-- b::g: by `f-law`.\n", "");
     let path = "crates/b/proofs/g/Proof.antt";
     assert_eq!(only(with(path, &bare).top(), 5), [format!("{path}:1: no head")]);
+    let other = PROOF.replace("b::g:", "b::h:");
+    assert_eq!(only(with(path, &other).top(), 5), [format!("{path}:1: the head does not begin with b::g:")]);
     for list in ["crates/a/specs/laws.antt", "crates/b/specs/Lib.antt", "crates/b/proofs/Lib.antt"] {
         assert!(found(with(list, "pub mod C\n").top()).iter().all(Vec::is_empty), "{list}");
     }

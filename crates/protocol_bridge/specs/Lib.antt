@@ -1,5 +1,5 @@
--- Responses as small steps: a wakeup and a response to a channel's first message are sequences of them, or a put-back (`wakes-bridge`,
--- `respond-bridge`); so 32 and 33 never come (`never-32`, `after-fits`).
+-- The bridge: a wakeup and a response to a channel's first message are sequences of small steps, or a put-back. Main results: `wakes-bridge`,
+-- `respond-bridge`; so 32 and 33 never come (`never-32`, `after-fits`).
 pub mod Real
 pub mod Place
 pub mod Own

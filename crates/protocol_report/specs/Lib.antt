@@ -1,2 +1,2 @@
--- The step of a Report that is sent keeps the invariant: `inv-report-now`.
+-- The step of a Report that is sent, which keeps the invariant. Main result: `inv-report-now`.
 pub mod ReportNow
