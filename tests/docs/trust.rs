@@ -35,7 +35,7 @@ const OFFERED: [&str; 4] = ["plan_file", "plan_check", "plan_tree", "format_fram
 const SPARED: [(&str, &[&str]); 2] = [
     // 14 and 15 alone, told whether L fits a length: for plan_file, which has the length
     ("plan_check", &["counts_check"]),
-    // what open, left and next are made of, on bytes: for these three, and for tests/setup, since C cannot hold a Schedule
+    // what open, left and next are made of, on bytes
     ("host_reader", &["left_from", "step_from", "place_after"]),
 ];
 

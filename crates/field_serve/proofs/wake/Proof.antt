@@ -1,3 +1,4 @@
+-- field_serve::wake: one law for each return: `waking-41`, `waking-43`, `waking`; that the wakeup may be carried out, by `waking-feasible`.
 use native.Mathlib.Omega.{arith}
 use borrow.Author.Needs.{needs}
 use Rattle.field_serve.proofs.Steps.{waking-41, waking-43, waking-feasible, waking}
