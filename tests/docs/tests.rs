@@ -1,6 +1,6 @@
 use crate::difference;
 use crate::map;
-use crate::tables::{claims, defined, functions, rows, theorems, Found};
+use crate::tables::{claims, defined, functions, mentions, numbers, rows, theorems, Found};
 use crate::trust::{closure, unlisted};
 use scan::Tree;
 
@@ -60,6 +60,29 @@ fn a_claim_names_its_files() {
     assert_eq!(faults("`R`, `same` a/F; `other` b/F", "-"), 0);
     assert_eq!(faults("`R` a/F; `other` a/F", "-"), 1);
     assert_eq!(faults("`R` a/F", "`a::gone`"), 1);
+}
+
+#[test]
+fn each_refusal_has_a_row() {
+    let mut found = Found::default();
+    numbers(&rows("PAGE", "| Number | When |\n|---|---|\n| 11 | x |\n| 11 | y |\n| 64 | z |\n"), &mut found);
+    assert_eq!((found.names, found.faults.len()), (28, 26));
+}
+
+#[test]
+fn names_with_their_file_are_looked_up() {
+    let (_made, tree) = tree();
+    let check = |text: &str| {
+        let mut found = Found::default();
+        mentions("PAGE", text, &defined(&tree), &mut found);
+        (found.names, found.faults.len())
+    };
+    assert_eq!(
+        check("By `n-law`, `n` (a/F), and more\n(`same`, a/F; `other`, b/F); `R 0` (crates/a/specs/F.antt)."),
+        (5, 0)
+    );
+    assert_eq!(check("By `n-law` (b/F) and (`other`,\na/F)."), (2, 2));
+    assert_eq!(check("The crate `a` (a/F), `gone` (a/G), `gone` here (a/F); a file (a/F)."), (0, 0));
 }
 
 #[test]
