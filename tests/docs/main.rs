@@ -1,7 +1,9 @@
 //! What the pages name is there. docs/PROOF.md: each definition, theorem, function and test of a row; the table of must-fail edits by crate
 //! has the edits of the tree, no more and no fewer, and the tables with a column "Must-fail edits" name some of them. docs/PROTOCOL.md and
-//! docs/TOUR.md: in every table with a column "Theorem" and a column "File" each name of the one is defined in a file of the other. README.md: the map is the
-//! groups of crates.txt. docs/TRUST.md is the page that the tree gives. `docs trust`, `docs edits` and `docs map` print what is compared.
+//! docs/TOUR.md: in every table with a column "Theorem" and a column "File" each name of the one is defined in a file of the other. In the text of the
+//! pages each name that has its file in brackets is defined there. README.md: the map is the
+//! groups of crates.txt; docs/TOUR.md: the crates, each with what its head says. docs/TRUST.md is the page that the tree gives.
+//! `docs trust`, `docs edits`, `docs map` and `docs crates` print what is compared.
 use scan::Tree;
 use std::fs;
 use std::path::Path;
@@ -38,11 +40,16 @@ fn check(tree: &Tree, made: &str) -> bool {
         tables::claims(row, &by, &mut found);
         tables::functions(row, tree, &mut found);
     }
+    for page in ["README.md", "docs/PROOF.md", "docs/PROTOCOL.md", "docs/TOUR.md", "docs/DECISIONS.md"] {
+        tables::mentions(page, &fs::read_to_string(page).unwrap_or_default(), &by, &mut found);
+    }
     for row in ["docs/PROTOCOL.md", "docs/TOUR.md"].into_iter().flat_map(tables::page_rows) {
         tables::theorems(&row, &by, &mut found);
     }
+    tables::numbers(&proof, &mut found);
     edits::compare(&proof, &mut found);
     map::compare(&tables::page_rows("README.md"), &listing(), &mut found);
+    map::compare_crates(&tables::page_rows("docs/TOUR.md"), tree, &mut found);
     found.faults.extend(difference(&fs::read_to_string("docs/TRUST.md").unwrap_or_default(), made));
     found.faults.iter().for_each(|fault| println!("{fault}"));
     println!("docs: {} names, {} faults", found.names, found.faults.len());
@@ -60,8 +67,13 @@ fn main() {
             print!("{page}");
             true
         }
-        (Ok(_), Some(asked @ ("edits" | "map"))) => {
-            print!("{}", if asked == "map" { map::table(&listing()) } else { edits::table() });
+        (Ok(_), Some(asked @ ("edits" | "map" | "crates"))) => {
+            let table = match asked {
+                "map" => map::table(&listing()),
+                "crates" => map::crates_table(&tree),
+                _ => edits::table(),
+            };
+            print!("{table}");
             true
         }
         (Ok(page), _) => check(&tree, &page),

@@ -110,6 +110,17 @@ pub fn claims(row: &Row, by: &Names, found: &mut Found) {
     }
 }
 
+/// Each refusal number of document 01 has a row.
+pub fn numbers(rows: &[Row], found: &mut Found) {
+    let said: BTreeSet<&str> = rows.iter().filter_map(|row| row.cells.get("Number")).map(String::as_str).collect();
+    for number in [11..=22, 31..=33, 41..=45, 51..=54, 61..=64].into_iter().flatten().map(|n: u32| n.to_string()) {
+        found.names += 1;
+        if !said.contains(number.as_str()) {
+            found.faults.push(format!("docs/PROOF.md: refusal {number} has no row"));
+        }
+    }
+}
+
 /// Each function of a row, `crate::name`, is in the sources of that crate; each test is a folder of tests/ with a script to run.
 pub fn functions(row: &Row, tree: &Tree, found: &mut Found) {
     let cell = |title: &str| row.cells.get(title).cloned().unwrap_or_default();
@@ -127,6 +138,52 @@ pub fn functions(row: &Row, tree: &Tree, found: &mut Found) {
             found.faults.push(format!("{}: there is no tests/{test}/run", row.at));
         }
     }
+}
+
+/// Names with their file in brackets, in running text and in tables: `name` (crate/File), or (`name`, crate/File; `name`, crate/File).
+/// What stands behind a name in its backquotes are arguments or its type. Brackets that name no file of the tree say something else.
+pub fn mentions(page: &str, text: &str, by: &Names, found: &mut Found) {
+    for paragraph in text.split("\n\n").flat_map(|part| part.split("\n|")) {
+        let mut before = "";
+        for group in paragraph.split('(') {
+            let (inside, after) = group.split_once(')').unwrap_or(("", group));
+            for part in inside.split(';') {
+                let outside: Vec<&str> = part.split('`').step_by(2).collect();
+                let places = files_named(&outside.join(" ").replace('\n', " "));
+                let places: Vec<_> = places.into_iter().map(|(of, stem)| (of.unwrap_or_default(), stem)).collect();
+                let names = if part.contains('`') { quoted(part) } else { last_quoted(before) };
+                mentioned(page, &names, &places, by, found);
+            }
+            before = after;
+        }
+    }
+}
+
+fn mentioned(page: &str, names: &[&str], places: &[(String, String)], by: &Names, found: &mut Found) {
+    if places.is_empty() || !places.iter().all(|place| by.contains_key(place)) {
+        return;
+    }
+    let is_crate = |name: &str| places.iter().any(|(of, _)| of == name);
+    for name in names.iter().filter_map(|n| n.split(' ').next()).filter(|n| !is_crate(n)) {
+        found.names += 1;
+        if !places.iter().any(|place| by[place].contains(name)) {
+            let said: Vec<String> = places.iter().map(|(of, stem)| format!("{of}/{stem}")).collect();
+            found.faults.push(format!("{page}: {name} is not in {}", said.join(", ")));
+        }
+    }
+}
+
+/// The names in backquotes that a text ends with, commas between them.
+fn last_quoted(text: &str) -> Vec<&str> {
+    let pieces: Vec<&str> = text.trim_end().split('`').collect();
+    let mut names = Vec::new();
+    for pair in pieces.rchunks(2).filter(|pair| pair.len() == 2) {
+        if !["", ", "].contains(&pair[1]) {
+            break;
+        }
+        names.push(pair[0]);
+    }
+    names
 }
 
 /// Each name of a row's theorems is defined in one of the row's files: of the crate that the row gives, or else of one that

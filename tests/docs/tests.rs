@@ -1,7 +1,7 @@
 use crate::difference;
 use crate::map;
-use crate::tables::{claims, defined, functions, rows, theorems, Found};
-use crate::trust::closure;
+use crate::tables::{claims, defined, functions, mentions, numbers, rows, theorems, Found};
+use crate::trust::{closure, unlisted};
 use scan::Tree;
 
 #[path = "../scan/made.rs"]
@@ -47,7 +47,9 @@ fn the_heading_names_the_crates() {
 fn a_claim_names_its_files() {
     let (_made, tree) = tree();
     let faults = |definition: &str, function: &str| {
-        let page = format!("| Definition | Function | Theorem |\n|---|---|---|\n| {definition} | {function} | `n-law` a/F |\n");
+        let page = format!(
+            "| Definition | Function | Theorem |\n|---|---|---|\n| {definition} | {function} | `n-law` a/F |\n"
+        );
         let mut found = Found::default();
         for row in rows("PAGE", &page) {
             claims(&row, &defined(&tree), &mut found);
@@ -58,6 +60,29 @@ fn a_claim_names_its_files() {
     assert_eq!(faults("`R`, `same` a/F; `other` b/F", "-"), 0);
     assert_eq!(faults("`R` a/F; `other` a/F", "-"), 1);
     assert_eq!(faults("`R` a/F", "`a::gone`"), 1);
+}
+
+#[test]
+fn each_refusal_has_a_row() {
+    let mut found = Found::default();
+    numbers(&rows("PAGE", "| Number | When |\n|---|---|\n| 11 | x |\n| 11 | y |\n| 64 | z |\n"), &mut found);
+    assert_eq!((found.names, found.faults.len()), (28, 26));
+}
+
+#[test]
+fn names_with_their_file_are_looked_up() {
+    let (_made, tree) = tree();
+    let check = |text: &str| {
+        let mut found = Found::default();
+        mentions("PAGE", text, &defined(&tree), &mut found);
+        (found.names, found.faults.len())
+    };
+    assert_eq!(
+        check("By `n-law`, `n` (a/F), and more\n(`same`, a/F; `other`, b/F); `R 0` (crates/a/specs/F.antt)."),
+        (5, 0)
+    );
+    assert_eq!(check("By `n-law` (b/F) and (`other`,\na/F)."), (2, 2));
+    assert_eq!(check("The crate `a` (a/F), `gone` (a/G), `gone` here (a/F); a file (a/F)."), (0, 0));
 }
 
 #[test]
@@ -76,12 +101,44 @@ fn the_map_is_compared() {
 }
 
 #[test]
-fn definitions_are_followed_and_theorems_are_not() {
+fn the_crates_are_compared() {
+    let made = Made::new(&[
+        ("crates.txt", "b: a\na:\n"),
+        ("crates/a/src/lib.rt", ""),
+        ("crates/a/specs/Lib.antt", "-- Laws of x.y,\n-- and more. Others.\npub mod F\n"),
+        ("crates/b/src/lib.rt", "// Code.\nfn f() {\n}\n"),
+        ("crates/b/specs/Lib.antt", "-- Other.\n"),
+    ]);
+    let tree = Tree::load(made.top());
+    let page = map::crates_table(&tree);
+    assert_eq!(page, "| Crate | What it holds |\n|---|---|\n| b | Code. |\n| a | Laws of x.y, and more. |\n");
+    let faults = |page: &str| {
+        let mut found = Found::default();
+        map::compare_crates(&rows("TOUR", page), &tree, &mut found);
+        found.faults.len()
+    };
+    assert_eq!((faults(&page), faults(&page.replace("Code", "Text"))), (0, 1));
+}
+
+#[test]
+fn every_name_is_followed() {
     let (_made, tree) = tree();
     let at = |name: &str| tree.all().find(|(.., item)| item.name == name).map(|(f, i, ..)| (f, i)).unwrap();
     let (seen, outside) = closure(&tree, &[at("Big")]);
     assert_eq!(seen, [at("Big"), at("R"), at("n")].into());
     assert_eq!(outside.len(), 2);
+    assert_eq!(closure(&tree, &[at("idle")]).0, [at("idle"), at("R"), at("n"), at("n-law")].into());
+}
+
+#[test]
+fn what_a_host_may_call_is_listed() {
+    let code = "// Head.\npub fn free(x: u8) -> u8\n    ensures { λ r. ⌜ r ≡ x ⌝ }\n{\n    x\n}\n\npub fn bound(x: u8) -> u8\n    requires { ⌜ x < 9 ⌝ }\n{\n    x\n}\n\nfn own() {\n}\n";
+    let made = Made::new(&[("crates/host_a/src/lib.rt", code), ("crates/b/src/lib.rt", code)]);
+    let tree = Tree::load(made.top());
+    assert_eq!(unlisted(&tree, &[]), ["host_a::free is neither listed nor spared"]);
+    let free =
+        tree.all().find(|(_, _, file, item)| file.of == "host_a" && item.name == "free").map(|(f, i, ..)| (f, i));
+    assert!(unlisted(&tree, &[free.unwrap()]).is_empty());
 }
 
 #[test]

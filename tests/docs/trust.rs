@@ -8,11 +8,13 @@ use std::collections::{BTreeMap, BTreeSet};
 /// The claim: its file and its name.
 const CLAIM: (&str, &str) = ("crates/field_calls/specs/Demand.antt", "Demand3");
 
-/// The functions that a host calls, by crate; no names: all public ones of the crate.
-const CALLED: [(&str, &[&str]); 11] = [
+/// The functions that a host or one of the two programs calls, by crate; no names: all public ones of the crate.
+const CALLED: [(&str, &[&str]); 13] = [
+    ("plan", &["ceiling", "ceiling_of"]),
     ("plan_file", &["check", "read", "write"]),
     ("plan_check", &["check"]),
     ("plan_tree", &["build"]),
+    ("format_message", &["kind", "level", "find", "header"]),
     ("format_frame", &["check", "read", "write"]),
     ("host_setup", &["setup"]),
     ("host_run", &["step", "run"]),
@@ -26,12 +28,23 @@ const CALLED: [(&str, &[&str]); 11] = [
 /// The crate of the exports for C, all of them.
 const EXPORTS: &str = "host_console";
 
+/// Beside the host_ crates, those that are there to be called: each public function of theirs that asks for nothing is listed above or
+/// spared here.
+const OFFERED: [&str; 4] = ["plan_file", "plan_check", "plan_tree", "format_frame"];
+
+const SPARED: [(&str, &[&str]); 2] = [
+    // 14 and 15 alone, told whether L fits a length: for plan_file, which has the length
+    ("plan_check", &["counts_check"]),
+    // what open, left and next are made of, on bytes
+    ("host_reader", &["left_from", "step_from", "place_after"]),
+];
+
 const HEAD: &str = "\
 # What must be believed
 
-To know what is claimed, read the contracts of the first table and the definitions of the second: demand 3 and those contracts are made of
-them alone, and theorems and proofs are not among them, since the prover checks those. Then read what else is assumed, at the end. (Made by
-`tools/trust`; the tests compare it with the tree.)
+To know what demand 3 and the functions that a host calls claim, read the contracts of the first table and the definitions of the second: they
+are made of these and of the names of the toolchain's libraries below. Theorems and proofs are not among them, since the prover checks those.
+Then read what else is assumed, at the end. (Made by `tools/trust`; the tests compare it with the tree.)
 ";
 
 const LIBRARIES: &str = "\
@@ -42,20 +55,7 @@ What those definitions and contracts take from outside the repository; antt's pr
 
 pub type Key = (usize, usize);
 
-/// A definition: what computes, or a type that is stated. Others see the clauses of what is marked `abbrev` or
-/// `unfoldable`; what is not and states no type is a theorem.
-fn defines(item: &Item) -> bool {
-    let colon = item.groups.first().and_then(|g| g.tokens.iter().skip(g.own).rposition(|t| t.is("Type")));
-    item.sort != Sort::Value || item.open || colon.is_some_and(|at| ends_in_type(item, at))
-}
-
-/// Whether the signature's last arrow leads to a `Type`.
-fn ends_in_type(item: &Item, at: usize) -> bool {
-    let tokens = &item.groups[0].tokens[item.groups[0].own..];
-    !tokens[at..].iter().any(|t| t.is("→")) && tokens[at - 1..at].iter().all(|t| t.is("→") || t.is(":"))
-}
-
-/// All definitions that these rest on, themselves among them, and the names of the toolchain's libraries.
+/// All that these name, and what that names, themselves among them, and the names of the toolchain's libraries.
 pub fn closure(tree: &Tree, roots: &[Key]) -> (BTreeSet<Key>, BTreeSet<(String, String)>) {
     let (mut seen, mut outside) = (BTreeSet::new(), BTreeSet::new());
     let mut worklist = roots.to_vec();
@@ -65,8 +65,7 @@ pub fn closure(tree: &Tree, roots: &[Key]) -> (BTreeSet<Key>, BTreeSet<(String, 
         }
         for target in tree.names(f, &tree.files[f].items[i]) {
             match target {
-                Target::Item(g, j) if defines(&tree.files[g].items[j]) => worklist.push((g, j)),
-                Target::Item(..) => {}
+                Target::Item(g, j) => worklist.push((g, j)),
                 Target::Outside(module, name) => drop(outside.insert((module, name))),
             }
         }
@@ -74,29 +73,51 @@ pub fn closure(tree: &Tree, roots: &[Key]) -> (BTreeSet<Key>, BTreeSet<(String, 
     (seen, outside)
 }
 
-fn called(tree: &Tree) -> Vec<Key> {
-    let wanted = |file: &File, item: &Item| {
-        let listed = CALLED
-            .iter()
-            .any(|(of, names)| *of == file.of && (names.is_empty() || names.contains(&item.name.as_str())));
-        let export = file.of == EXPORTS && file.functions.iter().any(|g| g.exported && g.name == item.name);
-        item.sort == Sort::Function && item.public && file.path.ends_with("/src/lib.rt") && (listed || export)
-    };
+fn within(table: &[(&str, &[&str])], file: &File, item: &Item) -> bool {
+    table.iter().any(|(of, names)| *of == file.of && (names.is_empty() || names.contains(&item.name.as_str())))
+}
+
+/// The public functions of src/lib.rt.
+fn public(tree: &Tree) -> Vec<Key> {
+    let wanted =
+        |file: &File, item: &Item| item.sort == Sort::Function && item.public && file.path.ends_with("/src/lib.rt");
     tree.all().filter(|(_, _, file, item)| wanted(file, item)).map(|(f, i, ..)| (f, i)).collect()
 }
 
-/// Names of the table that no function has, functions that ask for something, or a claim that is gone.
-fn amiss(tree: &Tree, claim: &[Key], functions: &[Key]) -> Vec<String> {
-    let there = |of: &str, name: &str| {
-        functions.iter().any(|&(f, i)| tree.files[f].of == of && tree.files[f].items[i].name == name)
+fn called(tree: &Tree) -> Vec<Key> {
+    let wanted = |file: &File, item: &Item| {
+        let export = file.of == EXPORTS && file.functions.iter().any(|g| g.exported && g.name == item.name);
+        within(&CALLED, file, item) || export
     };
-    let named = CALLED.iter().flat_map(|(of, names)| names.iter().map(move |n| (*of, *n)));
+    public(tree).into_iter().filter(|&(f, i)| wanted(&tree.files[f], &tree.files[f].items[i])).collect()
+}
+
+fn asks(item: &Item) -> bool {
+    item.groups[1].tokens.iter().any(|t| t.is("requires"))
+}
+
+/// Public functions of the crates that a host calls that ask for nothing and stand in neither table.
+pub fn unlisted(tree: &Tree, functions: &[Key]) -> Vec<String> {
+    let offered = |of: &str| of.starts_with("host_") || OFFERED.contains(&of);
+    let left = public(tree).into_iter().filter(|key| !functions.contains(key));
+    let left = left.map(|(f, i)| (&tree.files[f], &tree.files[f].items[i]));
+    left.filter(|(file, item)| offered(&file.of) && !asks(item) && !within(&SPARED, file, item))
+        .map(|(file, item)| format!("{}::{} is neither listed nor spared", file.of, item.name))
+        .collect()
+}
+
+/// Names of the tables that no function has, functions that ask for something or are not listed, or a claim that is gone.
+fn amiss(tree: &Tree, claim: &[Key], functions: &[Key]) -> Vec<String> {
+    let all = public(tree);
+    let there =
+        |of: &str, name: &str| all.iter().any(|&(f, i)| tree.files[f].of == of && tree.files[f].items[i].name == name);
+    let named = CALLED.iter().chain(&SPARED).flat_map(|(of, names)| names.iter().map(move |n| (*of, *n)));
     let gone = named.filter(|(of, name)| !there(of, name)).map(|(of, name)| format!("{of}::{name} is not there"));
-    let asks = functions.iter().map(|&(f, i)| (&tree.files[f], &tree.files[f].items[i]));
-    let asks = asks.filter(|(_, item)| item.groups[1].tokens.iter().any(|t| t.is("requires")));
-    let asks = asks.map(|(file, item)| format!("{}::{} has a requires", file.of, item.name));
+    let asking = functions.iter().map(|&(f, i)| (&tree.files[f], &tree.files[f].items[i]));
+    let asking = asking.filter(|(_, item)| asks(item));
+    let asking = asking.map(|(file, item)| format!("{}::{} has a requires", file.of, item.name));
     let claim = claim.is_empty().then(|| format!("{} is not in {}", CLAIM.1, CLAIM.0));
-    gone.chain(asks).chain(claim).collect()
+    gone.chain(asking).chain(unlisted(tree, functions)).chain(claim).collect()
 }
 
 fn code(names: impl IntoIterator<Item = String>) -> String {
@@ -157,7 +178,7 @@ pub fn page(tree: &Tree) -> Result<String, Vec<String>> {
     let called = functions.len();
     Ok([
         HEAD.to_string(),
-        format!("## The contracts\n\nSignature and clauses of the {called} functions that a host calls: {contracts} lines. None has a `requires`.\n"),
+        format!("## The contracts\n\nSignature and clauses of the {called} functions that a host or one of the two programs calls: {contracts} lines. None has a `requires`.\n"),
         functions_table(tree, &functions),
         format!("## The definitions\n\nDemand 3 (`{}`, {}) rests on {}.\n", CLAIM.1, CLAIM.0, sums(tree, &of_claim)),
         files_table(tree, &all),

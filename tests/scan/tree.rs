@@ -26,8 +26,8 @@ pub struct File {
     pub ghosts: Vec<Use>,
     pub items: Vec<Item>,
     pub functions: Vec<Function>,
-    /// Whether its first line is a comment.
-    pub headed: bool,
+    /// The comment that it begins with, its lines joined.
+    pub head: String,
 }
 
 #[derive(Default)]
@@ -74,7 +74,8 @@ fn read(top: &Path, path: &Path) -> File {
     let parts: Vec<&str> = path.split('/').collect();
     let (stem, rattle) = path.strip_suffix(".rt").map_or((path.trim_end_matches(".antt"), false), |s| (s, true));
     let module = stem.split('/').skip(2).map(str::to_string).collect();
-    let headed = text.starts_with("--") || text.starts_with("//");
+    let comment = text.lines().map_while(|line| line.strip_prefix("--").or(line.strip_prefix("//")));
+    let head = comment.map(str::trim).collect::<Vec<_>>().join(" ");
     let source =
         if rattle { rattle::parse(&text) } else { rattle::Source { parsed: antt::parse(&text), ..Default::default() } };
     let (uses, items) = (source.parsed.uses, source.parsed.items);
@@ -85,7 +86,7 @@ fn read(top: &Path, path: &Path) -> File {
         items,
         ghosts: source.ghosts,
         functions: source.functions,
-        headed,
+        head,
         path,
     }
 }

@@ -118,11 +118,26 @@ pub fn lengths(tree: &Tree) -> Vec<Fault> {
     long.map(|(f, g)| fault(&f.path, g.line, format!("{}: {} lines", g.name, g.lines))).collect()
 }
 
-/// Files of antt that do not begin with a comment; Lib.antt and laws.antt hold lists of files, Proof.antt one proof.
+/// What the head of a proof begins with: the function, as callers write it.
+fn proved(file: &File) -> Option<String> {
+    let path = file.module.join("::");
+    let function = path.strip_prefix("proofs::")?.strip_suffix("::Proof")?;
+    Some(format!("{}::{function}:", file.of))
+}
+
+/// Files that do not begin with a comment, and proofs whose comment does not begin with the function. Spared: laws.antt and Lib.antt, which are
+/// lists of files, but not where the crate's source is empty, since specs/Lib.antt then says what the crate holds; and that source.
 pub fn heads(tree: &Tree) -> Vec<Fault> {
-    let spared = |path: &str| ["/Lib.antt", "/laws.antt", "/Proof.antt"].iter().any(|end| path.ends_with(end));
-    let bare = tree.files.iter().filter(|f| f.path.ends_with(".antt") && !spared(&f.path) && !f.headed);
-    bare.map(|f| fault(&f.path, 1, "no head")).collect()
+    let coded: BTreeSet<&str> =
+        tree.files.iter().filter(|f| f.path.ends_with(".rt") && !f.head.is_empty()).map(|f| f.of.as_str()).collect();
+    let list = |f: &File| f.path.ends_with("/laws.antt") || f.path.ends_with("/proofs/Lib.antt");
+    let said = |f: &File| f.path.ends_with("/specs/Lib.antt") && coded.contains(f.of.as_str());
+    let empty = |f: &File| f.path.ends_with("/src/lib.rt") && f.uses.is_empty() && f.items.is_empty();
+    let bare = tree.files.iter().filter(|f| f.head.is_empty() && !list(f) && !said(f) && !empty(f));
+    let bare = bare.map(|f| fault(&f.path, 1, "no head"));
+    let headed = tree.files.iter().filter(|f| !f.head.is_empty()).filter_map(|f| Some((f, proved(f)?)));
+    let other = headed.filter(|(f, name)| !f.head.starts_with(name.as_str()));
+    bare.chain(other.map(|(f, name)| fault(&f.path, 1, format!("the head does not begin with {name}")))).collect()
 }
 
 /// Rows of docs/TRUST.md whose file is one of laws: what must be believed stands outside specs/laws/.

@@ -11,13 +11,14 @@ const DEFINES: &str = "-- Head.\nuse M.{ℕ}\n\nunfoldable pub f : ℕ\nf = 0\n\
 const CODE: &str =
     "// Head.\nghost use Rattle.a.specs.A.{f};\n\npub fn g() -> u16\n    ensures { λ r. ⌜ r ≡ f ⌝ }\n{\n    0\n}\n";
 const PROOF: &str =
-    "use Rattle.a.specs.A.{f-law}\nuse Rattle.b.proofs.g.Tie as tie\n\npub g-spec : tie.T\ng-spec = f-law\n";
+    "-- b::g: by `f-law`.\nuse Rattle.a.specs.A.{f-law}\nuse Rattle.b.proofs.g.Tie as tie\n\npub g-spec : tie.T\ng-spec = f-law\n";
 
 /// A clean tree with one file more, or one replaced.
 fn with(path: &str, text: &str) -> Made {
     let clean = [
         ("crates.txt", LISTED),
-        ("crates/a/specs/Lib.antt", "pub mod A\n"),
+        ("crates/a/specs/Lib.antt", "-- Head.\npub mod A\n"),
+        ("crates/a/src/lib.rt", ""),
         ("crates/a/specs/A.antt", DEFINES),
         ("crates/b/src/lib.rt", CODE),
         ("crates/b/proofs/g/Proof.antt", PROOF),
@@ -66,7 +67,7 @@ fn an_idle_definition() {
     std::fs::write(made.top().join("docs/PAGE.md"), "The name `idle` is said here.\n").unwrap();
     assert!(found(made.top()).iter().all(Vec::is_empty));
     let proof = PROOF.replace("pub g-spec", "idle : tie.T\nidle = f-law\n\npub g-spec");
-    assert_eq!(only(with("crates/b/proofs/g/Proof.antt", &proof).top(), 1), ["crates/b/proofs/g/Proof.antt:4: idle"]);
+    assert_eq!(only(with("crates/b/proofs/g/Proof.antt", &proof).top(), 1), ["crates/b/proofs/g/Proof.antt:5: idle"]);
 }
 
 #[test]
@@ -90,8 +91,17 @@ fn a_file_without_a_head() {
         only(with("crates/a/specs/laws/C.antt", "\n-- Late.\n").top(), 5),
         ["crates/a/specs/laws/C.antt:1: no head"]
     );
-    let made = with("crates/a/specs/laws.antt", "pub mod C\n");
-    assert!(found(made.top()).iter().all(Vec::is_empty));
+    for (path, text) in [("a/specs/Lib.antt", "pub mod A\n"), ("b/src/lib.rt", &CODE[9..])] {
+        assert_eq!(only(with(&format!("crates/{path}"), text).top(), 5), [format!("crates/{path}:1: no head")]);
+    }
+    let bare = PROOF.replace("-- b::g: by `f-law`.\n", "");
+    let path = "crates/b/proofs/g/Proof.antt";
+    assert_eq!(only(with(path, &bare).top(), 5), [format!("{path}:1: no head")]);
+    let other = PROOF.replace("b::g:", "b::h:");
+    assert_eq!(only(with(path, &other).top(), 5), [format!("{path}:1: the head does not begin with b::g:")]);
+    for list in ["crates/a/specs/laws.antt", "crates/b/specs/Lib.antt", "crates/b/proofs/Lib.antt"] {
+        assert!(found(with(list, "pub mod C\n").top()).iter().all(Vec::is_empty), "{list}");
+    }
 }
 
 #[test]

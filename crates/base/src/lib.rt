@@ -1,4 +1,5 @@
-// Besides the laws of specs/ the numbers that code of every layer names; specs/None.antt and specs/Limits.antt have them for definitions.
+// Laws of lists, tables, sums and loops (specs/), and the numbers that code of every layer names. specs/None.antt and specs/Limits.antt have these numbers for
+// definitions.
 
 // "none" of document 01: no link.
 pub const NONE: u16 = 65535;

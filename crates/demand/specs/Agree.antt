@@ -1,4 +1,4 @@
--- What a good state says of the tree: always, and at rest.
+-- What a good state says of the tree: always (`branch-tree`), and at rest (`agreed`; part by part `part-finished`).
 use Prim.Native.Nat.{ℕ, _<_}
 use native.Mathlib.Omega.{arith}
 use mathlib.Core.Path.{_≡_, refl, sym, ap, _∙_}

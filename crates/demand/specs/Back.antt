@@ -1,4 +1,4 @@
--- The messages that an awake node puts back are those that the protocol calls blocked.
+-- The messages that an awake node puts back are those that the protocol calls blocked (`back-blocked`).
 use Prim.Native.Nat.{ℕ}
 use native.Mathlib.Omega.{arith}
 use mathlib.Core.Path.{_≡_, _∙_}

@@ -1,4 +1,4 @@
--- DEMAND 3: proved, with no premise.
+-- DEMAND 3: proved, with no premise (`demand3`).
 use Rattle.plan.specs.laws.Accepted.{Accepted}
 use Rattle.plan.specs.Links.{Plan}
 use Rattle.field_calls.specs.Demand.{Demand3}

@@ -1,4 +1,4 @@
--- GOOD STATES of a field: those that the protocol reaches, seen without its ghosts. What a response does to them.
+-- GOOD STATES of a field: those that the protocol reaches, seen without its ghosts. Setup is one (`good-start`), and what a response leaves (`good-after`).
 use Prim.Native.Nat.{ℕ, _+_, _<_}
 use mathlib.Core.Path.{_≡_, refl, sym, ap, ap₂, subst, _∙_}
 use mathlib.Core.Bool.{false, true≢false}

@@ -1,4 +1,4 @@
--- Good states in which every waiting message is blocked, or nothing waits.
+-- Good states in which every waiting message is blocked have none (`stuck-none`); where nothing waits the protocol is at rest (`at-rest`).
 use Prim.Native.Nat.{ℕ}
 use mathlib.Core.Path.{_≡_, refl, sym, ap, ap₂, subst, _∙_}
 use mathlib.Core.Logic.{_≢_, ⊎-elim}

@@ -1,4 +1,4 @@
--- EVERY STEP, taken or refused, leaves a good state good, and 32 and 33 refuse none.
+-- EVERY STEP, taken or refused, leaves a good state good, and 32 and 33 refuse none (`step-fine`).
 use Prim.Native.Nat.{ℕ, _+_, _*_, _≤_, _<_}
 use native.Mathlib.Omega.{arith}
 use mathlib.Core.Path.{_≡_, refl, sym, ap, subst, _∙_}

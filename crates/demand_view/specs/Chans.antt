@@ -1,4 +1,4 @@
--- The channels of the view: what sends, a hand-over, a service and a put-back do to them.
+-- The channels of the view: what sends (`chans-post`), a hand-over (`chans-hand`), a service (`chans-taken`) and a put-back (`chans-back`) do to them.
 use Prim.Native.Nat.{ℕ, _*_, _<_}
 use mathlib.Core.Path.{_≡_, refl, sym, ap, ap₂, subst, _∙_, fun-ext}
 use mathlib.Core.Logic.{_≢_, _⊎_, inl, inr, ⊎-elim}

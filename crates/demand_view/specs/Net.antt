@@ -1,4 +1,5 @@
--- An accepted plan as the protocol sees it: its graph, its nodes, the order of its edges. Directed links are the channels of that graph.
+-- An accepted plan as the protocol sees it (`net`): its graph, its nodes, the order of its edges. Directed links are the channels of that graph (`ends-of`,
+-- `dest-is`).
 use Prim.Native.Nat.{ℕ, _*_, _%_, _<_}
 use native.Mathlib.Omega.{arith}
 use mathlib.Core.Path.{_≡_, refl, subst, _∙_}

@@ -1,4 +1,4 @@
--- A response that is placed in the field is placed in the view: after a wakeup, a message taken, a message put back.
+-- A response that is placed in the field is placed in the view: after a wakeup (`view-woken`), a message taken (`view-taken`), a message put back (`view-back`).
 use Prim.Native.Nat.{ℕ, _*_, _<_}
 use mathlib.Core.Path.{_≡_, sym, ap, ap₂, _∙_}
 use mathlib.Core.Bool.{true, false}

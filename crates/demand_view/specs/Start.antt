@@ -1,4 +1,4 @@
--- The view of a setup is the protocol's setup.
+-- The view of a setup is the protocol's setup (`view-start`).
 use Prim.Native.Nat.{ℕ}
 use native.Mathlib.Omega.{arith}
 use mathlib.Core.Path.{_≡_, refl, ap, ap₂, _∙_, fun-ext}
@@ -12,6 +12,7 @@ use Rattle.field.specs.Edges.{isOwn, endOf, marksIn}
 use Rattle.field.specs.State.{nodeIn}
 use Rattle.field.specs.Held.{stateOf, freshCells, fresh}
 use Rattle.field.specs.Valid.{waitingIn}
+use Rattle.base.specs.Limits.{maxModules, maxEnds}
 use Rattle.base.specs.Keep.{keep}
 use Rattle.plan.specs.Links.{Plan, modulesOf}
 use Rattle.field.specs.laws.Edges.{mark-own, mark-not}
@@ -25,16 +26,16 @@ use Rattle.demand_view.specs.View.{nodes, chans, tables, view}
 use Rattle.demand_view.specs.Chans.{chans-own, chans-not}
 
 module _ (p : Plan) (a : Accepted p) where
-  nodes-fresh : nodes p (freshCells 192) ≡ (λ v. setup)
+  nodes-fresh : nodes p (freshCells maxModules) ≡ (λ v. setup)
   unfolding nodes
-  nodes-fresh = fun-ext (λ v. ltb-cases v (modulesOf p) (λ b. cond b (nodeIn (freshCells 192) v) setup ≡ setup)
+  nodes-fresh = fun-ext (λ v. ltb-cases v (modulesOf p) (λ b. cond b (nodeIn (freshCells maxModules) v) setup ≡ setup)
       (λ l. fresh-node v (omega (arith, a .modulesOk))) (λ l. refl))
 
-  marks-fresh : marksIn p (replicate 1200 0) ≡ (λ v k. 0)
+  marks-fresh : marksIn p (replicate maxEnds 0) ≡ (λ v k. 0)
   marks-fresh = fun-ext (λ v. fun-ext (λ k. bool-cases (isOwn p v k)
-      (λ o. mark-own p v k (replicate 1200 0) o
-      ∙ getD-replicate {A = ℕ} 1200 (endOf p v k) 0 0 (omega (arith, over-below p v k o, a .linksOk)))
-      (λ o. mark-not p v k (replicate 1200 0) o)))
+      (λ o. mark-own p v k (replicate maxEnds 0) o
+      ∙ getD-replicate {A = ℕ} maxEnds (endOf p v k) 0 0 (omega (arith, over-below p v k o, a .linksOk)))
+      (λ o. mark-not p v k (replicate maxEnds 0) o)))
 
   -- nothing waits
   pub chans-none : (v k : ℕ) → chans p [] v k ≡ []

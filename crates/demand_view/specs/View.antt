@@ -1,4 +1,5 @@
--- A field's state as the protocol's tables: one value of each module, the marks, and the channels of the directed links.
+-- A field's state as the protocol's tables (`view`): one value of each module, the marks, and the channels of the directed links. Nodes and marks placed
+-- (`nodes-put`, `marks-put`, `place-tables`).
 use Prim.Native.Nat.{ℕ, _*_, _≤_, _<_}
 use native.Mathlib.Omega.{arith}
 use mathlib.Core.Path.{_≡_, refl, sym, ap, subst, _∙_, fun-ext}

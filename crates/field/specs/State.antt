@@ -5,6 +5,7 @@ use mathlib.Core.List.{List, [], _∷_, _++_, map}
 use lib.ListN.{length, getD}
 use lib.Seq.{sets}
 use lib.Dec.{eqb, ltb}
+use Rattle.base.specs.Limits.{maxModules}
 use Rattle.format_message.specs.Msg.{Msg}
 use Rattle.format_message.specs.Header.{headerOf, carriedOf, meant}
 use Rattle.format_word.specs.Word.{packed, headerIn, carriedIn}
@@ -20,9 +21,9 @@ pub record State : Type 0 where
   pub words : List ℕ
   pub sent : ℕ
 
--- the cells of 192 modules
+-- the cells of all modules that a field has room for
 abbrev pub CELLS : ℕ
-CELLS = 192 * WIDTH
+CELLS = maxModules * WIDTH
 
 -- value j of module v stands at this cell
 abbrev pub cellOf : ℕ → ℕ → ℕ

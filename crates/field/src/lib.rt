@@ -1,4 +1,5 @@
-// The field: its plan, a record of WIDTH cells for each module, a mark for each end of each link, the sent count.
+// The field, its steps and refusal 31 as definitions (specs/), and its record. That is its plan, WIDTH cells for each module, a mark for each end of each
+// link, the sent count.
 // (A network state; the messages under way lie in words that the caller lends.)
 use base::MAX_ENDS;
 use base::MAX_MODULES;

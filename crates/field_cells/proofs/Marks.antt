@@ -1,4 +1,4 @@
--- A written mark is the module's table of marks changed at that link, and marks that are not written are the table as it was.
+-- A written mark is the module's table of marks changed at that link, and marks that are not written are the table as it was (`one-mark`, `mark-put`).
 use Prim.Native.Nat.{ℕ, _*_, _≤_, _<_}
 use native.Mathlib.Omega.{arith}
 use mathlib.Core.Path.{_≡_, refl, sym, ap, subst, _∙_}

@@ -1,4 +1,4 @@
--- A run of stores, one at each turn of a loop.
+-- A run of stores, one at each turn of a loop (`run-start`, `run-turn`, `run-over`).
 use Prim.Native.Nat.{ℕ, suc, _+_, _≤_, _<_}
 use native.Mathlib.Nat.{add-zero}
 use native.Mathlib.Omega.{arith}

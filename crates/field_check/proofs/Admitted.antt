@@ -1,4 +1,5 @@
--- A field that was checked for 31: refused, or its arrays are the state that steps work on; and the field put together again from the arrays.
+-- A field that was checked for 31: refused (`invalid`), or its arrays are the state that steps work on (`passes`, `starts`); and the field put together
+-- again from the arrays (`again`).
 use Prim.Native.Nat.{ℕ}
 use mathlib.Core.Path.{_≡_, sym, ap, _∙_}
 use mathlib.Core.Bool.{true, false, not}

@@ -1,4 +1,4 @@
--- Counting the links of each module: one link more raises the counts of its two modules.
+-- Counting the links of each module: one link more raises the counts of its two modules (`counted-on`).
 use Prim.Native.Nat.{ℕ, zero, suc, _+_, _≤_, _<_}
 use native.Mathlib.Omega.{arith}
 use native.Mathlib.Numerals.{add-one}

@@ -1,4 +1,4 @@
--- The check by its outcomes.
+-- The check for 31 by its outcomes: the plan (`valid-plan`), fewer words than M (`valid-few`), a gap (`valid-gap`), else what `fits` says (`valid-fits`).
 use Prim.Native.Nat.{ℕ, _≤_, _<_}
 use mathlib.Core.Path.{_≡_}
 use mathlib.Core.Logic.{_≢_}

@@ -1,4 +1,4 @@
--- A field that passes 31 is ready for steps.
+-- A field that passes 31 is ready for steps (`ready`).
 use Prim.Native.Nat.{ℕ, _≤_}
 use native.Mathlib.Omega.{arith}
 use mathlib.Core.Path.{_≡_, sym, ap, subst, _∙_}

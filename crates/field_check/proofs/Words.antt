@@ -1,4 +1,5 @@
--- Scans of words from place i on: one law for each outcome of a turn.
+-- Scans of words from place i on: one law for each outcome of a turn (`all-`, `wait-`). What waits is the front of the lent words (`front`), the rest
+-- lies `behind`.
 use Prim.Native.Nat.{ℕ, _+_, _-_, _≤_, _<_}
 use native.Mathlib.Omega.{arith}
 use native.Mathlib.Numerals.{add-one}

@@ -1,4 +1,5 @@
--- Setup, and lists of calls from it on: never 31, the counts are exact, an invariant of the steps holds after every list.
+-- Setup (`started`), and lists of calls from it on: never 31 (`after-live`), the counts are exact (`list-counts`), an invariant of the steps holds after
+-- every list (`list-keeps`).
 use Prim.Native.Nat.{ℕ, zero, suc, _+_, _≤_, _<_}
 use native.Mathlib.Omega.{arith}
 use native.Mathlib.Nat.{not-suc-le-zero}
@@ -10,6 +11,7 @@ use lib.Seq.{getD-append-add}
 use lib.Dec.{ltb}
 use borrow.Author.Tests.{le-leb, eq-eqb}
 use Rattle.base.specs.laws.Cond.{eqb-cases, ltb-cases}
+use Rattle.base.specs.Limits.{maxModules, maxEnds}
 use Rattle.base.specs.Loop.{After, takenTo}
 use Rattle.base.specs.Pool.{nil}
 use Rattle.plan.specs.Refusal.{planRefusal}
@@ -43,8 +45,8 @@ fresh-at (suc n) (suc v) l j h =
     let e : cellOf (suc v) j ≡ length (values setup) + cellOf v j = omega arith in
     ap (λ i. getD (values setup ++ freshCells n) i 0) e ∙ getD-append-add (values setup) (freshCells n) (cellOf v j) 0 ∙ fresh-at n v (omega arith) j h
 
-pub fresh-node : (v : ℕ) → v < 192 → nodeIn (freshCells 192) v ≡ setup
-fresh-node v l = node-by (λ j. getD (freshCells 192) (cellOf v j) 0) (λ j. getD (values setup) j 0) (fresh-at 192 v l)
+pub fresh-node : (v : ℕ) → v < maxModules → nodeIn (freshCells maxModules) v ≡ setup
+fresh-node v l = node-by (λ j. getD (freshCells maxModules) (cellOf v j) 0) (λ j. getD (values setup) j 0) (fresh-at maxModules v l)
 
 -- what a setup that is not refused leaves
 pub record Started (p : Plan) (lent : List ℕ) (h : Held) : Type 0 where
@@ -75,7 +77,7 @@ module _ (p : Plan) (lent : List ℕ) (a : planRefusal p ≡ 0) (room : ceilingO
   fresh-fits = record {
     words = rw (waiting-zeros (length lent)) nil;
     nodes = λ v l. subst (NodeOk (ownOf p v) (limitOf p)) (sym (fresh-node v (omega (arith, accepted p a .modulesOk)))) (ok-fresh (ownOf p v) (limitOf p) ASLEEP 0 (omega arith) (omega arith));
-    marks = λ d l. rw (getD-replicate {A = ℕ} 1200 d 0 0 (omega (arith, accepted p a .linksOk))) (omega arith);
+    marks = λ d l. rw (getD-replicate {A = ℕ} maxEnds d 0 0 (omega (arith, accepted p a .linksOk))) (omega arith);
     waiting = rw (waiting-zeros (length lent)) (omega arith);
     ceiling = omega arith;
   }
@@ -86,8 +88,8 @@ module _ (p : Plan) (lent : List ℕ) (a : planRefusal p ≡ 0) (room : ceilingO
   pub begun-live : Live begun
   unfolding valid
   begun-live = record {
-    cells = omega (arith, fresh-length 192);
-    marks = omega (arith, length-replicate {A = ℕ} 1200 0);
+    cells = omega (arith, fresh-length maxModules);
+    marks = omega (arith, length-replicate {A = ℕ} maxEnds 0);
     valid =
         ap₂ _&&_ (ap₂ _&&_ (ap₂ _&&_ (eq-eqb _ _ a) (le-leb (ceilingOf p) (length (replicate (length lent) 0)) (omega (arith, length-replicate {A = ℕ} (length lent) 0, room)))) zeros-after)
         (facts-fits p (stateOf begun) fresh-fits);

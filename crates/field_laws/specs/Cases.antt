@@ -1,4 +1,5 @@
--- THE way to reason on a step: it is refused and leaves the state, or it is taken and these are the facts.
+-- THE way to reason on a step: it is refused and leaves the state, or it is taken and these are the facts (`wake-outcome`, `hand-outcome`,
+-- `serve-outcome`, `step-outcome`).
 use Prim.Native.Nat.{ℕ, _+_, _*_, _≤_, _<_}
 use native.Mathlib.Omega.{arith}
 use mathlib.Core.Path.{_≡_, refl}

@@ -1,4 +1,5 @@
--- The channel of a directed link: its handed-over words in store order, then its others. Four laws connect it with the store.
+-- The channel of a directed link: its handed-over words in store order, then its others. Laws connect it with the store: a hand-over (`hand-chan`), a word
+-- taken (`take-own`, `take-other`), put back (`back-own`, `back-other`), sent (`chan-down`).
 use Prim.Native.Nat.{ℕ, _/_, _^_}
 use mathlib.Core.Path.{_≡_, refl, sym, ap, ap₂, subst, _∙_}
 use mathlib.Core.Logic.{_≢_}

@@ -1,4 +1,5 @@
--- The laws of the channels over the steps themselves, from any state that passes 31. `chan d (s .words)` is the channel of directed link d in state s.
+-- The laws of the channels over the steps themselves, from any state that passes 31: `hand-leaves`, `wake-appends`, `serve-takes`, `serve-puts-back`,
+-- `serve-appends`. `chan d (s .words)` is the channel of directed link d in state s.
 use Prim.Native.Nat.{ℕ, _*_, _<_}
 use mathlib.Core.Path.{_≡_, refl, sym, ap, subst, _∙_}
 use mathlib.Core.Logic.{_≢_}

@@ -1,5 +1,5 @@
--- "the sent count is exact": it grows by the sends of each step that is taken, and by nothing else. "A message waits, in one word, from its send
--- until a service that does not put it back": the words that wait are those of the sends, without those that such services took.
+-- The sent count is exact: it grows by the sends of each step that is taken, and by nothing else; and the words that wait are those of the sends, without
+-- those that services took and did not put back (`step-counts`, `call-counts`).
 use Prim.Native.Nat.{ℕ, _+_}
 use native.Mathlib.Omega.{arith}
 use mathlib.Core.Path.{_≡_, refl, sym, ap, subst, _∙_}

@@ -1,4 +1,4 @@
--- Refusal 31 as facts: what the test `fits` says of a state, both ways.
+-- Refusal 31 as facts: what the test `fits` says of a state, both ways (`fits-facts`, `facts-fits`).
 use Prim.Native.Nat.{ℕ, _*_, _/_, _^_, _≤_, _<_}
 use native.Mathlib.Omega.{arith}
 use mathlib.Core.Path.{_≡_, refl, ap, _∙_}
@@ -9,6 +9,7 @@ use lib.ListN.{length, getD}
 use lib.Dec.{eqb, ltb, leb}
 use borrow.Author.Tests.{ltb-true, leb-true, eqb-true, eqb-false, not-true, lt-ltb, le-leb, eq-eqb, ne-eqb}
 use Rattle.base.specs.laws.Cond.{eqb-cases}
+use Rattle.base.specs.Limits.{maxLinks}
 use Rattle.base.specs.None.{none}
 use Rattle.base.specs.Test.{every}
 use Rattle.base.specs.laws.Test.{every-all, all-every}
@@ -210,7 +211,7 @@ module _ (o : Own) (limit : ℕ) where
   carried-within (report w) h = h
   carried-within change h = inl refl
 
-  pub msg-listed : limit < 8 → o.edges ≤ 600 → (m : Msg) → MsgOk o limit m → Listed m
+  pub msg-listed : limit < 8 → o.edges ≤ maxLinks → (m : Msg) → MsgOk o limit m → Listed m
   msg-listed a b (connect l) h = omega arith
   msg-listed a b (initiate l i f) h = (h .0, omega (arith, h .1), omega (arith, h .2), h .3)
   msg-listed a b (test l i) h = (h .0, omega (arith, h .1), omega (arith, h .2))

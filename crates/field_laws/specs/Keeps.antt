@@ -1,4 +1,5 @@
--- A step that is taken keeps the field valid in the sense of 31, from any valid field; one that is refused leaves it. So a run checks 31 once.
+-- A step that is taken keeps the field valid in the sense of 31, from any valid field; one that is refused leaves it (`step-keeps`, `step-lengths`). So a
+-- run checks 31 once.
 use Prim.Native.Nat.{ℕ, suc, _+_, _*_, _≤_, _<_}
 use native.Mathlib.Omega.{arith}
 use mathlib.Core.Path.{_≡_, refl, sym, ap, subst}

@@ -1,5 +1,5 @@
--- The lent words and the field: waiting words are laid out and read back, a call on what the host holds is the call on its state, and a field
--- that passes 31 passes it ever after.
+-- The lent words and the field: waiting words are laid out and read back (`layout-back`, `layout-zeros`), a call on what the host holds is the call on its
+-- state (`does-state`), and a field that passes 31 passes it ever after (`does-live`). A refused call alters nothing (`refused-alters-nothing`).
 use Prim.Native.Nat.{ℕ, zero, suc, _-_, _≤_}
 use native.Mathlib.Omega.{arith}
 use mathlib.Core.Path.{_≡_, refl, sym, ap, ap₂, _∙_}
@@ -11,6 +11,7 @@ use lib.Seq.{drop-append-seam}
 use lib.Dec.{eqb, leb}
 use borrow.Author.Tests.{eqb-true, leb-true, eq-eqb, ne-eqb}
 use Rattle.base.specs.laws.Cond.{bool-cases, eqb-cases, eqb-diff}
+use Rattle.base.specs.Limits.{maxEnds}
 use Rattle.base.specs.Loop.{After}
 use Rattle.base.specs.Pool.{All, nil, con}
 use Rattle.base.specs.laws.Pool.{All-map}
@@ -76,7 +77,7 @@ module _ (n : ℕ) (words : List ℕ) (l : length words ≤ n) where
 -- the arrays of a field hold 192 modules and 600 links; and 31 does not apply
 pub record Live (h : Held) : Type 0 where
   pub cells : CELLS ≤ length (h .field .cells)
-  pub marks : 1200 ≤ length (h .field .marks)
+  pub marks : maxEnds ≤ length (h .field .marks)
   pub valid : valid h ≡ true
 
 module _ (h : Held) (i : Live h) where

@@ -1,4 +1,5 @@
--- A node's values, its marks and its sends stay within document 01's lists: every response keeps them there, also one that is refused.
+-- A node's values, its marks and its sends stay within document 01's lists: every response keeps them there, also one that is refused (`ok-fresh`,
+-- `ok-wakeup`, `ok-respond`).
 use Prim.Native.Nat.{ℕ, zero, suc, _+_, _-_, _≤_, _<_}
 use native.Mathlib.Omega.{arith}
 use mathlib.Core.Path.{_≡_, refl}

@@ -1,4 +1,5 @@
--- The messages themselves: the words carry what was sent until it is consumed. For every list of calls from a state in which nothing waits.
+-- The messages themselves: the words carry what was sent until it is consumed. For every list of calls from a state in which nothing waits
+-- (`times-conserved`, `number-conserved`).
 use Prim.Native.Nat.{ℕ, _+_}
 use native.Mathlib.Omega.{arith}
 use mathlib.Core.Path.{_≡_, refl, sym, ap, ap₂, subst, _∙_}

@@ -1,4 +1,5 @@
--- A response placed in the field: what is read there afterwards. And the numbers of directed links.
+-- A response placed in the field: what is read there afterwards (`node-same`, `node-other`, `mark-same`, `mark-other`). And the numbers of directed links
+-- (`link-over`, `from-over`, `over-from`).
 use Prim.Native.Nat.{ℕ, zero, suc, _+_, _-_, _*_, _%_, _≤_, _<_}
 use native.Mathlib.Nat.{not-suc-le-zero, add-zero}
 use native.Mathlib.Omega.{arith}

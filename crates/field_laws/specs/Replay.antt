@@ -1,4 +1,5 @@
--- The steps taken, one after the other, lead from the start to the end: `trail` tells what was done. And how a run ends, of a schedule or of rounds.
+-- The steps taken, one after the other, lead from the start to the end: `trail` tells what was done (`call-replay`, `replay`). And how a run ends, of a
+-- schedule or of rounds (`run-ends`, `rounds-end`).
 use Prim.Native.Nat.{ℕ, zero, suc, _+_, _*_, _<_}
 use native.Mathlib.Omega.{arith}
 use mathlib.Core.Path.{_≡_, refl, ap, _∙_}

@@ -1,4 +1,4 @@
--- All sends of a response at once, in the words and in the channels.
+-- All sends of a response at once, in the words (`posted-carry`, `length-posted`) and in the channels (`post-chan`).
 use Prim.Native.Nat.{ℕ, suc, _<_}
 use native.Mathlib.Omega.{arith}
 use mathlib.Core.Path.{_≡_, refl, sym, ap, ap₂, _∙_}
@@ -8,6 +8,7 @@ use mathlib.Core.List.{List, [], _∷_, _++_, append-assoc, append-nil, map}
 use lib.ListN.{length}
 use lib.Dec.{eqb}
 use Rattle.base.specs.laws.Cond.{eqb-cases, eqb-same, eqb-diff}
+use Rattle.base.specs.Limits.{maxLinks}
 use Rattle.base.specs.Pool.{All, nil, con}
 use Rattle.format_message.specs.Msg.{Msg}
 use Rattle.format_message.specs.Header.{headerOf, carriedOf}
@@ -27,7 +28,7 @@ use Rattle.field_laws.specs.Places.{from-over}
 -- a send that a word can hold
 pub record Packs (x : Send) : Type 0 where
   pub listed : Listed (x .msg)
-  pub small : x .edge < 600
+  pub small : x .edge < maxLinks
 
 pub same-message : {d e g h b c : ℕ} → d ≡ e → g ≡ h → b ≡ c → _≡_ {A = Message} (record { link = d; header = g; carried = b }) (record { link = e; header = h; carried = c })
 same-message i j k = cc

@@ -1,4 +1,4 @@
--- From steps to calls: what holds of each step, taken or refused, holds of each turn, round, run and call.
+-- From steps to calls: what holds of each step, taken or refused, holds of each turn, round, run and call (`call-tells`, `call-keeps`).
 use Prim.Native.Nat.{ℕ, _*_}
 use mathlib.Core.Bool.{cond}
 use mathlib.Core.List.{List, [], _++_}

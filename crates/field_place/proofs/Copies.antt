@@ -1,4 +1,4 @@
--- The copies of a message, link by link.
+-- The copies of a message, link by link (`copies-on`, `each-number`).
 use Prim.Native.Nat.{ℕ, zero, suc, _+_, _≤_}
 use native.Mathlib.Omega.{arith}
 use native.Mathlib.Numerals.{add-one}

@@ -1,4 +1,4 @@
--- A message by its numbers: the header that the code packs is the message's.
+-- A message by its numbers: the header that the code packs is the message's (`packet-header`, `packet-word`).
 use Prim.Native.Nat.{ℕ}
 use mathlib.Core.Path.{_≡_, refl, sym, ap, _∙_}
 use mathlib.Core.Logic.{_≢_}

@@ -1,4 +1,4 @@
--- Lots of messages put one after the other.
+-- Lots of messages put one after the other (`put-many`, `lots`).
 use Prim.Native.Nat.{ℕ, _+_, _≤_}
 use native.Mathlib.Omega.{arith}
 use mathlib.Core.Path.{_≡_, refl, sym, ap, subst, _∙_}

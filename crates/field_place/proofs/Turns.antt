@@ -1,4 +1,4 @@
--- The loop over the links that writes the copies of a message.
+-- The loop over the links that writes the copies of a message (`copying-start`, `copying-room`, `copying-on`).
 use Prim.Native.Nat.{ℕ, _+_, _≤_, _<_}
 use native.Mathlib.Nat.{add-zero}
 use native.Mathlib.Omega.{arith}

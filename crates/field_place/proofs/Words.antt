@@ -1,4 +1,4 @@
--- Words that go to the end, one lot after the other.
+-- Words that go to the end, one lot after the other (`posted-one`, `posted-then`).
 use Prim.Native.Nat.{ℕ, _+_, _≤_}
 use native.Mathlib.Nat.{add-zero}
 use native.Mathlib.Omega.{arith}

@@ -1,4 +1,5 @@
--- A module that was woken stays awake, and nobody else is awake: after a list of calls from a setup exactly the modules woken in it are awake.
+-- A module that was woken stays awake, and nobody else is awake: after a list of calls from a setup exactly the modules woken in it are awake
+-- (`exactly-woken`, `others-asleep`).
 use Prim.Native.Nat.{ℕ, _<_}
 use native.Mathlib.Omega.{arith}
 use mathlib.Core.Path.{_≡_, refl, sym, ap, ap₂, subst, _∙_}

@@ -1,4 +1,4 @@
--- What the protocol has to say for rounds to come to rest; and what a state that stands still keeps.
+-- What the protocol has to say for rounds to come to rest (`Calm`); and what a state that stands still keeps (`still-same`, `still-progress`, `still-blocked`).
 use Prim.Native.Nat.{ℕ, _+_, _-_}
 use native.Mathlib.Omega.{arith}
 use mathlib.Core.Path.{_≡_, refl, ap, ap₂, subst, _∙_}

@@ -1,4 +1,5 @@
--- The first half of a round: every directed link hands over all that it holds. No hand-over is refused, and afterwards every word is in a queue.
+-- The first half of a round: every directed link hands over all that it holds. No hand-over is refused (`handing`), and afterwards every word is in a queue
+-- (`all-handed`).
 use Prim.Native.Nat.{ℕ, suc, _+_, _*_, _/_, _^_, _<_}
 use native.Mathlib.Omega.{arith}
 use native.Mathlib.Nat.{not-suc-le-zero}

@@ -1,4 +1,5 @@
--- Progress: messages consumed and nodes awake. A service raises it, or puts back a message that is blocked and changes nothing else.
+-- Progress: messages consumed and nodes awake, at most M + N (`progress-le`). A service raises it, or puts back a message that is blocked and changes
+-- nothing else (`serve-moves`).
 use Prim.Native.Nat.{ℕ, suc, _+_, _-_, _*_, _≤_, _<_}
 use native.Mathlib.Omega.{arith}
 use mathlib.Core.Path.{_≡_, refl, sym, ap, ap₂, subst, _∙_}

@@ -1,4 +1,4 @@
--- DEMAND 3 FROM THE PROTOCOL: what remains to be shown of one field, step by step, for all that the demand says of lists of calls.
+-- DEMAND 3 FROM THE PROTOCOL: what remains to be shown of one field, step by step, for all that the demand says of lists of calls (`demand3-from`).
 use Prim.Native.Nat.{ℕ, _+_, _≤_}
 use native.Mathlib.Omega.{arith}
 use mathlib.Core.Path.{_≡_, refl, sym, ap, subst, _∙_}

@@ -1,4 +1,4 @@
--- Rounds come to rest: each that starts with a word waiting raises progress, which is at most M + N.
+-- Rounds come to rest (`rested`): each that starts with a word waiting raises progress (`rounded`), which is at most M + N.
 use Prim.Native.Nat.{ℕ, zero, suc, _+_, _*_, _/_, _^_, _≤_, _<_}
 use native.Mathlib.Omega.{arith}
 use mathlib.Core.Path.{_≡_, refl, ap, ap₂, subst}

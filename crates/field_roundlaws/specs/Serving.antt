@@ -1,5 +1,5 @@
 -- The second half of a round: every node serves as many as its queue held. No service is refused, and where progress does not rise each word of
--- the queues was blocked.
+-- the queues was blocked (`served-phase`).
 use Prim.Native.Nat.{ℕ, suc, _≤_, _<_}
 use native.Mathlib.Omega.{arith}
 use native.Mathlib.Nat.{not-suc-le-zero}

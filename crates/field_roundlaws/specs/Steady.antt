@@ -1,4 +1,5 @@
--- A response wakes its node or leaves it awake; it puts a message back only for the reason of its kind, and then does nothing else.
+-- A response wakes its node or leaves it awake (`steady-wake`, `ends-awake`); it puts a message back only for the reason of its kind, and then does
+-- nothing else (`PutsBack`).
 use Prim.Native.Nat.{ℕ, _+_, _≤_, _<_}
 use native.Mathlib.Omega.{arith}
 use mathlib.Core.Path.{_≡_, refl, sym, subst}

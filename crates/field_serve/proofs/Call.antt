@@ -1,4 +1,4 @@
--- A call of a host that passed 31: its steps over the field's arrays, then the field put together again.
+-- A call of a host that passed 31: its steps over the field's arrays, then the field put together again (`step-stands`, `run-stands`).
 use Prim.Native.Nat.{ℕ}
 use mathlib.Core.Path.{_≡_, ap, _∙_}
 use mathlib.Core.List.{List}

@@ -1,4 +1,4 @@
--- What the code wrote is the response carried out.
+-- What the code wrote is the response carried out (`out-32`, `out-33`, `out-placed`).
 use Prim.Native.Nat.{ℕ, _+_, _*_, _≤_, _<_}
 use native.Mathlib.Omega.{arith}
 use mathlib.Core.Path.{_≡_, refl, sym, ap, _∙_}

@@ -1,4 +1,5 @@
--- Turns one after the other that may rest, in lent arrays: what the code's loops keep, and one law for each outcome of a turn.
+-- Turns one after the other that may rest, in lent arrays: what the code's loops keep (`Going`), and one law for each outcome of a turn (`goes-rest`,
+-- `goes-on`, `goes-off`, `goes-over`).
 use Prim.Native.Nat.{ℕ, _+_, _≤_, _<_}
 use mathlib.Core.Path.{_≡_, refl, sym, ap, _∙_}
 use mathlib.Core.Logic.{_≢_}

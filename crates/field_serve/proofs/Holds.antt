@@ -1,4 +1,4 @@
--- Words put behind those that wait, one after the other.
+-- Words put behind those that wait, one after the other (`holds`, `holds-one`, `holds-on`).
 use Prim.Native.Nat.{ℕ, _+_, _≤_, _<_}
 use native.Mathlib.Omega.{arith}
 use mathlib.Core.Path.{_≡_, refl, sym, ap, _∙_}

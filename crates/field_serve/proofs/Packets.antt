@@ -1,4 +1,4 @@
--- The messages of a response that stays within document 01's lists can be sent.
+-- The messages of a response that stays within document 01's lists can be sent (`first-ok`, `second-ok`).
 use Prim.Native.Nat.{ℕ}
 use mathlib.Core.Path.{_≡_, subst}
 use mathlib.Core.Logic.{inl, inr}

@@ -1,4 +1,4 @@
--- A field that passed 31 passes it after each step: steps may follow one another.
+-- A field that passed 31 passes it after each step: steps may follow one another (`stays`, `advances`, `hands`).
 use Prim.Native.Nat.{ℕ}
 use native.Mathlib.Omega.{arith}
 use mathlib.Core.Path.{_≡_, sym, ap, subst}

@@ -1,4 +1,4 @@
--- The two steps, outcome by outcome, as the code meets them.
+-- The two steps, outcome by outcome, as the code meets them: `waking-41`, `waking-43`, `waking`; `serving-41`, `serving-45`, `serving`.
 use Prim.Native.Nat.{ℕ, _≤_, _<_}
 use native.Mathlib.Omega.{arith}
 use mathlib.Core.Path.{_≡_, refl, sym, ap, subst, _∙_}

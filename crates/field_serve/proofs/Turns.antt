@@ -1,4 +1,5 @@
--- Turns one after the other in lent arrays: what the code's loops keep, and one law for each outcome of a turn.
+-- Turns one after the other in lent arrays: what the code's loops keep (`Turned`), and one law for each outcome of a turn (`turn-on`, `turn-off`,
+-- `turns-over`).
 use Prim.Native.Nat.{ℕ, _+_, _≤_, _<_}
 use native.Mathlib.Omega.{arith}
 use mathlib.Core.Path.{_≡_, refl, sym, ap, _∙_}

@@ -1,4 +1,5 @@
--- The words while a response is carried out: one leaves, what is sent goes to the end, the served one may go behind it.
+-- The words while a response is carried out: one leaves (`one-out`), what is sent goes to the end (`room-place`, `put-holds`), the served one may go behind
+-- it (`is-back`, `room-back`).
 use Prim.Native.Nat.{ℕ, suc, _+_, _-_, _≤_, _<_}
 use native.Mathlib.Omega.{arith}
 use mathlib.Core.Path.{_≡_, refl, sym, ap, _∙_}

@@ -1,4 +1,5 @@
--- Hand-overs one after the other in lent words: what the code's loops keep, and one law for each outcome of a turn.
+-- Hand-overs one after the other in lent words: what the code's loops keep (`Handed`), and one law for each outcome of a turn (`handed-on`, `handed-off`,
+-- `handed-all`).
 use Prim.Native.Nat.{ℕ, _+_, _≤_, _<_}
 use native.Mathlib.Omega.{arith}
 use mathlib.Core.Path.{_≡_, refl, sym, ap, _∙_}

@@ -1,4 +1,4 @@
--- Laws of lent words in which words wait.
+-- Laws of lent words in which words wait: one more (`put-law`), one less (`leave-law`), one moved to the end (`left-end`).
 use Prim.Native.Nat.{ℕ, zero, suc, _+_, _-_, _≤_, _<_}
 use native.Mathlib.Omega.{arith}
 use native.Mathlib.Nat.{sub-zero}

@@ -1,4 +1,4 @@
--- A hand-over, by its three outcomes.
+-- A hand-over, by its three outcomes: `hand-42`, `hand-44` (`none-in-air`), `hand-taken` (`handed`).
 use Prim.Native.Nat.{ℕ, _*_, _≤_, _<_}
 use native.Mathlib.Omega.{arith}
 use mathlib.Core.Path.{_≡_, sym, _∙_}

@@ -1,4 +1,4 @@
--- A directed link past the links that a plan has room for leads to module 0, as the definition reads it.
+-- A directed link past the links that a plan has room for leads to module 0, as the definition reads it (`dest-past`).
 use Prim.Native.Nat.{ℕ, _+_, _*_, _%_, _≤_}
 use native.Mathlib.Omega.{arith}
 use mathlib.Core.Path.{_≡_, refl}

@@ -1,4 +1,5 @@
--- Searching and counting words, for any test: what the loops keep, and one law for each outcome of a turn.
+-- Searching and counting words, for any test: what the loops keep (`Sought`, `Counted`), and one law for each outcome of a turn (`found`, `sought-on`,
+-- `counted-one`, `counted-on`).
 use Prim.Native.Nat.{ℕ, _+_, _≤_, _<_}
 use native.Mathlib.Omega.{arith}
 use native.Mathlib.Numerals.{add-one}

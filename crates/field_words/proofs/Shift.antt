@@ -1,4 +1,4 @@
--- A word leaves a part: the later words move one place forward, one by one from the front.
+-- A word leaves a part: the later words move one place forward, one by one from the front (`shift-on`, `shift-end`).
 use Prim.Native.Nat.{ℕ, suc, _+_, _<_}
 use native.Mathlib.Omega.{arith}
 use native.Mathlib.Numerals.{add-one}

@@ -4,12 +4,13 @@ use mathlib.Core.Path.{_≡_}
 use mathlib.Core.Logic.{_⊎_}
 use mathlib.Core.Bool.{Bool, false, cond, _&&_, _||_}
 use lib.Dec.{eqb, ltb}
+use Rattle.base.specs.Limits.{maxLinks}
 use Rattle.format_message.specs.Msg.{none, Msg, connect, initiate, test, accept, reject, report, change}
 use Rattle.format_message.specs.Header.{kindAt, levelAt, findAt}
 
 -- "Carried numbers are below 600"
 abbrev pub isLink : ℕ → Bool
-isLink carried = ltb carried 600
+isLink carried = ltb carried maxLinks
 
 -- "unused parts are 0, an unused carried number none": a message that is its kind alone
 unfoldable pub bare : ℕ → ℕ → ℕ → Bool
@@ -34,9 +35,9 @@ listed header carried = ltb header 128 && listedAs (kindAt header) (levelAt head
 -- the same list, told of messages: their parts are within document 01's ranges
 abbrev pub Listed : Msg → Type 0
 Listed (connect l) = l < 8
-Listed (initiate l i f) = (0 < l) × (l < 8) × (i < 600) × (f < 2)
-Listed (test l i) = (0 < l) × (l < 8) × (i < 600)
+Listed (initiate l i f) = (0 < l) × (l < 8) × (i < maxLinks) × (f < 2)
+Listed (test l i) = (0 < l) × (l < 8) × (i < maxLinks)
 Listed accept = Unit {0}
 Listed reject = Unit {0}
-Listed (report w) = (w < 600) ⊎ (w ≡ none)
+Listed (report w) = (w < maxLinks) ⊎ (w ≡ none)
 Listed change = Unit {0}

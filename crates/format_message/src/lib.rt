@@ -1,4 +1,5 @@
 // Messages between neighbours: the header byte taken apart and put together, and which messages are listed.
+use base::MAX_LINKS;
 use base::NONE;
 ghost use mathlib.Core.Path.{_≡_};
 ghost use Rattle.format_message.specs.Header.{headerFrom, kindAt, levelAt, findAt};
@@ -54,11 +55,11 @@ fn listed_as(kind: u8, level: u16, carried: u16, find: u8) -> bool
 {
     match kind {
         1 => (find == 0) & (carried == NONE),
-        2 => (0 < level) & (carried < 600),
-        3 => (0 < level) & (find == 0) & (carried < 600),
+        2 => (0 < level) & (carried < MAX_LINKS),
+        3 => (0 < level) & (find == 0) & (carried < MAX_LINKS),
         4 => is_bare(level, carried, find),
         5 => is_bare(level, carried, find),
-        6 => (level == 0) & (find == 0) & ((carried < 600) | (carried == NONE)),
+        6 => (level == 0) & (find == 0) & ((carried < MAX_LINKS) | (carried == NONE)),
         7 => is_bare(level, carried, find),
         0 | 8..=255 => false,
     }

@@ -1,4 +1,4 @@
--- The call of a host: 31, then the rounds over the field's arrays, then the field put together again.
+-- The call of a host: 31, then the rounds over the field's arrays, then the field put together again (`rounds-31`, `rounds-done`).
 use Prim.Native.Nat.{ℕ}
 use mathlib.Core.Path.{_≡_, refl, _∙_}
 use mathlib.Core.Bool.{true, false, not}

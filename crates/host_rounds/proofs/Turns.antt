@@ -1,4 +1,4 @@
--- Turns, rounds and rest as the code takes them.
+-- Turns, rounds and rest as the code takes them: `hand-turn`, `hand-phase`, `serve-turn`, `serve-phase`, `round-on`, `round-off`, `rest`.
 use Prim.Native.Nat.{ℕ, _*_}
 use mathlib.Core.Path.{_≡_, sym, ap, _∙_}
 use mathlib.Core.Logic.{_≢_}

@@ -1,4 +1,5 @@
--- The calls of a host for a step alone and for a schedule: 31, then the steps over the field's arrays, then the field put together again.
+-- The calls of a host for a step alone and for a schedule: 31 (`step-31`, `run-31`), then the steps over the field's arrays, then the field put together
+-- again (`step-done`, `run-done`).
 use Prim.Native.Nat.{ℕ}
 use mathlib.Core.Path.{_≡_, refl, sym, ap, _∙_}
 use mathlib.Core.Logic.{_≢_}

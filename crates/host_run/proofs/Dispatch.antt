@@ -1,4 +1,4 @@
--- A step by its kind.
+-- A step by its kind: `is-wake`, `is-hand`, `is-serve`, and 54 for any other (`is-none`).
 use Prim.Native.Nat.{ℕ}
 use mathlib.Core.Path.{_≡_, refl, ap, _∙_}
 use mathlib.Core.Logic.{_≢_}

@@ -1,4 +1,4 @@
--- The cells of fresh modules, laid one after the other.
+-- The cells of fresh modules, laid one after the other (`laid-more`, `laid-all`).
 use Prim.Native.Nat.{ℕ, zero, suc, _+_, _-_, _*_, _≤_}
 use native.Mathlib.Omega.{arith}
 use native.Mathlib.Numerals.{add-one}

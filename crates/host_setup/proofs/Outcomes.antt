@@ -1,4 +1,4 @@
--- Setup by its outcomes.
+-- Setup by its outcomes: the plan refused (`setup-bad`), 21 (`setup-few`), or set up (`setup-done`).
 use Prim.Native.Nat.{ℕ, _≤_, _<_}
 use mathlib.Core.Path.{_≡_, sym, _∙_}
 use mathlib.Core.Logic.{_≢_}

@@ -1,4 +1,4 @@
-// A node's record: document 01's module values, WIDTH numbers. Edges, weights and identity are edge numbers, 65535 for none.
+// The rules of one node (specs/), and its record: document 01's module values, WIDTH numbers. Edges, weights and identity are edge numbers, 65535 for none.
 pub const WIDTH: usize = 9;
 
 // A node's status.

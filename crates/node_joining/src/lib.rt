@@ -1,4 +1,4 @@
-// The responses to Connect and Initiate, worked out by value: v is the node, x the message, a the response so far.
+// The responses to Connect and Initiate, worked out by value. v is the node, x the message, a the response so far.
 use base::NONE;
 use field::Marks;
 use node::BASIC;

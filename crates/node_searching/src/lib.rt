@@ -1,4 +1,4 @@
-// The responses to Test, Accept, Reject and Report, worked out by value: v is the node, x the message, or j the own edge that it came by
+// The responses to Test, Accept, Reject and Report, worked out by value. v is the node, x the message, or j the own edge that it came by
 // where that is all it says, a the response so far.
 use base::NONE;
 use field::Marks;

@@ -1,4 +1,4 @@
--- The order of the links, as it is tested.
+-- The order of the links, as it is tested (`same-cost`, `other-cost`).
 use Prim.Native.Nat.{ℕ}
 use mathlib.Core.Path.{_≡_, sym, _∙_}
 use mathlib.Core.Logic.{_≢_}

@@ -1,4 +1,4 @@
--- A law for each outcome of a check, each under the tests that came before.
+-- A law for each outcome of a check, each under the tests that came before: of counts (`c-`), a link (`v-`), all links (`links-`), the plan (`p-`).
 use Prim.Native.Nat.{ℕ, zero, suc, _+_, _-_, _≤_, _<_}
 use native.Mathlib.Omega.{arith}
 use native.Mathlib.Numerals.{add-one}

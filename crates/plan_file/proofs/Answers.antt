@@ -1,4 +1,5 @@
--- What the reader answers, from the check of the head and of the plan.
+-- What the reader answers, from the check of the head and of the plan: `load-head`, `load-plan`, `not-read`, `is-read`; its loop over the numbers
+-- (`one-read`, `all-read`).
 use Prim.Native.Nat.{ℕ, suc, _+_, _-_, _≤_, _<_}
 use native.Mathlib.Omega.{arith}
 use mathlib.Core.Path.{_≡_, sym, ap, _∙_}

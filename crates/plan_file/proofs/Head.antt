@@ -1,4 +1,4 @@
--- A law for each outcome of the head's check, each under the tests that came before.
+-- A law for each outcome of the head's check, each under the tests that came before: `h-short`, `h-version`, `h-length`, `h-least`, `h-counts`.
 use Prim.Native.Nat.{ℕ, _-_, _≤_, _<_}
 use mathlib.Core.Path.{_≡_}
 use mathlib.Core.Logic.{_≢_}

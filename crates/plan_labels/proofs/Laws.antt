@@ -1,4 +1,4 @@
--- Laws of the labels, as the code keeps them.
+-- Laws of the labels, as the code keeps them (`rename-same`, `merge-turn`).
 use Prim.Native.Nat.{ℕ, suc, _<_}
 use mathlib.Core.Path.{_≡_, refl, _∙_}
 use mathlib.Core.Bool.{Bool, true}

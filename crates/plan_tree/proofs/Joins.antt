@@ -1,4 +1,4 @@
--- What joining picks does to the labels and the marks.
+-- What joining picks does to the labels and the marks: an edge (`joined`, `takes`), one pick more (`takes-next`), a whole phase (`phased`).
 use Prim.Native.Nat.{ℕ, _+_, _≤_, _<_}
 use native.Mathlib.Omega.{arith}
 use mathlib.Core.Path.{_≡_, sym, ap, _∙_}

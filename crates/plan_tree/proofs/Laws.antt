@@ -1,4 +1,4 @@
--- Laws that the functions' proofs cite, over plain lists and numbers.
+-- Laws that the functions' proofs cite, over plain lists and numbers (`fill`, `sum-next`).
 use Prim.Native.Nat.{ℕ, _+_, _<_}
 use native.Mathlib.Omega.{arith}
 use native.Mathlib.Numerals.{add-one}

@@ -1,4 +1,4 @@
--- What looking at one edge does to the table of earliest edges.
+-- What looking at one edge does to the table of earliest edges (`skipped`, `offered`).
 use Prim.Native.Nat.{ℕ, _+_, _<_}
 use native.Mathlib.Omega.{arith}
 use mathlib.Core.Path.{_≡_, sym, _∙_}

@@ -1,5 +1,5 @@
-// Reads a plan and, right behind it, a schedule on standard input. Sets the plan up with exactly M words, runs the schedule
-// and prints what that led to: the run's answer, every module with its marks, every waiting word.
+// The tracing program: reads a plan and, right behind it, a schedule on standard input, and prints what that led to. It sets the plan up with exactly M
+// words, runs the schedule and prints the run's answer, every module with its marks, every waiting word.
 // A refused plan prints one line, as "refused 19".
 ghost use mathlib.Core.Path.{_≡_};
 ghost use lib.ListN.{length};

@@ -1,4 +1,4 @@
--- Best weights and best edges of nodes in Find change: what stays of the clauses on channels.
+-- Best weights and best edges of nodes in Find change: what stays of the clauses on channels (`flow-best`).
 use Prim.Native.Nat.{ℕ}
 use native.Mathlib.Omega.{arith}
 use mathlib.Core.Path.{_≡_, ap, _∙_}

@@ -1,4 +1,5 @@
--- Channels: membership and order in a list, and what becomes of them when the head is taken, moved back, or a message is sent.
+-- Channels: membership and order in a list (`In`, `Bef`), and what becomes of them when the head is taken (`pop-`), moved back (`rot-`), or a message is sent
+-- (`snoc-`).
 use Prim.Native.Nat.{ℕ, _+_, _≤_}
 use native.Mathlib.Omega.{arith}
 use mathlib.Core.Path.{_≡_, refl, sym, ap, subst, _∙_}

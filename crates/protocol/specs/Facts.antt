@@ -1,4 +1,5 @@
--- Facts that follow from the invariant in one state. The proofs of the steps begin with these.
+-- Facts that follow from the invariant in one state: of a sleeper (`sleep-`), of who is informed (`inf-`) or Find (`-find`), of decisions (`half-of`,
+-- `changing-of`, `root-of`), of what is not on a channel (`no-`). The proofs of the steps begin with these.
 use Prim.Native.Nat.{ℕ, _≤_, _<_}
 use native.Mathlib.Omega.{arith}
 use mathlib.Core.Path.{_≡_, refl, sym, ap, subst, _∙_}

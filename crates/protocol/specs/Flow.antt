@@ -1,5 +1,6 @@
 -- Eight clauses on channels together: those that read neither test edges, nor best edges, nor what is open.
--- A step of the search carries them over as a whole, by what it does to the channels and tables: `flow-take`, `flow-post`, `flow-open` ..
+-- A step of the search carries them over as a whole, by what it does to the channels and tables (`flow-take`, `flow-post`, `flow-open`), and so keeps the
+-- invariant (`inv-search`, `inv-asking`, `inv-passing`).
 use Prim.Native.Nat.{ℕ}
 use mathlib.Core.List.{List}
 use Rattle.format_message.specs.Msg.{Msg}

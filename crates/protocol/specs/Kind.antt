@@ -1,4 +1,4 @@
--- Kinds of messages: counters for sums over a channel, what may stand before what, the level at the far end of a channel.
+-- Kinds of messages: counters for sums over a channel, what may stand before what (`Fits`), the level at the far end of a channel (`top`).
 use Prim.Native.Nat.{ℕ, _+_, _*_, _<_}
 use native.Mathlib.Omega.{arith}
 use mathlib.Core.Path.{_≡_, refl, ap}

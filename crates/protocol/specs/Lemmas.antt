@@ -1,4 +1,5 @@
--- Laws of the relabelling, of the copies of an Initiate, of levels at the far end, and from counts to messages.
+-- Laws of the relabelling (`bulk-`, `relabel-`), of the copies of an Initiate (`fan-`), of levels at the far end (`top-`), and from counts to messages
+-- (`some-`, `no-`).
 use Prim.Native.Nat.{ℕ, zero, suc, _+_, _*_, _≤_, _<_}
 use native.Mathlib.Omega.{arith}
 use mathlib.Core.Path.{_≡_, refl, sym, ap, subst, _∙_}

@@ -1,4 +1,5 @@
--- The graph that the protocol runs on, with its nodes and the order of its edges. In one part or several.
+-- The graph that the protocol runs on, with its nodes and the order of its edges. In one part or several. Ranks and keys are that order (`rank-lt`,
+-- `ends-rank`).
 use Prim.Native.Nat.{ℕ, _≤_, _<_}
 use native.Mathlib.Omega.{arith}
 use mathlib.Core.Path.{_≡_, refl}

@@ -1,4 +1,4 @@
--- A Test or an answer m is sent by v over k: what stays of the clauses that do not speak of those.
+-- A Test or an answer m is sent by v over k: what stays of the clauses that do not speak of those (`flow-post`).
 use Prim.Native.Nat.{ℕ, _≤_}
 use native.Mathlib.Omega.{arith}
 use mathlib.Core.Path.{_≡_, sym, ap, subst, _∙_}

@@ -1,4 +1,4 @@
--- THE QUIET LEMMA: where both core ends of an undecided fragment are informed and Found, nobody in it is due, so nobody is Find.
+-- THE QUIET LEMMA: where both core ends of an undecided fragment are informed and Found, nobody in it is due, so nobody is Find (`no-due`, `no-find`).
 use Prim.Native.Nat.{ℕ, _<_}
 use native.Mathlib.Omega.{arith}
 use mathlib.Core.Path.{_≡_, refl, sym, ap, subst, _∙_}

@@ -1,4 +1,4 @@
--- A step that changes test edges, best edges, find-counts or what is open keeps the clauses on channels that do not read them.
+-- A step that changes test edges, best edges, find-counts or what is open keeps the clauses on channels that do not read them (`flow-open`).
 use Prim.Native.Nat.{ℕ}
 use Rattle.protocol.specs.Network.{Network}
 use Rattle.protocol.specs.State.{ProtocolState, set-te, set-be, set-fc, set-ot, set-op, set-oo}

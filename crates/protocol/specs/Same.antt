@@ -1,4 +1,4 @@
--- Channels c′ in which the Reports are as they were: what the clauses on Reports, counts and best weights say stays.
+-- Channels c′ in which the Reports are as they were: what the clauses on Reports, counts and best weights say stays (`connects-same` to `reports-same`).
 -- The results are about `set-ch s c′`; a step that also changes tables which a clause does not read has it by the same fields.
 use Prim.Native.Nat.{ℕ, _≤_}
 use native.Mathlib.Omega.{arith}

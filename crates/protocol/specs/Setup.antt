@@ -1,4 +1,4 @@
--- The invariant holds at setup: everybody sleeps, each node is a fragment, nothing is under way.
+-- The invariant holds at setup: everybody sleeps, each node is a fragment, nothing is under way (`inv-setup`).
 use Prim.Native.Nat.{zero-le}
 use native.Mathlib.Omega.{arith}
 use mathlib.Core.Path.{refl, sym}

@@ -1,4 +1,4 @@
--- The head m of the channel from u over k is taken, and m is neither Connect nor Initiate: what stays of the clauses that do not speak of m.
+-- The head m of the channel from u over k is taken, and m is neither Connect nor Initiate: what stays of the clauses that do not speak of m (`flow-take`).
 use Prim.Native.Nat.{ℕ, _≤_}
 use native.Mathlib.Omega.{arith}
 use mathlib.Core.Path.{_≡_, refl, sym, ap, subst, _∙_}

@@ -1,4 +1,4 @@
--- A sleeper is as at setup: waking changes its status alone.
+-- A sleeper is as at setup: waking changes its status alone (`woken-same`).
 use Prim.Native.Nat.{ℕ}
 use mathlib.Core.Path.{_≡_, refl, sym, ap, _∙_, fun-ext}
 use Rattle.base.specs.Cond.{upd}

@@ -1,4 +1,4 @@
--- v, which is Find, weighs w, which came over its own edge k, against its best: the clauses on best weights and best edges.
+-- v, which is Find, weighs w, which came over its own edge k, against its best: the clauses on best weights and best edges (`inv-weighed`).
 use Rattle.protocol.specs.Prelude.{ℕ, _≤_, _<_, arith, _≡_, sym, ap, subst, _∙_, _≢_, _⊎_, inl, ⊎-elim, by-eq}
 use Rattle.protocol.specs.Prelude.{List, upd, upd-elim, upd-same, upd-other, sumL, Msg, none}
 use Rattle.protocol.specs.Prelude.{Network, Edge, key, joins-lt, edge-some, key-none, key-edge, rank-lt, ProtocolState, Better, set-bw, set-be, set-te, set-fc, set-owe, set-op, set-ch, isR}

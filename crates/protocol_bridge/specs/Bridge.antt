@@ -1,5 +1,5 @@
--- THE BRIDGE: the response that the rules define for a node, at any state with the invariant, is a sequence of small steps, and is never
--- refused by 32. For all kinds of messages and all corners of document 01.
+-- THE BRIDGE: the response that the rules define for a node, at any state with the invariant, is a sequence of small steps (`wakes-bridge`, `respond-bridge`),
+-- and is never refused by 32 (`never-32`). For all kinds of messages and all corners of document 01.
 use Prim.Native.Nat.{ℕ, _<_}
 use native.Mathlib.Omega.{arith}
 use mathlib.Core.Path.{_≡_, refl, sym, ap, _∙_}

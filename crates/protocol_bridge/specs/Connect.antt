@@ -1,4 +1,4 @@
--- (3) The response to Connect of an awake node, as a small step.
+-- (3) The response to Connect of an awake node, as a small step (`connect-fin`).
 use Prim.Native.Nat.{ℕ, _+_, _≤_, _<_}
 use native.Mathlib.Omega.{arith}
 use native.Mathlib.Decide.{decLe}

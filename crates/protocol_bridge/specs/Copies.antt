@@ -1,4 +1,4 @@
--- The copies of an Initiate, one after the other, are the small step's `fan`; and their number.
+-- The copies of an Initiate, one after the other, are the small step's `fan` (`copies-fan`); and their number (`copies-number`, `copies-length`).
 use Prim.Native.Nat.{ℕ, zero, suc, _≤_, _<_}
 use native.Mathlib.Omega.{arith}
 use mathlib.Core.Path.{_≡_, refl, sym, ap, subst, _∙_, fun-ext}

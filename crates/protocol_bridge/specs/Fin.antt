@@ -1,4 +1,4 @@
--- A response that small steps carry out: what is placed so far, and the steps to its end.
+-- A response that small steps carry out: what is placed so far (`At`), and the steps to its end (`Fin`; `fin-step`, `fin-last`).
 use Prim.Native.Nat.{ℕ, _+_}
 use native.Mathlib.Omega.{arith}
 use mathlib.Core.Path.{_≡_, sym, ap, subst, _∙_}

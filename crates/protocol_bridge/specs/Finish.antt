@@ -1,4 +1,4 @@
--- The procedures with which responses end, as small steps. That they are not refused follows from the invariant.
+-- The procedures with which responses end, as small steps. That they are not refused follows from the invariant (`report-fin`, `test-fin`, `root-fin`).
 use Prim.Native.Nat.{ℕ, suc}
 use native.Mathlib.Omega.{arith}
 use mathlib.Core.Path.{_≡_, refl, sym, ap, ap₂, _∙_}

@@ -1,4 +1,4 @@
--- (4) The response to Initiate, as small steps.
+-- (4) The response to Initiate, as small steps (`initiate-fin`).
 use Prim.Native.Nat.{ℕ, suc, _+_, _*_, _≤_}
 use native.Mathlib.Omega.{arith}
 use mathlib.Core.Path.{_≡_, refl, sym, ap, subst, _∙_}

@@ -1,4 +1,5 @@
--- A node's own edges as its rules see them: the edges that end there, their order, searches and counts.
+-- A node's own edges as its rules see them: the edges that end there (`own-ends`, `ends-own`), their order (`before-lt`), searches (`searched`) and counts
+-- (`fc-degree`).
 use Prim.Native.Nat.{ℕ, zero, suc, _≤_, _<_}
 use native.Mathlib.Omega.{arith}
 use mathlib.Core.Path.{_≡_, refl, sym, ap, _∙_}

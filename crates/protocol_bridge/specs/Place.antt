@@ -1,4 +1,4 @@
--- How placed responses change: one law for each assignment of the rules. A small step is made of the same assignments.
+-- How placed responses change: one law for each assignment of the rules (`place-`). A small step is made of the same assignments.
 use Prim.Native.Nat.{ℕ}
 use mathlib.Core.Path.{_≡_, refl, sym, ap, _∙_, fun-ext}
 use mathlib.Core.Logic.{_≢_}

@@ -1,5 +1,5 @@
--- THE BRIDGE FROM SETUP ON: a response at a state that was reached after n messages leads to a state that is reached after n and its own
--- messages. So no response is refused by 32, and none by 33.
+-- THE BRIDGE FROM SETUP ON: a response at a state that was reached after n messages leads to a state that is reached after n and its own messages
+-- (`wake-after`, `respond-after`). So no response is refused by 32, and none by 33 (`after-fits`).
 use Prim.Native.Nat.{ℕ, _+_, _≤_, _<_}
 use native.Mathlib.Omega.{arith}
 use mathlib.Core.Path.{_≡_, subst}

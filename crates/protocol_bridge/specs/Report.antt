@@ -1,4 +1,4 @@
--- (7), (10), (12) The responses to Accept, Report and Change-root, as small steps.
+-- (7), (10), (12) The responses to Accept, Report and Change-root, as small steps (`accept-fin`, `reported-fin`, `change-fin`).
 use Prim.Native.Nat.{ℕ, suc, _-_, _<_}
 use native.Mathlib.Omega.{arith}
 use mathlib.Core.Path.{_≡_, refl, sym, ap, _∙_}

@@ -1,4 +1,4 @@
--- (6), (8) The responses to Test of an awake node, and to Reject, as small steps.
+-- (6), (8) The responses to Test of an awake node, and to Reject, as small steps (`asked-fin`, `reject-fin`).
 use Prim.Native.Nat.{ℕ, suc, _≤_, _<_}
 use native.Mathlib.Omega.{arith}
 use native.Mathlib.Decide.{decLe}

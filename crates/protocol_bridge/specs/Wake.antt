@@ -1,4 +1,4 @@
--- Procedure wakeup as a small step.
+-- Procedure wakeup as a small step (`wake-fin`).
 use Prim.Native.Nat.{ℕ, _<_}
 use native.Mathlib.Omega.{arith}
 use mathlib.Core.Path.{_≡_, refl}

@@ -1,4 +1,4 @@
--- A fragment is absorbed: its node u gets an Initiate, and the others are below the level that they then have to reach.
+-- A fragment is absorbed: its node u gets an Initiate, and the others are below the level that they then have to reach (`paid-absorb`).
 use Rattle.protocol.specs.Prelude.{ℕ, _+_, _≤_, _<_, arith, _≡_, sym, ap, subst, _∙_, _⊎_, by-eq}
 use Rattle.protocol.specs.Prelude.{List, _∷_, upd2, upd2-elim, Msg, connect, initiate}
 use Rattle.protocol.specs.Prelude.{Network, Edge, flip, ends-same, ProtocolState, Idle, Flag}

@@ -1,4 +1,4 @@
--- An accepted Test: its sender pays for Test and Accept.
+-- An accepted Test: its sender pays for Test and Accept (`paid-accept-test`).
 use Rattle.protocol.specs.Prelude.{ℕ, _+_, _-_, _≤_, arith, _≡_, refl, sym, ap, _∙_, _≢_, inl, inr, by-eq}
 use Rattle.protocol.specs.Prelude.{List, _∷_, sumL, upd, upd-other, upd2, sum-upd, Msg, test, accept}
 use Rattle.protocol.specs.Prelude.{Network, Edge, end-lt, flip, other-end, ProtocolState, Idle, sendOver, pop}

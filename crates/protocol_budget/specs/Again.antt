@@ -1,4 +1,4 @@
--- A Reject, and a Test that crossed: nothing is sent. Where both ends had sent a Test, the edge pays back both.
+-- A Reject, and a Test that crossed: nothing is sent. Where both ends had sent a Test, the edge pays back both (`paid-rejected`, `paid-crossed-test`, `paid-both`).
 use Rattle.protocol.specs.Prelude.{ℕ, suc, _+_, _≤_, arith, _≡_, refl, sym, ap, subst, _∙_, _≢_, _⊎_, inl, inr, ⊎-elim, by-eq}
 use Rattle.protocol.specs.Prelude.{List, _∷_, sumL, upd, upd-elim, upd-same, upd-other, upd2, upd2-elim, sum-upd, Msg, test, reject}
 use Rattle.protocol.specs.Prelude.{Network, Edge, end-lt, joins-lt, flip, other-end, same-edge, ends-irr, ProtocolState, Idle, Strike, set-ot, pop, remarked}

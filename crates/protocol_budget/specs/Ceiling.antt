@@ -1,4 +1,4 @@
--- THE CEILING: at most N × (5 ⌊log2 N⌋ − 2) + 2 L messages for N ≥ 2, none for N ≤ 1; so at most 5 N ⌊log2 N⌋ + 2 L.
+-- THE CEILING: at most N × (5 ⌊log2 N⌋ − 2) + 2 L messages for N ≥ 2, none for N ≤ 1; so at most 5 N ⌊log2 N⌋ + 2 L (`paid-low`, `sent-step`, `sent-ceiling`).
 use Rattle.protocol.specs.Prelude.{ℕ, suc, _+_, _*_, _≤_, _<_, arith, _≡_, refl, sym, ap, _∙_, _≢_, _⊎_, inl, inr, by-eq, sum-le, sum-add, none}
 use Rattle.protocol.specs.Prelude.{Network, end-lt, flip, ProtocolState, Step, setupState, GL, DK, Inf, Inv, sends, half-of, changing-of, root-of, edge-some}
 use Rattle.base.specs.Log.{log2}

@@ -1,4 +1,5 @@
--- A Connect is paid from rt, at waking and by procedure change-root; fragments that merge reach a level that none of their nodes has or is about to have.
+-- A Connect is paid from rt, at waking and by procedure change-root; fragments that merge reach a level that none of their nodes has or is about to
+-- have (`paid-half`, `paid-merge`).
 use Rattle.protocol.specs.Prelude.{ℕ, suc, _+_, _≤_, arith, _≡_, refl, sym, ap, subst, _∙_, _≢_, inl, inr, ⊎-elim, by-eq}
 use Rattle.protocol.specs.Prelude.{upd, upd-elim, upd-same, upd-other, upd2, upd2-elim, sum-upd, none, connect, initiate}
 use Rattle.protocol.specs.Prelude.{Network, Edge, end-lt, flip, other-end, ends-two, edge-some, ProtocolState}

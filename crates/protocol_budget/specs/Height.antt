@@ -1,4 +1,4 @@
--- The level that a node will have; channels after a message was taken or sent that is no Initiate.
+-- The level that a node will have (`tb-le`, `tb-inf`); channels after a message was taken (`heights-pop`) or sent (`heights-send`) that is no Initiate.
 use Rattle.protocol.specs.Prelude.{ℕ, _≤_, _<_, arith, _≡_, refl, sym, ap, subst, _∙_, _⊎_, ⊎-elim, by-eq}
 use Rattle.protocol.specs.Prelude.{List, _∷_, upd, upd-elim, upd-same, upd-other, upd2, Msg, none, initiate, Network, Edge, flip, ProtocolState, isI, isT, isY, top, In, snoc}
 use Rattle.protocol.specs.Prelude.{top-none, top-in, top-max, pop-top, snoc-top, pop-sum, snoc-sum, GL, Inf, Inv, no-initiate}

@@ -1,3 +1,5 @@
+-- The message budget: every small step pays for what it sends, and so no more is sent than the ceiling. Main results: `paid-step`, `lone-step`;
+-- `paid-low`, `sent-ceiling`.
 pub mod Paid
 pub mod Height
 pub mod Still

@@ -1,4 +1,4 @@
--- Counting by a map: each counted j is the image of some w, so the sum over the w is no less.
+-- Counting by a map: each counted j is the image of some w, so the sum over the w is no less (`sum-map`).
 use Prim.Native.Nat.{ℕ, zero, suc, _*_, _≤_, _<_, zero-le}
 use native.Mathlib.Omega.{arith}
 use mathlib.Core.Path.{_≡_, refl, sym, ap, _∙_}

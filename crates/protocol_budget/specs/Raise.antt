@@ -1,4 +1,5 @@
--- An Initiate in answer to a Connect: its receiver u will have a higher level, which pays for the Initiate and for all that u may send at that level.
+-- An Initiate in answer to a Connect: its receiver u will have a higher level, which pays for the Initiate and for all that u may send at that level
+-- (`raise`, `paid-core-reply`).
 use Rattle.protocol.specs.Prelude.{ℕ, _+_, _*_, _≤_, _<_, arith, _≡_, refl, sym, ap, subst, _∙_, _≢_, _⊎_, inl, inr, ⊎-elim, by-eq}
 use Rattle.protocol.specs.Prelude.{List, [], _∷_, _++_, sumL, upd, upd-elim, upd-same, upd-other, upd2, sum-upd, Msg, connect, initiate}
 use Rattle.protocol.specs.Prelude.{Network, Edge, end-lt, flip, ends-same, other-end, edge-some, ProtocolState}

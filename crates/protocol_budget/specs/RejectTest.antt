@@ -1,4 +1,4 @@
--- A rejected Test: the edge pays for Test and Reject, and the sender may test again.
+-- A rejected Test: the edge pays for Test and Reject, and the sender may test again (`paid-reject-test`).
 use Rattle.protocol.specs.Prelude.{ℕ, _+_, _*_, _≤_, arith, _≡_, refl, sym, ap, _∙_, _≢_, _⊎_, inl, inr, ⊎-elim, by-eq}
 use Rattle.protocol.specs.Prelude.{List, _∷_, sumL, upd, upd-elim, upd-other, upd2, sum-upd, Msg, test, reject}
 use Rattle.protocol.specs.Prelude.{Network, Edge, end-lt, joins-lt, same-edge, ProtocolState, Idle, Strike, sendOver, pop, remarked}

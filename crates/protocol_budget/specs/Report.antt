@@ -1,4 +1,4 @@
--- A Report is paid from rp, a Change-root from rt.
+-- A Report is paid from rp (`paid-report-now`), a Change-root from rt (`paid-root-branch`).
 use Rattle.protocol.specs.Prelude.{ℕ, suc, _+_, _≤_, _<_, arith, _≡_, refl, sym, ap, subst, _∙_, _≢_, _⊎_, ⊎-elim, by-eq}
 use Rattle.protocol.specs.Prelude.{upd, upd-elim, upd-same, upd-other, sum-upd, none, report, change}
 use Rattle.protocol.specs.Prelude.{Network, Edge, end-lt, ProtocolState}

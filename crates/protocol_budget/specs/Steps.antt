@@ -1,4 +1,4 @@
--- EVERY STEP PAYS FOR WHAT IT SENDS.
+-- EVERY STEP PAYS FOR WHAT IT SENDS (`paid-step`, `lone-step`).
 use Rattle.protocol.specs.Prelude.{ℕ, _+_, _≤_, arith, _≡_, refl, Network, Edge, end-lt, flip, ends-irr, ProtocolState, Step, Inv, sends}
 use Rattle.protocol.specs.Step.{wake-lone, wake-half, wake-merge, back, absorb, core-reply, tell, accept-test, reject-test, crossed-test, accepted, rejected}
 use Rattle.protocol.specs.Step.{child-report, core-nothing, core-halt, decide, change-root, test-next, test-none, report-now, report-later, root-branch, root-half, root-merge}

@@ -1,4 +1,4 @@
--- Steps that send nothing and change no table of the budget.
+-- Steps that send nothing and change no table of the budget: `paid-back`, `paid-accepted`, `paid-decide` and so on.
 use Rattle.protocol.specs.Prelude.{ℕ, suc, _-_, _*_, eqb, bit, _≤_, _<_, arith, _≡_, refl, sym, ap, subst, _∙_, _≢_, _⊎_, inl, inr, ⊎-elim, by-eq}
 use Rattle.protocol.specs.Prelude.{List, _∷_, _++_, sumL, upd, upd2, Msg, none, accept, report, change}
 use Rattle.protocol.specs.Prelude.{Network, Edge, key, flip, other-end, ProtocolState, Idle, Blocked, Better, set-st, set-te, set-fc, set-halt, set-dk, set-owe, set-ot, set-op, bested, rooted, pop, wokenUp, woken-same}

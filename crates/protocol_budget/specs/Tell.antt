@@ -1,4 +1,4 @@
--- An Initiate at v: each child that gets a copy will have a higher level, which pays for the copy and for all that the child may send at that level.
+-- An Initiate at v: each child that gets a copy will have a higher level, which pays for the copy and for all that the child may send at that level (`paid-tell`).
 use Rattle.protocol.specs.Prelude.{ℕ, _+_, _*_, eqb, bit, cond, Bool, true, false, _≤_, _<_, arith, _≡_, refl, sym, ap, subst, _∙_, _≢_, inl, inr, ⊎-elim, by-eq, bool-cases}
 use Rattle.protocol.specs.Prelude.{List, [], _∷_, _++_, sum, sum-le, sum-add, sumL, upd-same, upd-other, upd2, Msg, initiate}
 use Rattle.protocol.specs.Prelude.{Network, Edge, end-lt, flip, ends-same, other-end, ends-two, ends-irr, edge-some, ProtocolState, Idle, Mode, Place, pop, initiated}

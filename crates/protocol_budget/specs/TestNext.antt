@@ -1,4 +1,4 @@
--- Procedure test sends a Test: v pays, or at the last level the edge.
+-- Procedure test sends a Test: v pays, or at the last level the edge (`paid-test-next`).
 use Rattle.protocol.specs.Prelude.{ℕ, suc, _+_, _-_, _≤_, arith, _≡_, refl, sym, ap, subst, _∙_, _≢_, _⊎_, inl, inr, ⊎-elim, by-eq}
 use Rattle.protocol.specs.Prelude.{List, sumL, upd, upd-same, upd-other, sum-upd, Msg, test}
 use Rattle.protocol.specs.Prelude.{Network, Edge, end-lt, joins-lt, flip, other-end, same-edge, ends-irr, ProtocolState, FirstBasic}

@@ -1,4 +1,4 @@
--- Change-root from u at v over k: v is to execute procedure change-root.
+-- Change-root from u at v over k: v is to execute procedure change-root (`inv-change-root`).
 use Rattle.protocol.specs.Prelude.{ℕ, arith, _≡_, refl, sym, ap, subst, _∙_, _≢_}
 use Rattle.protocol.specs.Prelude.{List, _∷_, upd2, sumL, Msg, change, Network, Edge, ProtocolState, Idle, pop, rooted}
 use Rattle.protocol.specs.Prelude.{isR, isK, In, at2, here-new, pop-head, pop-in, pop-le, none-in, no-reports, rest-none}

@@ -1,4 +1,4 @@
--- Report w from u at v over k, which is not v's in-branch: v counts down, weighs w against its best, procedure report comes next.
+-- Report w from u at v over k, which is not v's in-branch: v counts down, weighs w against its best, procedure report comes next (`inv-child-report`).
 use Rattle.protocol.specs.Prelude.{ℕ, suc, _-_, _≤_, arith, _≡_, refl, sym, ap, subst, _∙_, _≢_, _⊎_, inl, inr, ⊎-elim, by-eq}
 use Rattle.protocol.specs.Prelude.{List, _∷_, upd, upd-elim, upd-other, upd2, upd2-elim, sumL, sum, sum-row, row-else}
 use Rattle.protocol.specs.Prelude.{Msg, none, report}

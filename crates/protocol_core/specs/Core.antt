@@ -1,5 +1,5 @@
--- The Report w of u, the head of the channel over k, at v. Where it is a core end's: both ends are informed and,
--- if v is not Find, the fragment is quiet, and only the best weights of the two ends still count.
+-- The Report w of u, the head of the channel over k, at v: a child's (`child`), a core end's or spent (`core-or-spent`). Where it is a core end's: both ends are
+-- informed and, if v is not Find, the fragment is quiet (`none-find`, `none-due`), and only the best weights of the two ends still count (`bound`).
 use Rattle.protocol.specs.Prelude.{ℕ, _≤_, _<_, arith, _≡_, refl, sym, ap, subst, _∙_, _≢_, _⊎_, inl, inr, ⊎-elim, by-eq}
 use Rattle.protocol.specs.Prelude.{List, _∷_, sumL, Msg, none, initiate, report}
 use Rattle.protocol.specs.Prelude.{Network, Edge, key, rank, flip, same-edge, ProtocolState, Idle, key-none, key-edge, rank-lt}

@@ -1,4 +1,4 @@
--- Report none from u at v over v's in-branch k, v not Find with best none: v halts, and the fragment is finished.
+-- Report none from u at v over v's in-branch k, v not Find with best none: v halts, and the fragment is finished (`inv-core-halt`).
 use Rattle.protocol.specs.Prelude.{ℕ, _≤_, arith, _≡_, refl, sym, ap, subst, _∙_, _≢_, inl, inr, ⊎-elim, by-eq}
 use Rattle.protocol.specs.Prelude.{List, _∷_, upd, upd-elim, upd-same, upd-other, upd2, Msg, none, report}
 use Rattle.protocol.specs.Prelude.{Network, Edge, key, flip, same-edge, ends-irr, ProtocolState, Idle, pop, set-halt, set-dk}

@@ -1,4 +1,4 @@
--- Report w from u at v over v's in-branch k, v not Find, w not later than v's best: nothing but the Report goes.
+-- Report w from u at v over v's in-branch k, v not Find, w not later than v's best: nothing but the Report goes (`inv-core-nothing`).
 use Rattle.protocol.specs.Prelude.{ℕ, _≤_, _<_, arith, _≡_, refl, sym, ap, subst, _∙_, _≢_, _⊎_, inl, inr, ⊎-elim, by-eq}
 use Rattle.protocol.specs.Prelude.{List, _∷_, upd2, sumL, Msg, none, report}
 use Rattle.protocol.specs.Prelude.{Network, Edge, key, flip, ends-two, other-end, ends-irr, key-none, key-edge, rank-lt, rank-inj, ProtocolState, Idle, pop}

@@ -1,4 +1,4 @@
--- Report w from u at v over v's in-branch k, v not Find, w later than v's best: v is to execute procedure change-root.
+-- Report w from u at v over v's in-branch k, v not Find, w later than v's best: v is to execute procedure change-root (`inv-decide`).
 use Rattle.protocol.specs.Prelude.{ℕ, _<_, arith, _≡_, sym, ap, subst, _≢_, inl, ⊎-elim}
 use Rattle.protocol.specs.Prelude.{List, _∷_, upd2, Msg, none, report}
 use Rattle.protocol.specs.Prelude.{Network, Edge, key, key-none, ProtocolState, Idle, pop, rooted, In, pop-in}

@@ -1,5 +1,5 @@
 -- A Report or a Change-root m, the head of the channel from u over k, is taken: the clauses on other messages stay,
--- whatever becomes of the tables that they do not read.
+-- whatever becomes of the tables that they do not read (`late-kept`).
 use Rattle.protocol.specs.Prelude.{ℕ, _≡_, refl, List, _∷_, upd2, Msg, report, change, Network, ProtocolState, pop}
 use Rattle.protocol.specs.Prelude.{set-bw, set-be, set-fc, set-halt, set-dk, set-dn, set-owe, set-op, set-oo, isCI, isT, isA, pop-in, pop-sum}
 use Rattle.protocol.specs.Prelude.{Inv, take-hush, take-connects, take-initiates, take-telling, take-ordered, testing-same}

@@ -1,4 +1,4 @@
--- A Report or a Change-root, the head of the channel from u over k, makes v execute procedure change-root.
+-- A Report or a Change-root, the head of the channel from u over k, makes v execute procedure change-root (`inv-rooted`).
 use Rattle.protocol.specs.Prelude.{ℕ, suc, arith, _≡_, refl, sym, ap, subst, _∙_, _≢_, inl, ⊎-elim, by-eq}
 use Rattle.protocol.specs.Prelude.{List, _∷_, upd, upd-same, upd-other, upd2, sumL, Msg, none, report, change}
 use Rattle.protocol.specs.Prelude.{Network, Edge, key, flip, other-end, ProtocolState, Idle, pop, rooted, isR, In, pop-in, pop-bef}

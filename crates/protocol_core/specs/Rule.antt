@@ -1,5 +1,5 @@
 -- A Report or a Change-root, the head of the channel from u over k, makes v's fragment take a decision of kind d:
--- 1, v is to execute procedure change-root; 4, the fragment is finished. What differs between the two is in `Ruling`.
+-- 1, v is to execute procedure change-root; 4, the fragment is finished. What differs between the two is in `Ruling`; the whole is `inv-rule`.
 use Rattle.protocol.specs.Prelude.{ℕ, _≤_, arith, _≡_, sym, ap, subst, _∙_, _≢_, _⊎_, inl, inr, ⊎-elim, by-eq}
 use Rattle.protocol.specs.Prelude.{List, _∷_, upd, upd-elim, upd-same, upd-other, upd2, sumL, Msg, none, connect, report, change}
 use Rattle.protocol.specs.Prelude.{Network, Edge, flip, ProtocolState, pop, set-ch, set-halt, set-dk, set-dn, set-oo}

@@ -1,4 +1,4 @@
--- WHATEVER SEQUENCE OF SMALL STEPS IS TAKEN FROM SETUP: the invariant holds, and no more messages are sent than the ceiling.
+-- WHATEVER SEQUENCE OF SMALL STEPS IS TAKEN FROM SETUP: the invariant holds (`from-setup`), and no more messages are sent than the ceiling (`reach-ceiling`).
 use Rattle.protocol.specs.Prelude.{ℕ, _+_, _*_, _≤_, arith, _≡_, subst, Network, Tree, ProtocolState, setupState, Inv, sends, Steps, done, then}
 use Rattle.protocol.specs.Setup.{inv-setup}
 use Rattle.base.specs.Log.{log2}

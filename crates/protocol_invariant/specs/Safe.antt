@@ -1,5 +1,5 @@
--- Why a field that was set up and then only stepped is never refused by 31 or 32: the values and messages that the invariant allows,
--- and what holds where a response could be refused.
+-- Why a field that was set up and then only stepped is never refused by 31 or 32: the values and messages that the invariant allows (`lev-le`, `count-le`,
+-- `initiate-ok`), and what holds where a response could be refused (`to-sleeper`, `report-branch`, `root-edge`).
 use Rattle.protocol.specs.Prelude.{ℕ, suc, _+_, _≤_, _<_, arith, _≡_, ap, _≢_, by-eq, Bool, true, bit}
 use Rattle.protocol.specs.Prelude.{List, _∷_, sum, sum-le, Msg, connect, initiate, test, report, Network, Edge, end-lt, flip, ProtocolState}
 use Rattle.protocol.specs.Prelude.{Rouse, In, all-in, GL, Inv}

@@ -1,4 +1,4 @@
--- EVERY SMALL STEP KEEPS THE INVARIANT.
+-- EVERY SMALL STEP KEEPS THE INVARIANT (`inv-step`).
 use Rattle.protocol.specs.Prelude.{Network, ProtocolState, Step, Inv}
 use Rattle.protocol.specs.Step.{wake-lone, wake-half, wake-merge, back, absorb, core-reply, tell, accept-test, reject-test, crossed-test, accepted, rejected}
 use Rattle.protocol.specs.Step.{child-report, core-nothing, core-halt, decide, change-root, test-next, test-none, report-now, report-later, root-branch, root-half, root-merge}

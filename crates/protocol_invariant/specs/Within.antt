@@ -1,5 +1,5 @@
--- IN EVERY STATE OF WHICH THE INVARIANT HOLDS: only tree edges are Branch, all values and messages are within their lists,
--- and no condition of refusal 32 is met.
+-- IN EVERY STATE OF WHICH THE INVARIANT HOLDS: only tree edges are Branch (`only-tree`), all values and messages are within their lists (`inv-within`,
+-- `carried`), and no condition of refusal 32 is met (`unrefused`).
 use Rattle.protocol.specs.Prelude.{ℕ, suc, _+_, _*_, _≤_, _<_, arith, _≡_, refl, _≢_, inl, inr, by-eq}
 use Rattle.protocol.specs.Prelude.{true, not, _&&_, eqb, eqb-cases, bit, List, _∷_, upd, upd-same, sum}
 use Rattle.protocol.specs.Prelude.{Msg, none, connect, initiate, test, report, Network, Edge, Tree, up, down, ProtocolState, Idle, Place, copy}

@@ -1,4 +1,4 @@
--- v sends Connect over k, which is no branch at its other end y: half, for waking and for procedure change-root.
+-- v sends Connect over k, which is no branch at its other end y: half, for waking and for procedure change-root (`inv-half`).
 use Rattle.protocol.specs.Prelude.{ℕ, arith, _≡_, refl, subst, _∙_, _≢_, inr, by-eq}
 use Rattle.protocol.specs.Prelude.{upd, connect, Network, ProtocolState, halved, set-st, set-oo, In, in-all, in-new, snoc-all, GL, Inv}
 use Rattle.protocol_merge.specs.Turn.{Turn}

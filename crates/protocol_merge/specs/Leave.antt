@@ -1,4 +1,5 @@
--- Edge k leads from v out of its fragment, to y, and no edge that leaves the fragment is earlier.
+-- Edge k leads from v out of its fragment, to y, and no edge that leaves the fragment is earlier: it is in the tree (`leave-tree`), and its channel holds
+-- answers only (`leave-only`).
 use Rattle.protocol.specs.Prelude.{ℕ, suc, _≤_, arith, _≡_, refl, sym, ap, subst, _∙_, _≢_, inr, ⊎-elim, by-eq}
 use Rattle.protocol.specs.Prelude.{true, false, eqb, eqb-cases, eqb-same, eqb-diff, cut-rank}
 use Rattle.protocol.specs.Prelude.{Msg, connect, initiate, test, accept, reject, report, change}

@@ -1,4 +1,4 @@
--- Merge, for waking and for procedure change-root.
+-- Merge, for waking and for procedure change-root (`inv-merge`).
 use Rattle.protocol.specs.Prelude.{ℕ, Network, ProtocolState, upd, halved, merged, set-st, set-oo, Inv}
 use Rattle.protocol_merge.specs.Move as M
 use Rattle.protocol_merge.specs.Unite.{MergeReady, mv}

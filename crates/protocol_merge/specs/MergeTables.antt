@@ -1,4 +1,4 @@
--- Merge keeps the clauses that speak of tables.
+-- Merge keeps the clauses that speak of tables: `W0-merge`, `G2-merge` and so on, each by the clause's name.
 use Rattle.protocol.specs.Prelude.{ℕ, suc, _^_, _≤_, arith, _≡_, sym, ap, subst, _∙_, _≢_, inl, inr, ⊎-elim}
 use Rattle.protocol.specs.Prelude.{upd, upd-elim, upd2-elim, at2, relabel-cases}
 use Rattle.protocol.specs.Prelude.{Network, Edge, Tree, key, rank, Way, go, join, both-joined, joins-lt, flip, same-edge, other-end, end-lt, ProtocolState}

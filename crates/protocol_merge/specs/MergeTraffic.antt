@@ -1,4 +1,4 @@
--- Merge keeps the clauses that speak of channels.
+-- Merge keeps the clauses that speak of channels: `Dc-merge`, `C1-merge` and so on, each by the clause's name.
 use Rattle.protocol.specs.Prelude.{ℕ, _+_, _≤_, arith, _≡_, refl, sym, ap, subst, _∙_, _≢_, inl, inr, ⊎-elim}
 use Rattle.protocol.specs.Prelude.{upd-other, All, sumL, at2}
 use Rattle.protocol.specs.Prelude.{Msg, connect, initiate, report}

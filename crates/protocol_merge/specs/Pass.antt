@@ -1,5 +1,5 @@
 -- v's fragment takes a decision of kind d with node v and edge k, as v sends m over it: 3 for a Connect, 2 for a Change-root.
--- What differs between the two is in `PassCase`; the rest is proved here once.
+-- What differs between the two is in `PassCase`; the rest is proved here once (`inv-pass`).
 use Rattle.protocol.specs.Prelude.{ℕ, _≤_, arith, _≡_, refl, sym, ap, subst, _∙_, _≢_, _⊎_, inl, inr, ⊎-elim, by-eq, last-case, init-ok}
 use Rattle.protocol.specs.Prelude.{upd, upd-elim, upd-same, upd-other, upd2, upd2-elim, All, at2}
 use Rattle.protocol.specs.Prelude.{Msg, connect, report, change}

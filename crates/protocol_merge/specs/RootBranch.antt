@@ -1,4 +1,4 @@
--- Procedure change-root with best edge k a branch of v: v sends Change-root over k, to its child c.
+-- Procedure change-root with best edge k a branch of v: v sends Change-root over k, to its child c (`inv-root-branch`).
 use Rattle.protocol.specs.Prelude.{ℕ, suc, arith, _≡_, refl, sym, ap, subst, _∙_, fun-ext, _≢_, inl, ⊎-elim, by-eq}
 use Rattle.protocol.specs.Prelude.{upd, upd-id, upd2, upd2-elim, at2, Msg, change, Network, Edge, key, ends-two, ends-same, ends-irr, ProtocolState}
 use Rattle.protocol.specs.Prelude.{set-st, set-mark, set-ub, set-oo, sendOver, remarked, decided, isK, fits-change, In, in-new, in-sum, some-change}

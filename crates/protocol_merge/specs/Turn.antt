@@ -1,4 +1,4 @@
--- The node v that is about to turn its inbound edge: a sleeper that wakes, or the node that executes procedure change-root.
+-- The node v that is about to turn its inbound edge: a sleeper that wakes, or the node that executes procedure change-root (`turn-sleeper`, `turn-root`).
 use Rattle.protocol.specs.Prelude.{ℕ, suc, _≤_, arith, _≡_, sym, ap, _∙_, _≢_, by-eq}
 use Rattle.protocol.specs.Prelude.{report, Network, Edge, flip, edge-some, ProtocolState, isR, top, top-none, In, none-in}
 use Rattle.protocol.specs.Prelude.{GL, GC, DK, Inf, Jn, Root, Inv, sleep-lev, sleep-ib, decided-find, core-informed, no-initiate, no-root}

@@ -1,5 +1,5 @@
 -- v sends Connect over k, which is a branch at its other end y: the fragments of v and y become one, of the next level.
--- Here: what the tables say of a node inside the new fragment, and of one outside it.
+-- Here: what the tables say of a node inside the new fragment, and of one outside it (`sort`).
 use Rattle.protocol.specs.Prelude.{ℕ, suc, _≤_, _<_, arith, _≡_, refl, sym, ap, _∙_, _≢_, _⊎_, inl, inr, ⊎-elim, by-eq}
 use Rattle.protocol.specs.Prelude.{upd, upd-same, upd-other, bulk, bulk-elim, bulk-in, bulk-out, relabel-keep, at2, connect}
 use Rattle.protocol.specs.Prelude.{Network, Edge, flip, same-edge, ProtocolState, halved, merged, set-st, set-oo}

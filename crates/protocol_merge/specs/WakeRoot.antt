@@ -1,4 +1,5 @@
--- Waking and procedure change-root, where v sends Connect over k to y: the uses of half and merge.
+-- Waking and procedure change-root, where v sends Connect over k to y: the uses of half and merge (`inv-wake-half`, `inv-wake-merge`,
+-- `inv-root-half`, `inv-root-merge`).
 use Rattle.protocol.specs.Prelude.{ℕ, suc, _≡_, refl, sym, subst, _≢_, upd, upd-id}
 use Rattle.protocol.specs.Prelude.{Network, Edge, ProtocolState, Idle, FirstOwn, set-st, set-oo, wokenUp, halved, merged, woken-same, GL, Inv, inf-found}
 use Rattle.protocol_merge.specs.Turn.{Turn, root-ok, turn-sleeper, turn-root}

@@ -1,4 +1,4 @@
--- Procedure report at v, which waits for nothing: v sends its best weight over its in-branch k and is Found.
+-- Procedure report at v, which waits for nothing: v sends its best weight over its in-branch k and is Found (`inv-report-now`).
 use Rattle.protocol.specs.Prelude.{ℕ, suc, _≤_, _<_, arith, _≡_, refl, sym, ap, subst, _∙_, _≢_, _⊎_, inl, inr, ⊎-elim}
 use Rattle.protocol.specs.Prelude.{List, upd, upd-elim, upd-same, upd-other, by-eq, sumL, le-sum}
 use Rattle.protocol.specs.Prelude.{Msg, none, connect, initiate, report}

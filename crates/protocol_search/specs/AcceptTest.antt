@@ -1,4 +1,4 @@
--- Test (l, f) from u at v over k, of another fragment: v answers Accept.
+-- Test (l, f) from u at v over k, of another fragment: v answers Accept (`inv-accept-test`).
 use Rattle.protocol.specs.Prelude.{ℕ, _+_, _≤_, arith, _≡_, refl, sym, ap, subst, _∙_, _≢_, inl, ⊎-elim}
 use Rattle.protocol.specs.Prelude.{List, _∷_, upd2, by-eq, sumL}
 use Rattle.protocol.specs.Prelude.{Msg, test, accept}

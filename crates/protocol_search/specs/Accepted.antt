@@ -1,4 +1,4 @@
--- Accept from u at v over k: the test edge becomes none, k is weighed against v's best, procedure report comes next.
+-- Accept from u at v over k: the test edge becomes none, k is weighed against v's best, procedure report comes next (`inv-accepted`).
 use Rattle.protocol.specs.Prelude.{ℕ, suc, _+_, _≤_, arith, _≡_, refl, sym, ap, subst, _∙_, _≢_, _⊎_, inl, inr, ⊎-elim}
 use Rattle.protocol.specs.Prelude.{List, _∷_, upd, upd-elim, upd-other, upd2, by-eq, sumL}
 use Rattle.protocol.specs.Prelude.{Msg, none, test, accept}

@@ -1,4 +1,4 @@
--- v, which waits on k, takes m from u over k, strikes its mark for k and is to test again: a Reject, and a Test that crossed its own.
+-- v, which waits on k, takes m from u over k, strikes its mark for k and is to test again: a Reject, and a Test that crossed its own (`inv-again`).
 use Rattle.protocol.specs.Prelude.{ℕ, suc, _+_, _≤_, arith, _≡_, sym, ap, subst, _∙_, _≢_, _⊎_, inl, inr, ⊎-elim}
 use Rattle.protocol.specs.Prelude.{List, _∷_, upd2, by-eq, sumL}
 use Rattle.protocol.specs.Prelude.{Msg, test}

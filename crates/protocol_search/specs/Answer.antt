@@ -1,4 +1,4 @@
--- v takes the Test of u over k and sends an answer m: one Test less from u, one answer more from v.
+-- v takes the Test of u over k and sends an answer m: one Test less from u, one answer more from v (`tests-answer`, `even`, `crossed`).
 use Rattle.protocol.specs.Prelude.{ℕ, suc, _+_, arith, _≡_, refl, sym, ap, _∙_, _≢_, _⊎_, inl, inr, ⊎-elim}
 use Rattle.protocol.specs.Prelude.{List, _∷_, upd2, by-eq, sumL, Msg, test, Network, Edge, flip, other-end, ProtocolState, Idle, isT, isA}
 use Rattle.protocol.specs.Prelude.{pop-sum, pop-here, else-same, snoc, snoc-sum, snoc-here, snoc-else}

@@ -1,4 +1,4 @@
--- A put-back keeps the invariant: the head m of the channel from u over k, which v would put back, goes to a later place.
+-- A put-back keeps the invariant: the head m of the channel from u over k, which v would put back, goes to a later place (`inv-back`).
 use Rattle.protocol.specs.Prelude.{ℕ, _≤_, arith, _≡_, refl, sym, subst, _∙_, _≢_, inl, inr, ⊎-elim}
 use Rattle.protocol.specs.Prelude.{List, [], _∷_, _++_, upd2-elim, sumL}
 use Rattle.protocol.specs.Prelude.{Msg, connect, initiate, test, accept, reject, report, change}

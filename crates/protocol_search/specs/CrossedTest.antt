@@ -1,4 +1,4 @@
--- Test of v's own fragment from u, over v's own test edge k: the mark is struck, procedure test comes next.
+-- Test of v's own fragment from u, over v's own test edge k: the mark is struck, procedure test comes next (`inv-crossed-test`).
 use Rattle.protocol.specs.Prelude.{ℕ, suc, _≤_, arith, _≡_, sym, ap, _≢_, _⊎_, inl, inr, ⊎-elim}
 use Rattle.protocol.specs.Prelude.{List, _∷_, by-eq, sumL, Msg, test, Network, Edge, flip, ProtocolState, Idle, Strike, set-ot, remarked, pop}
 use Rattle.protocol.specs.Prelude.{isT, isA, In, in-sum, pop-head, no-answers, Waits, Inv, rest-none, plain-test}

@@ -1,3 +1,5 @@
+-- The steps of the search, which keep the invariant. Main results: `inv-wake-lone`, `inv-back`, `inv-accept-test`, `inv-reject-test`,
+-- `inv-crossed-test`, `inv-accepted`, `inv-rejected`, `inv-test-next`, `inv-test-none`, `inv-report-later`.
 pub mod Back
 pub mod TestNone
 pub mod ReportLater

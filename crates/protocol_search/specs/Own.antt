@@ -1,4 +1,4 @@
--- A Test that carries v's own identity, of a level not above v's: its sender u is of v's fragment, and v is informed.
+-- A Test that carries v's own identity, of a level not above v's: its sender u is of v's fragment, and v is informed (`tester-inside`, `inf-tested`).
 use Rattle.protocol.specs.Prelude.{ℕ, _≤_, arith, _≡_, refl, sym, ap, subst, _∙_}
 use Rattle.protocol.specs.Prelude.{by-eq, test, Network, Edge, up, flip, ProtocolState, In, GC, Inf, Inv}
 

@@ -1,4 +1,4 @@
--- Test of v's own fragment from u, over k that is not v's test edge: the mark is struck, v answers Reject.
+-- Test of v's own fragment from u, over k that is not v's test edge: the mark is struck, v answers Reject (`inv-reject-test`).
 use Rattle.protocol.specs.Prelude.{ℕ, _+_, _≤_, arith, _≡_, refl, sym, ap, subst, _∙_, _≢_, _⊎_, inl, inr, ⊎-elim}
 use Rattle.protocol.specs.Prelude.{List, _∷_, upd2, upd2-elim, by-eq, sumL}
 use Rattle.protocol.specs.Prelude.{Msg, test, reject}

@@ -1,4 +1,4 @@
--- Reject from u at v over k: the mark is struck, procedure test comes next.
+-- Reject from u at v over k: the mark is struck, procedure test comes next (`inv-rejected`).
 use Rattle.protocol.specs.Prelude.{ℕ, suc, _+_, _≤_, arith, _≡_, sym, ap, _≢_, inl}
 use Rattle.protocol.specs.Prelude.{List, _∷_, by-eq, sumL, Msg, reject, Network, Edge, flip, ProtocolState, Idle, Strike, set-ot, remarked, pop}
 use Rattle.protocol.specs.Prelude.{isT, isA, in-sum, pop-head, Inv, rest-none, plain-reject}

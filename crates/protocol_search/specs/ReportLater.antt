@@ -1,4 +1,4 @@
--- Procedure report while v still waits for a Report or an answer: nothing but the open flag changes.
+-- Procedure report while v still waits for a Report or an answer: nothing but the open flag changes (`inv-report-later`).
 use Rattle.protocol.specs.Prelude.{ℕ, suc, arith, _≡_, subst, _≢_, _⊎_, inl, inr, ⊎-elim, by-eq}
 use Rattle.protocol.specs.Prelude.{none, Network, ProtocolState, set-op, Inv, flow, inv-asking, flow-open}
 

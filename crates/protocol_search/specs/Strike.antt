@@ -1,4 +1,4 @@
--- A mark of v for k that is Basic becomes Rejected: what stays of the clauses that read marks.
+-- A mark of v for k that is Basic becomes Rejected: what stays of the clauses that read marks (`flow-strike`, `inv-strike`).
 use Rattle.protocol.specs.Prelude.{ℕ, _≤_, arith, _≡_, refl, sym, ap, subst, _∙_, _≢_, _⊎_, inl, inr, ⊎-elim}
 use Rattle.protocol.specs.Prelude.{upd2, upd2-elim, by-eq, Network, Edge, key, rank, flip, other-end, wider, ProtocolState, Strike, set-mark, set-ch, set-ot, List, Msg}
 use Rattle.protocol.specs.Prelude.{Both, Bounding, Inv, Flow, inv-search, init-ok, at2}

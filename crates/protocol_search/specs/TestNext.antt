@@ -1,4 +1,4 @@
--- Procedure test with k the earliest Basic edge of v: v sends Test over k.
+-- Procedure test with k the earliest Basic edge of v: v sends Test over k (`inv-test-next`).
 use Rattle.protocol.specs.Prelude.{ℕ, suc, _+_, _≤_, arith, _≡_, refl, sym, ap, subst, _∙_, _≢_, _⊎_, inl, inr, ⊎-elim}
 use Rattle.protocol.specs.Prelude.{List, upd, upd-elim, upd-same, upd-other, by-eq, sumL}
 use Rattle.protocol.specs.Prelude.{Msg, none, test}

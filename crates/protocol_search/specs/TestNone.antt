@@ -1,4 +1,4 @@
--- Procedure test with no edge in the state Basic: test edge none, procedure report comes next.
+-- Procedure test with no edge in the state Basic: test edge none, procedure report comes next (`inv-test-none`).
 use Rattle.protocol.specs.Prelude.{ℕ, suc, _≤_, arith, _≡_, refl, sym, ap, subst, _∙_, _≢_, _⊎_, inl, inr, ⊎-elim}
 use Rattle.protocol.specs.Prelude.{upd, upd-elim, upd-other, by-eq}
 use Rattle.protocol.specs.Prelude.{none}

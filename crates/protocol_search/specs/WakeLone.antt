@@ -1,4 +1,4 @@
--- A node without edges wakes: Found and halted, and its fragment is finished.
+-- A node without edges wakes: Found and halted, and its fragment is finished (`inv-wake-lone`).
 use Rattle.protocol.specs.Prelude.{ℕ, _≤_, _<_, arith, _≡_, sym, ap, subst, _∙_, _≢_, inl, inr, ⊎-elim}
 use Rattle.protocol.specs.Prelude.{upd, upd-elim, upd-same, upd-other, by-eq}
 use Rattle.protocol.specs.Prelude.{Network, Edge, flip, ProtocolState, Idle, set-st, set-dk, set-halt, wokenUp, woken-same}

@@ -1,4 +1,5 @@
--- THE STUCK LEMMA: in a stuck state the fragment of every awake node is finished, is its whole part of the graph, and no message waits.
+-- THE STUCK LEMMA: in a stuck state the fragment of every awake node is finished (`awake-finished`), is its whole part of the graph (`part`), and no message
+-- waits (`nothing`).
 use Rattle.protocol.specs.Prelude.{ℕ, _≤_, _<_, arith, _≡_, refl, sym, ap, _∙_, _≢_, _⊎_, inl, inr, ⊎-elim, by-eq, strong}
 use Rattle.protocol.specs.Prelude.{Msg, connect, initiate, test, accept, reject, report, change, Network, Edge, rank, Way, stop, go, up, down, flip, join, hop, wider, ProtocolState}
 use Rattle.protocol.specs.Prelude.{In, Blocked, GL, DK, Inv, waits-find}

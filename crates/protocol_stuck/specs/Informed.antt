@@ -1,4 +1,5 @@
--- A stuck state: no response is under way, and every message would be put back by an awake receiver. Then every node has its fragment's level.
+-- A stuck state (`Stuck`): no response is under way, and every message would be put back by an awake receiver. Then every node has its fragment's level
+-- (`stuck-level`).
 use Rattle.protocol.specs.Prelude.{ℕ, _≤_, _<_, arith, _≡_, refl, sym, ap, _∙_, _≢_, ⊎-elim, by-eq, sumL}
 use Rattle.protocol.specs.Prelude.{Msg, connect, initiate, accept, reject, change, Network, Edge, Way, stop, go, up, flip, ProtocolState, Idle, Blocked}
 use Rattle.protocol.specs.Prelude.{In, some-connect, isA, no-answers, joined-both, GL, GC, DK, Inf, Jn, JoinedEdge, Inv, inf-cases, changing-of, no-root}

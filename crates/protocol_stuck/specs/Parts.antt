@@ -1,4 +1,4 @@
--- STUCK MEANS FINISHED, and so does rest: what such a state says of each part of the graph. The theorems are at the end.
+-- STUCK MEANS FINISHED (`stuck-finished`), and so does rest (`rest-finished`): what such a state says of each part of the graph.
 use Rattle.protocol.specs.Prelude.{ℕ, _≤_, _<_, arith, _≡_, refl, sym, ap, subst, _≢_, _⊎_, inl, inr, ⊎-elim, by-eq, List, [], _∷_}
 use Rattle.protocol.specs.Prelude.{Network, Edge, Tree, up, down, flip, wider, Way, ProtocolState, setupState, Idle, GL, GC, In, first, in-nil, Inv}
 use Rattle.protocol.specs.Prelude.{sleep-lev, sleep-id, sleep-te, sleep-fc, sleep-halt, sleep-ib}

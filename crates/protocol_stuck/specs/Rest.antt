@@ -1,4 +1,5 @@
--- At rest: the branches are the tree, the other edges are Rejected at both ends, and just the core ends have halted. For each part with an awake node.
+-- At rest: the branches are the tree (`tree-branch`), the other edges are Rejected at both ends (`other-rejected`), and just the core ends have halted
+-- (`core-halted`, `halted-core`). For each part with an awake node.
 use Rattle.protocol.specs.Prelude.{ℕ, _≤_, arith, _≡_, refl, sym, ap, subst, _∙_, _≢_, _⊎_, inl, inr, ⊎-elim, by-eq}
 use Rattle.protocol.specs.Prelude.{none, report, Network, Edge, Tree, Graph, Joins, joins-lt, up, flip, hop, Way, stop, go, ProtocolState, GL, GC, Jn, JoinedEdge, Inv, joined-both}
 use Rattle.graph.specs.laws.Cycle.{needed}

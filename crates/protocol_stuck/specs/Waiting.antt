@@ -1,4 +1,5 @@
--- In a stuck state an undecided fragment waits for one of a lower level, and one that is half for one that is half on an earlier edge.
+-- In a stuck state an undecided fragment waits for one of a lower level (`lower`), and one that is half for one that is half on an earlier edge (`half-meets`,
+-- `half-earlier`).
 use Rattle.protocol.specs.Prelude.{ℕ, zero, suc, _-_, _≤_, _<_, arith, _≡_, refl, sym, ap, _∙_, _≢_, _⊎_, inl, inr, ⊎-elim, by-eq, sum, sumL, le-sum}
 use Rattle.protocol.specs.Prelude.{none, connect, test, report, Network, Edge, end-lt, up, joins-lt, flip, same-edge, ProtocolState}
 use Rattle.protocol.specs.Prelude.{rank, rank-inj, isT, isR, In, some-test, some-report, GL, GC, DK, Inf, Jn, Half, Waits, Inv, down-core, half-of}

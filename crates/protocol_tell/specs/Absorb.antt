@@ -1,4 +1,4 @@
--- Connect (l) from u at v over k, l below v's level: v's fragment absorbs that of u.
+-- Connect (l) from u at v over k, l below v's level: v's fragment absorbs that of u (`inv-absorb`).
 use Rattle.protocol.specs.Prelude.{ℕ, _≤_, _<_, arith, _≡_, refl, sym, ap, subst, _∙_, _≢_, _⊎_, inl, inr, ⊎-elim}
 use Rattle.protocol.specs.Prelude.{List, _∷_, upd2-elim, by-eq, le-sum, All, sumL}
 use Rattle.protocol.specs.Prelude.{Msg, connect, initiate, report}

@@ -1,4 +1,4 @@
--- v absorbs the fragment D of u over k: the clauses on tables.
+-- v absorbs the fragment D of u over k: the clauses on tables, `W0-absorb`, `G2-absorb` and so on, each by its name.
 use Rattle.protocol.specs.Prelude.{ℕ, _+_, _^_, _≤_, _<_, arith, _≡_, refl, sym, ap, subst, _∙_, _≢_, inl, inr, ⊎-elim}
 use Rattle.protocol.specs.Prelude.{List, upd-elim, upd2-elim, by-eq, sum, size-mono}
 use Rattle.protocol.specs.Prelude.{Msg, none}

@@ -1,4 +1,4 @@
--- Connect from u at v over the core k, of v's own level: v answers by Initiate of the next level, with k as identity, Find.
+-- Connect from u at v over the core k, of v's own level: v answers by Initiate of the next level, with k as identity, Find (`inv-core-reply`).
 use Rattle.protocol.specs.Prelude.{ℕ, _+_, _≤_, _<_, arith, _≡_, refl, sym, ap, subst, _∙_, _≢_, _⊎_, inl, inr, ⊎-elim}
 use Rattle.protocol.specs.Prelude.{List, _∷_, by-eq, sumL}
 use Rattle.protocol.specs.Prelude.{Msg, connect, initiate, report}

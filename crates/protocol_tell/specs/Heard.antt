@@ -1,4 +1,5 @@
--- v serves Initiate (l, f, x) from u over k, takes its values and sends the copies: what holds before and after.
+-- v serves Initiate (l, f, x) from u over k, takes its values and sends the copies: what holds before (`low`, `te-none`, `fc-none`; of who gets a copy `kid-`,
+-- of the core `core-`) and after (`inf-tell`, `kept-tell`, `same-tell`).
 use Rattle.protocol.specs.Prelude.{ℕ, suc, _≤_, _<_, arith, _≡_, refl, sym, ap, subst, _∙_, _≢_, _⊎_, inl, inr, ⊎-elim, List, _∷_, Bool, true, upd2, upd-same}
 use Rattle.protocol.specs.Prelude.{upd-other, upd-elim, by-eq, sumL, Msg, none, initiate, report, Network, Edge, flip, other-end, ends-irr, edge-some, ProtocolState, Idle, Mode}
 use Rattle.protocol.specs.Prelude.{Place, initiated, pop, copy, top, top-in, top-max, kinds, Fits, In, Bef, heads, in-cons, else-same, here-new, head-at}

@@ -1,4 +1,4 @@
--- Laws for the steps that send Initiates.
+-- Laws for the steps that send Initiates: of the one at a place (`initiate-at`, `init-eq`), of the copies (`fan-here`, `fill-here`).
 use Rattle.protocol.specs.Prelude.{ℕ, arith, _≡_, refl, sym, ap, subst, _∙_, inl, inr, List, Msg, initiate}
 use Rattle.protocol.specs.Prelude.{Graph, Joins, arg1, arg2, arg3, Bool, true, false, _≢_}
 use Rattle.protocol.specs.Prelude.{_⊎_, [], _∷_, _++_, fan, fan-elim, fillEdges, fill-elim}

@@ -1,3 +1,4 @@
+-- The steps that send or take an Initiate, which keep the invariant. Main results: `inv-absorb`, `inv-core-reply`, `inv-tell`.
 pub mod Laws
 pub mod Reply
 pub mod CoreReply

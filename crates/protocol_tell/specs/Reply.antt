@@ -1,4 +1,5 @@
--- The Connect at the head of the channel from u over k is taken, and v answers it by Initiate (a, f, x) over k: the channels.
+-- The Connect at the head of the channel from u over k is taken, and v answers it by Initiate (a, f, x) over k: the channels (`reply-in`, `same-reply`,
+-- `order-reply`).
 use Rattle.protocol.specs.Prelude.{ℕ, _≤_, arith, _≡_, refl, sym, ap, subst, _∙_, _≢_, _⊎_, inl, inr, ⊎-elim}
 use Rattle.protocol.specs.Prelude.{List, [], _∷_, upd2, by-eq, All, sumL}
 use Rattle.protocol.specs.Prelude.{Msg, connect, initiate}

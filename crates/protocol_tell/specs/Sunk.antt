@@ -1,4 +1,5 @@
--- v absorbs the fragment D of u over k, answering the Connect (l) of u, l below its own level: what holds before and after.
+-- v absorbs the fragment D of u over k, answering the Connect (l) of u, l below its own level: what holds before (`half`, `level-absorb`, `rise`) and after
+-- (`inf-out-absorb`, `inf-old-absorb`, `inf-new-absorb`, `bounds-absorb`).
 use Rattle.protocol.specs.Prelude.{ℕ, _≤_, _<_, arith, _≡_, refl, sym, ap, subst, _∙_, _≢_, _⊎_, inl, inr, ⊎-elim}
 use Rattle.protocol.specs.Prelude.{List, _∷_, upd2-elim, by-eq}
 use Rattle.protocol.specs.Prelude.{Msg, connect, initiate}

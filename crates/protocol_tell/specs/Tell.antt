@@ -1,4 +1,4 @@
--- Initiate (l, f, x) from u at v over k: v takes level, identity and status from it, and sends copies over its other branches.
+-- Initiate (l, f, x) from u at v over k: v takes level, identity and status from it, and sends copies over its other branches (`inv-tell`).
 use Rattle.protocol.specs.Prelude.{ℕ, suc, _≤_, _<_, arith, _≡_, refl, sym, ap, subst, _∙_, _≢_, _⊎_, inl, inr, ⊎-elim, List, [], _∷_, Bool, true, upd2}
 use Rattle.protocol.specs.Prelude.{upd-other, by-eq, sumL, All, All-app, con, nil, Msg, connect, initiate, Network, Edge, key, flip, other-end, ends-irr, ProtocolState, Idle, Mode}
 use Rattle.protocol.specs.Prelude.{Place, initiated, pop, copy, isC, isT, isA, isR, isK, arg1, top, top-app, Fits, fits-initiate, In, in-nil, at2, else-same}

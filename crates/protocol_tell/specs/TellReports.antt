@@ -1,4 +1,4 @@
--- v serves Initiate (l, f, x) from u over k: the clauses on Reports, on what is owed, and on best weights.
+-- v serves Initiate (l, f, x) from u over k: the clauses on Reports, on what is owed, and on best weights (`R1-tell`, `F4c-tell`, `B2-tell`).
 use Rattle.protocol.specs.Prelude.{ℕ, suc, _≤_, _<_, arith, _≡_, refl, sym, ap, subst, _∙_, _≢_, _⊎_, inl, inr, ⊎-elim, List, Bool, upd2, upd-other, by-eq}
 use Rattle.protocol.specs.Prelude.{sumL, Msg, connect, initiate, report, Network, Edge, key, rank, flip, ends-irr, ProtocolState, initiated, pop, copy, fill-elim}
 use Rattle.protocol.specs.Prelude.{fill-else, isCI, isR, kinds, no-calls, some-report, In, next, Bef, tails, pop-bef, fan-bef, GL, GC, Inf, Jn, Outst, Covered}

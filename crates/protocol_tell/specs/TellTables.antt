@@ -1,4 +1,4 @@
--- v serves Initiate (l, f, x) from u over k: the clauses on tables.
+-- v serves Initiate (l, f, x) from u over k: the clauses on tables, `W0-tell`, `W1-tell` and so on, each by its name.
 use Rattle.protocol.specs.Prelude.{ℕ, suc, _+_, _*_, _≤_, _<_, arith, _≡_, refl, sym, ap, subst, _∙_, _≢_, _⊎_, inl, inr, ⊎-elim, List, Bool, upd-same}
 use Rattle.protocol.specs.Prelude.{upd-other, upd-elim, by-eq, bit, sum, sum-eq, Msg, none, Network, Edge, key, flip, other-end, ends-irr, edge-some, ProtocolState, initiated, pop}
 use Rattle.protocol.specs.Prelude.{copy, fill-elim, fill-else, sum-fill, Bounding, GL, GC, Inf, Jn, Inv, no-root}

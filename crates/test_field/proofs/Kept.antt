@@ -1,4 +1,4 @@
--- A step and a run leave the plan of a field, so its other parts are all that a caller needs back.
+-- A step and a run leave the plan of a field, so its other parts are all that a caller needs back (`step-parts`, `run-parts`, `rounds-parts`).
 use Prim.Native.Nat.{ℕ}
 use mathlib.Core.Path.{_≡_, refl, sym, ap, _∙_}
 use mathlib.Core.List.{List}

@@ -1,4 +1,5 @@
--- Laws of `loop` and `runs`, for any state and any turns.
+-- Laws of `loop` and `runs`, for any state and any turns: one more turn, refused or not (`loop-suc`, `runs-suc`), what all turns keep (`loop-keeps`,
+-- `runs-keep`) and tell (`loop-tells`, `runs-tell`), how a run ends (`rests`, `goes`, `breaks`, `limit`).
 use Prim.Native.Nat.{ℕ, zero, suc, _+_, _≤_, _<_}
 use native.Mathlib.Nat.{not-suc-le-zero}
 use native.Mathlib.Numerals.{add-one}

@@ -1,4 +1,5 @@
--- Bounded search over ℕ for what is decided: there is no excluded middle, so each case split comes from one of these.
+-- Bounded search over ℕ for what is decided (`least`, `best`; induction `strong`, `by-measure`): there is no excluded middle, so each case split comes
+-- from one of these.
 use Prim.Native.Nat.{ℕ, zero, suc, _≤_, _<_}
 use native.Mathlib.Omega.{arith}
 use native.Mathlib.Nat.{not-suc-le-zero}

@@ -1,4 +1,4 @@
--- One law for each outcome of the definitions of own links, ends and marks.
+-- One law for each outcome of the definitions of own links (`own-lower`, `own-higher`), ends (`end-lower`, `end-higher`) and marks (`mark-own`, `mark-not`).
 use Prim.Native.Nat.{ℕ, _+_, _*_, _<_}
 use native.Mathlib.Omega.{arith}
 use mathlib.Core.Path.{_≡_, refl}

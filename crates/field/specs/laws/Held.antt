@@ -1,4 +1,4 @@
--- How many cells a fresh field has.
+-- How many cells a fresh field has (`fresh-length`).
 use Prim.Native.Nat.{ℕ, zero, suc, _*_}
 use native.Mathlib.Omega.{arith}
 use mathlib.Core.Path.{_≡_, refl}

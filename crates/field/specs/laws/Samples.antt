@@ -1,4 +1,4 @@
--- Steps given alone, computed: document 01's sleeper that serves a Test, each kind of step taken, each refusal.
+-- Steps given alone, computed: document 01's sleeper that serves a Test, each kind of step taken, each refusal (`samples`).
 use Prim.Native.Nat.{ℕ}
 use mathlib.Core.Path.{_≡_, refl}
 use mathlib.Core.List.{List, [], _∷_, _++_, map}

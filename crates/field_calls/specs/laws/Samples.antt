@@ -1,4 +1,4 @@
--- Small runs, computed: the reporting program's two modules, document 01's sleeper that serves a Test, and refusals.
+-- Small runs, computed: the reporting program's two modules, document 01's sleeper that serves a Test, and refusals (`samples`).
 use Prim.Native.Nat.{ℕ}
 use mathlib.Core.Path.{_≡_, refl}
 use mathlib.Core.List.{List, [], _∷_, map, flatMap}

@@ -1,3 +1,4 @@
+-- field_cells::put_mark: the cases of `markPut`: no link of the plan, no link of v, or the mark at its end, which is in the array by `end-small`.
 use native.Mathlib.Omega.{arith}
 use mathlib.Core.Path.{sym, _∙_}
 use borrow.Author.Tests.{le-ltb, not-true, not-false}

@@ -1,3 +1,4 @@
+-- field_cells::put_node: a loop; the values from j on are left to write (`run-turn`), in the end none (`run-over`).
 use Prim.Native.Nat.{_+_, _-_, _*_, _≤_}
 use mathlib.Core.Path.{_≡_, sym, _∙_}
 use lib.ListN.{drop}

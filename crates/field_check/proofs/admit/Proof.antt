@@ -1,3 +1,4 @@
+-- field_check::admit: the answer is that of `check`; a field that passes is `Ready`, by `ready`, with the lengths that its type gives.
 use mathlib.Core.Path.{sym, _∙_}
 use lib.ListN.{length-map}
 use borrow.Author.Needs.{needs}

@@ -1,3 +1,4 @@
+-- field_check::all_zero: a loop; all words are zero if those from i on are, by `all-on`, `all-off` and `all-over`.
 use Prim.Native.Nat.{_-_, _≤_}
 use mathlib.Core.Path.{_≡_, refl}
 use lib.Dec.{eqb}

@@ -1,3 +1,5 @@
+-- field_check::check: one law for each return: `valid-plan`, `valid-few`, `valid-gap`, `valid-fits`; what waits and what lies behind, by `front` and
+-- `behind`.
 use Prim.Native.Nat.{ℕ}
 use native.Mathlib.Omega.{arith}
 use mathlib.Core.List.{List}

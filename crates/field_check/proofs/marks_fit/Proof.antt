@@ -1,3 +1,4 @@
+-- field_check::marks_fit: a loop downwards; all marks fit if the first d do, by `every-goes-on` and `every-stops`.
 use Prim.Native.Nat.{ℕ, _*_, _≤_}
 use native.Mathlib.Omega.{arith}
 use mathlib.Core.Path.{_≡_, sym, ap, _∙_}

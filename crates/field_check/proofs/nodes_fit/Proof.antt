@@ -1,3 +1,4 @@
+-- field_check::nodes_fit: a loop downwards; all modules fit if the first v do, by `every-goes-on` and `every-stops`.
 use Prim.Native.Nat.{ℕ, _-_, _≤_}
 use native.Mathlib.Omega.{arith}
 use mathlib.Core.Path.{ap, _≡_, sym, _∙_}

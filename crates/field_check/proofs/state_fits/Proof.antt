@@ -1,3 +1,4 @@
+-- field_check::state_fits: what the callees answer are the parts of `fits`; the counts begin with zeros.
 use mathlib.Core.Path.{refl}
 use lib.ListN.{getD-replicate}
 use borrow.Author.Needs.{needs}

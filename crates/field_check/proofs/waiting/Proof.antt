@@ -1,3 +1,4 @@
+-- field_check::waiting: a loop; i words wait, and those before the first zero behind them, by `wait-on`, `wait-off` and `wait-over`.
 use Prim.Native.Nat.{_+_, _-_, _≤_}
 use native.Mathlib.Omega.{arith}
 use mathlib.Core.Path.{_≡_}

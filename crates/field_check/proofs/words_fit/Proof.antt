@@ -1,3 +1,4 @@
+-- field_check::words_fit: a loop; all words fit if those from i on do, by `all-on`, `all-off` and `all-over`.
 use Prim.Native.Nat.{_-_, _≤_}
 use mathlib.Core.Path.{_≡_, refl, sym, _∙_}
 use lib.ListN.{length, drop}

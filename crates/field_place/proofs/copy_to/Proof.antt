@@ -1,3 +1,4 @@
+-- field_place::copy_to: one word more by `posted-one` and `posted-if`, or none by `posted-none` and `posted-not`.
 use Prim.Native.Nat.{ℕ}
 use mathlib.Core.List.{[], _∷_, _++_}
 use mathlib.Core.Path.{sym, ap, _∙_}

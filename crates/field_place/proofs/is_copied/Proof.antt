@@ -1,3 +1,4 @@
+-- field_place::is_copied: the definition's three tests, one at each return: an own link, not the message's, a branch (`marked-same`).
 use mathlib.Core.Path.{sym, _∙_}
 use borrow.Author.Tests.{not-true, not-false, eq-eqb, ne-eqb}
 use borrow.Author.Needs.{needs}

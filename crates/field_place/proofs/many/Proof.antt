@@ -1,3 +1,4 @@
+-- field_place::many: copies, first and second message counted apart; their numbers add up by `length-append`.
 use native.Mathlib.Omega.{arith}
 use mathlib.Core.List.{_++_}
 use lib.ListN.{length-append}

@@ -1,3 +1,4 @@
+-- field_place::one: no message by `packet-none`, one by `packet-some`.
 use native.Mathlib.Omega.{arith}
 use mathlib.Core.Path.{sym, ap}
 use lib.ListN.{length}

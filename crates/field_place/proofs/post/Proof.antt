@@ -1,3 +1,4 @@
+-- field_place::post: no message by `packet-none` and `posted-none`; one is its word at the end, by `packet-word` and `posted-one`.
 use Prim.Native.Nat.{ℕ, _<_}
 use native.Mathlib.Omega.{arith}
 use mathlib.Core.Path.{ap₂, ap, _∙_}

@@ -1,3 +1,5 @@
+-- field_place::post_all: copies, first and second message behind one another, by `lots`; each finds room, by `lots-first`, `lots-second` and
+-- `lots-third`.
 use borrow.Author.Needs.{needs}
 use Rattle.field_place.proofs.Puts.{lots-first, lots-second, lots-laid, lots-third, lots}
 use Rattle.field_place.proofs.post_all.Statement.{statement}

@@ -1,3 +1,4 @@
+-- field_place::post_copies: a loop; the copies of the first k links are put, by `copying-on`.
 use Prim.Native.Nat.{ℕ, _-_, _≤_, _<_}
 use native.Mathlib.Omega.{arith}
 use mathlib.Core.Path.{_≡_, subst}

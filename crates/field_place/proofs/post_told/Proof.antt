@@ -1,3 +1,4 @@
+-- field_place::post_told: no copies by `copies-none`, all by `copies-told`.
 use native.Mathlib.Omega.{arith}
 use mathlib.Core.Path.{sym, ap}
 use lib.ListN.{length}

@@ -1,3 +1,4 @@
+-- field_place::told: no copies by `copies-none`; else as many as there are branches, by `each-number`.
 use native.Mathlib.Omega.{arith}
 use Prim.Native.Nat.{ℕ}
 use mathlib.Core.Bool.{not, _&&_}

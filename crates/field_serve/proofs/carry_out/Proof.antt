@@ -1,3 +1,5 @@
+-- field_serve::carry_out: one law for each return: `out-32`, `out-33`, `out-placed`; messages and put-back find room, by `room-place` and
+-- `room-back`.
 use native.Mathlib.Omega.{arith}
 use Prim.Native.Nat.{ℕ, _+_, _≤_}
 use mathlib.Core.Path.{sym, subst}

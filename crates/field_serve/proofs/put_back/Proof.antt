@@ -1,3 +1,4 @@
+-- field_serve::put_back: not put back by `not-back`; else one word more, by `is-back` and `holds-one`.
 use borrow.Author.Needs.{needs}
 use Rattle.field_serve.proofs.Holds.{holds-same, holds-one}
 use Rattle.field_serve.proofs.Words.{not-back, is-back}

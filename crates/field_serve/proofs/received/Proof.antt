@@ -1,3 +1,4 @@
+-- field_serve::received: what the callees read of the word are the packet's parts.
 use borrow.Author.Needs.{needs}
 use Rattle.field_serve.proofs.received.Statement.{statement}
 use Rattle.field_serve.proofs.received.Tie as tie

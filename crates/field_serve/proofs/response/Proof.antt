@@ -1,3 +1,4 @@
+-- field_serve::response: the node and the packet are what the rules get (`receives-as`), so the response is theirs, by `responds-as`.
 use borrow.Author.Needs.{needs}
 use Rattle.field_serve.proofs.Steps.{receives-as, responds-as}
 use Rattle.field_serve.proofs.response.Statement.{statement}

@@ -1,3 +1,5 @@
+-- field_serve::serve: one law for each return: `serving-41`, `serving-45`, `serving`; that a response may be worked out and carried out, by
+-- `serving-receives` and `serving-feasible`.
 use native.Mathlib.Omega.{arith}
 use mathlib.Core.Path.{sym, _∙_}
 use lib.Seq.{length-take-le}

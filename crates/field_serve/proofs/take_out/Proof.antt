@@ -1,3 +1,4 @@
+-- field_serve::take_out: past the last place nothing leaves, by `none-out`; else one word, by `one-out`.
 use borrow.Author.Needs.{needs}
 use Rattle.field_serve.proofs.Words.{none-out, one-out}
 use Rattle.field_serve.proofs.take_out.Statement.{statement}

@@ -1,3 +1,4 @@
+-- field_serve::wake: one law for each return: `waking-41`, `waking-43`, `waking`; that the wakeup may be carried out, by `waking-feasible`.
 use native.Mathlib.Omega.{arith}
 use mathlib.Core.Path.{sym, _∙_}
 use borrow.Author.Needs.{needs}

@@ -1,3 +1,4 @@
+-- field_serve::word_at: past the last place by `word-none`, else by `word-there`.
 use borrow.Author.Needs.{needs}
 use Rattle.field_serve.proofs.Words.{word-none, word-there}
 use Rattle.field_serve.proofs.word_at.Statement.{statement}

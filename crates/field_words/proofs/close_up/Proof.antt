@@ -1,3 +1,4 @@
+-- field_words::close_up: a loop; the first i words have moved (`shifted`), one more by `shift-on`; all of them by `shift-end`.
 use Prim.Native.Nat.{_+_, _-_, _≤_}
 use native.Mathlib.Omega.{arith}
 use mathlib.Core.Path.{_≡_}

@@ -1,3 +1,4 @@
+-- field_words::hand: one law for each return: `hand-42`, `none-in-air` (44), `handed`.
 use Prim.Native.Nat.{ℕ}
 use native.Mathlib.Omega.{arith}
 use mathlib.Core.List.{[], _∷_, _++_}

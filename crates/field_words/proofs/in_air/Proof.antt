@@ -1,3 +1,4 @@
+-- field_words::in_air: the definition's test: the flag that `handed` reads, then the link.
 use mathlib.Core.Path.{sym, _∙_}
 use borrow.Author.Needs.{needs}
 use Rattle.field_words.proofs.in_air.Statement.{statement}

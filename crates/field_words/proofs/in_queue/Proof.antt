@@ -1,3 +1,4 @@
+-- field_words::in_queue: the definition's test: the flag that `handed` reads, then where the link leads.
 use mathlib.Core.Path.{sym, _∙_}
 use borrow.Author.Needs.{needs}
 use Rattle.field_words.proofs.in_queue.Statement.{statement}

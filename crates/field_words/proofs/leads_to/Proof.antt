@@ -1,3 +1,4 @@
+-- field_words::leads_to: past the links by `dest-past`, else the definition's two cases, even and odd.
 use native.Mathlib.Omega.{arith}
 use mathlib.Core.Path.{sym, _∙_}
 use borrow.Author.Tests.{eq-eqb, ne-eqb}

@@ -1,3 +1,4 @@
+-- field_words::leave: the part from place a on is closed up: one word less laid out, by `leave-law`.
 use borrow.Author.Needs.{needs}
 use Rattle.field_words.proofs.Laid.{leave-law}
 use Rattle.field_words.proofs.leave.Statement.{statement}

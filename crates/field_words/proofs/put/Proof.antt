@@ -1,3 +1,4 @@
+-- field_words::put: one word more behind those laid out, by `put-law`.
 use borrow.Author.Needs.{needs}
 use Rattle.field_words.proofs.Laid.{put-law}
 use Rattle.field_words.proofs.put.Statement.{statement}

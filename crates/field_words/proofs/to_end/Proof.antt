@@ -1,3 +1,4 @@
+-- field_words::to_end: a word leaves (`left-laid`, `left-room`), and one more is put: by `left-end`.
 use borrow.Author.Needs.{needs}
 use Rattle.field_words.proofs.Laid.{left-laid, left-room, left-end}
 use Rattle.field_words.proofs.to_end.Statement.{statement}

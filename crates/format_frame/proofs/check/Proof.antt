@@ -1,4 +1,4 @@
--- Each return is what its test settles (`specs/Laws.antt`).
+-- format_frame::check: each return is what its test settles: `by-size`, `by-version`, `by-length`, `by-list`, `taken`.
 use mathlib.Core.Path.{sym, ap, _∙_}
 use borrow.Author.Needs.{needs}
 use Rattle.format_message.specs.Listed.{listed}

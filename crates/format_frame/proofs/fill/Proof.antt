@@ -1,4 +1,4 @@
--- Six stores, one after the other.
+-- format_frame::fill: six stores, one after the other, are the frame's bytes, by `filled`.
 use native.Mathlib.Omega.{arith}
 use lib.ListN.{length-set}
 use Rattle.format_frame.specs.laws.Frame.{filled}

@@ -1,4 +1,4 @@
--- A refused frame is its number alone; a taken one has six bytes.
+-- format_frame::read: a refused frame is its number alone (`read-refused`); a taken one has six bytes, and is read by `read-taken`.
 use mathlib.Core.Path.{sym, ap, _∙_}
 use native.Mathlib.Omega.{arith}
 use borrow.Author.Needs.{needs}

@@ -1,4 +1,4 @@
--- Each return is what its test settles (`specs/Laws.antt`).
+-- format_frame::write: one law for each return: `write-unlisted`, `write-short`, `write-done`.
 use mathlib.Core.Path.{sym, _∙_}
 use borrow.Author.Tests.{not-true, not-false}
 use Rattle.format_frame.specs.laws.Frame.{write-unlisted, write-short, write-done}

@@ -1,4 +1,5 @@
--- What each test of a frame settles, for the check, the reader and the writer.
+-- What each test of a frame settles, for the check (`by-size` to `taken`, `accepted`), the reader (`read-refused`, `read-taken`) and the writer
+-- (`write-unlisted`, `write-short`, `write-done`).
 use Prim.Native.Nat.{ℕ, _/_, _%_}
 use mathlib.Core.Path.{_≡_, refl}
 use mathlib.Core.List.{List}

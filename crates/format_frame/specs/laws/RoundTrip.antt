@@ -1,4 +1,5 @@
--- "A .. frame written and read gives its meaning back; bytes that are taken and written again are the same bytes."
+-- "A .. frame written and read gives its meaning back": `written-read`, `meaning-back`; "bytes that are taken and written again are the same bytes":
+-- `read-written`. The reader takes exactly the listed frames (`taken-listed`, `listed-taken`).
 use Prim.Native.Nat.{ℕ, _+_, _*_, _<_}
 use mathlib.Core.Path.{_≡_, refl, sym, ap, ap₂, _∙_}
 use mathlib.Core.List.{List, [], _∷_}

@@ -1,4 +1,4 @@
--- Samples of frames: document 01's starred ones, and one for each refusal. One theorem over the table.
+-- Samples of frames: document 01's starred ones, and one for each refusal. One theorem over the table (`all-hold`).
 use Prim.Native.Nat.{ℕ}
 use mathlib.Core.Path.{_≡_, refl}
 use mathlib.Core.List.{List, [], _∷_}

@@ -1,4 +1,4 @@
--- A list of six numbers, shown number by number.
+-- A list of six numbers, shown number by number (`six`).
 use Prim.Native.Nat.{ℕ, suc}
 use mathlib.Core.Path.{_≡_}
 use mathlib.Core.List.{List, [], _∷_}

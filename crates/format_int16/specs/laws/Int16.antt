@@ -1,4 +1,4 @@
--- An integer and its two bytes determine each other.
+-- An integer and its two bytes determine each other (`joined`, `high-byte`, `low-byte`).
 use Prim.Native.Nat.{ℕ, _+_, _*_, _/_, _%_, _<_}
 use mathlib.Core.Path.{_≡_}
 use native.Mathlib.Omega.{arith}

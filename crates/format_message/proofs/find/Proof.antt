@@ -1,4 +1,4 @@
--- Bit 6 is what 2 ^ 6 leaves, modulo 2.
+-- format_message::find: bit 6 is what 2 ^ 6 leaves, modulo 2 (`and-mask`).
 use Prim.Native.Nat.{_/_, _^_}
 use lib.Bits.{and-mask}
 use Rattle.format_message.proofs.find.Statement.{statement}

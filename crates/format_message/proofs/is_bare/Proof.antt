@@ -1,4 +1,4 @@
--- The three tests are the definition's.
+-- format_message::is_bare: the three tests are those of `bare`.
 use mathlib.Core.Path.{refl}
 use Rattle.format_message.specs.Listed.{bare}
 use Rattle.format_message.proofs.is_bare.Statement.{statement}

@@ -1,4 +1,4 @@
--- Bit 7 first; then the parts, as the callees read them.
+-- format_message::is_listed: bit 7 first, as `listed` has it; then the parts, as the callees read them.
 use mathlib.Core.Path.{_∙_}
 use borrow.Author.Needs.{needs}
 use borrow.Author.Tests.{le-ltb, lt-ltb}

@@ -1,4 +1,4 @@
--- The low three bits are the remainder by 2 ^ 3.
+-- format_message::kind: the low three bits are the remainder by 2 ^ 3 (`and-mask`).
 use lib.Bits.{and-mask}
 use Rattle.format_message.proofs.kind.Statement.{statement}
 use Rattle.format_message.proofs.kind.Tie as tie

@@ -1,4 +1,4 @@
--- Bits 3 to 5 are what 2 ^ 3 leaves, modulo 2 ^ 3.
+-- format_message::level: bits 3 to 5 are what 2 ^ 3 leaves, modulo 2 ^ 3 (`and-mask`).
 use Prim.Native.Nat.{_/_, _^_}
 use native.Mathlib.Omega.{arith}
 use lib.Bits.{and-mask, mask-lt}

@@ -1,4 +1,4 @@
--- Each arm's number picks the definition's line; what no arm names is not listed.
+-- format_message::listed_as: each arm's number picks a line of `listedAs`; what no arm names is not listed.
 use borrow.Author.Needs.{needs}
 use borrow.Author.Tests.{ne-eqb}
 use Rattle.format_message.specs.Listed.{listedAs}

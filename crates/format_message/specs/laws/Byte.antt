@@ -1,4 +1,5 @@
--- The header byte's parts and the byte determine each other.
+-- The header byte's parts and the byte determine each other (`byte-of-parts`, `parts-of-byte`); `headerFrom` by its outcomes (`from-fits`, `from-kind`,
+-- `from-level`, `from-find`).
 use Prim.Native.Nat.{ℕ, _+_, _*_, _%_, _^_, _≤_, _<_}
 use mathlib.Core.Path.{_≡_, ap, ap₂, _∙_}
 use native.Mathlib.Omega.{arith}

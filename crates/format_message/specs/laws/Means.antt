@@ -1,4 +1,4 @@
--- A listed header byte and carried number are those of exactly one message, whose parts are in range; and back.
+-- A listed header byte and carried number are those of exactly one message, whose parts are in range (`means`, `means-one`); and back (`has-listed`).
 use Prim.Native.Nat.{ℕ, zero, suc, _<_}
 use mathlib.Core.Path.{_≡_, refl, sym, ap, ap₂, _∙_}
 use mathlib.Core.Logic.{_⊎_, inl, inr, ⊎-elim}
@@ -6,6 +6,7 @@ use mathlib.Core.Bool.{Bool, true, false, _&&_, _||_, or-true, and-eq-true-iff, 
 use native.Mathlib.Omega.{arith}
 use lib.Dec.{eqb, ltb}
 use borrow.Author.Tests.{eqb-true, ltb-true, lt-ltb, eq-eqb}
+use Rattle.base.specs.Limits.{maxLinks}
 use Rattle.format_message.specs.Msg.{none, Msg, connect, initiate, test, accept, reject, report, change}
 use Rattle.format_message.specs.Header.{Parts, parts, partsOf, headerByte, headerOf, kindAt, levelAt, findAt, carriedOf, msgOf, meant}
 use Rattle.format_message.specs.Listed.{isLink, bare, listedAs, listed, Listed}
@@ -62,14 +63,14 @@ module _ (l c f : ℕ) where
   unfolding partsOf
   initiate-has pl pf e =
       let x = and-eq-true-iff (ltb 0 l) (isLink c) .0 e in
-      record { same = refl; fits = (ltb-true 0 l (x .0), pl, ltb-true c 600 (x .1), pf) }
+      record { same = refl; fits = (ltb-true 0 l (x .0), pl, ltb-true c maxLinks (x .1), pf) }
 
   test-has : l < 8 → (ltb 0 l && eqb f 0 && isLink c) ≡ true → Has 3 l c f (test l c)
   unfolding partsOf
   test-has pl e =
       let x = three (ltb 0 l) (eqb f 0) (isLink c) e in
       let zf = eqb-true f 0 (x .1) in
-      record { same = cc; fits = (ltb-true 0 l (x .0), pl, ltb-true c 600 (x .2)) }
+      record { same = cc; fits = (ltb-true 0 l (x .0), pl, ltb-true c maxLinks (x .2)) }
 
   report-has : (eqb l 0 && eqb f 0 && (isLink c || eqb c none)) ≡ true → Has 6 l c f (report c)
   unfolding partsOf
@@ -77,7 +78,7 @@ module _ (l c f : ℕ) where
       let x = three (eqb l 0) (eqb f 0) (isLink c || eqb c none) e in
       let zl = eqb-true l 0 (x .0) in
       let zf = eqb-true f 0 (x .1) in
-      record { same = cc; fits = ⊎-elim (λ w. inl (ltb-true c 600 w)) (λ w. inr (eqb-true c none w)) (or-cases (isLink c) (eqb c none) (x .2)) }
+      record { same = cc; fits = ⊎-elim (λ w. inl (ltb-true c maxLinks w)) (λ w. inr (eqb-true c none w)) (or-cases (isLink c) (eqb c none) (x .2)) }
 
   pub listed-has : (k : ℕ) → k < 8 → l < 8 → f < 2 → listedAs k l c f ≡ true → Has k l c f (msgOf k l c f)
   unfolding listedAs msgOf partsOf
@@ -128,11 +129,11 @@ in-bits change h = in-bits-of _ _ _ _ (omega arith) (omega arith) (omega arith) 
 in-list : (m : Msg) → Listed m → listedAs (partsOf m .kind) (partsOf m .level) (partsOf m .carried) (partsOf m .find) ≡ true
 unfolding listedAs bare partsOf
 in-list (connect l) h = refl
-in-list (initiate l i f) h = simp (lt-ltb 0 l (h .0), lt-ltb i 600 (h .2))
-in-list (test l i) h = simp (lt-ltb 0 l (h .0), lt-ltb i 600 (h .2))
+in-list (initiate l i f) h = simp (lt-ltb 0 l (h .0), lt-ltb i maxLinks (h .2))
+in-list (test l i) h = simp (lt-ltb 0 l (h .0), lt-ltb i maxLinks (h .2))
 in-list accept h = refl
 in-list reject h = refl
-in-list (report w) h = ⊎-elim (λ x. simp (lt-ltb w 600 x)) (λ x. simp (eq-eqb w none x, or-true)) h
+in-list (report w) h = ⊎-elim (λ x. simp (lt-ltb w maxLinks x)) (λ x. simp (eq-eqb w none x, or-true)) h
 in-list change h = refl
 
 -- m is a listed message with this header byte and carried number

@@ -1,3 +1,4 @@
+-- format_text::front: an end past the buffer takes it all (`take-all`); else the part lent has the length of `take`.
 use native.Mathlib.Omega.{arith}
 use mathlib.Core.Path.{sym}
 use lib.Seq.{take-all, length-take-le}

@@ -1,3 +1,5 @@
+-- format_text::put: a loop; what is put in all is what is put behind i bytes, with the text that is left (`put-turn`). It ends by `put-end` or
+-- `put-none`.
 use Prim.Native.Nat.{_≤_, _-_}
 use native.Mathlib.Omega.{arith}
 use mathlib.Core.Path.{_≡_, sym, ap, _∙_}

@@ -1,3 +1,4 @@
+-- format_text::put_number: the digits that `io::decimal` leaves are the definition's, by `decimal-digits`.
 use native.Mathlib.Omega.{arith}
 use mathlib.Core.Path.{ap, _∙_}
 use borrow.Author.Needs.{needs}

@@ -1,4 +1,4 @@
--- How long a word and a number are at most, and the same on a line.
+-- How long a word and a number are at most, and the same on a line (`named-length`, `line-length`).
 use Prim.Native.Nat.{ℕ, _+_, _≤_}
 use Prim.Native.String.{String}
 use native.Mathlib.Omega.{arith}

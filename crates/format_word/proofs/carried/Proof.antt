@@ -1,4 +1,4 @@
--- Bits 8 to 23 are the 16 low bits of what 2 ^ 8 leaves.
+-- format_word::carried: bits 8 to 23 are the 16 low bits of what 2 ^ 8 leaves (`and-mask`).
 use Prim.Native.Nat.{_/_, _^_}
 use lib.Bits.{and-mask, mask-lt}
 use Rattle.format_word.proofs.carried.Statement.{statement}

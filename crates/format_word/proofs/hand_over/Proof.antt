@@ -1,4 +1,4 @@
--- `|` and `&` of two numbers have their sum; `&` with 2 ^ 40 is bit 40.
+-- format_word::hand_over: `|` and `&` of two numbers have their sum (`or-add-and`); `&` with 2 ^ 40 is bit 40 (`and-high`).
 use Prim.Native.Nat.{_^_}
 use native.Mathlib.Omega.{arith}
 use lib.Bits.{or-add-and, and-high}

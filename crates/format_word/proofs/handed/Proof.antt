@@ -1,4 +1,4 @@
--- Bit 40 is the lowest bit of what 2 ^ 40 leaves.
+-- format_word::handed: bit 40 is the lowest bit of what 2 ^ 40 leaves (`and-mask`).
 use Prim.Native.Nat.{_/_, _^_}
 use mathlib.Core.Path.{ap}
 use lib.Bits.{and-mask}

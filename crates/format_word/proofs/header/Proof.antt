@@ -1,4 +1,4 @@
--- The low 8 bits are the remainder by 2 ^ 8.
+-- format_word::header: the low 8 bits are the remainder by 2 ^ 8 (`and-mask`).
 use lib.Bits.{and-mask, mask-lt}
 use Rattle.format_word.proofs.header.Statement.{statement}
 use Rattle.format_word.proofs.header.Tie as tie

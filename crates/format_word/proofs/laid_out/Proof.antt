@@ -1,4 +1,4 @@
--- The callees read what the definition reads.
+-- format_word::laid_out: the callees read what the definition reads: the shape, and `listed` of header and carried number.
 use mathlib.Core.Path.{ap₂, _∙_}
 use mathlib.Core.Bool.{_&&_}
 use borrow.Author.Needs.{needs}

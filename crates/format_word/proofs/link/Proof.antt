@@ -1,4 +1,4 @@
--- Bits 24 to 39 are the 16 low bits of what 2 ^ 24 leaves.
+-- format_word::link: bits 24 to 39 are the 16 low bits of what 2 ^ 24 leaves (`and-mask`).
 use Prim.Native.Nat.{_/_, _^_}
 use lib.Bits.{and-mask, mask-lt}
 use Rattle.format_word.proofs.link.Statement.{statement}

@@ -1,4 +1,4 @@
--- Each `|` is a sum.
+-- format_word::pack: the parts lie apart, so that each `|` is a sum, by `or-packed`.
 use Rattle.format_word.specs.laws.Word.{or-packed}
 use Rattle.format_word.proofs.pack.Statement.{statement}
 use Rattle.format_word.proofs.pack.Tie as tie

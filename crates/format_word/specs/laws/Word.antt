@@ -1,4 +1,5 @@
--- A word's parts and the word determine each other; so do a laid-out word and the waiting message it means.
+-- A word's parts and the word determine each other (`unpacked`, `repacked`); so do a laid-out word and the waiting message it means (`word-back`,
+-- `waiting-back`, `laid-out-listed`, `packs-laid-out`).
 use Prim.Native.Nat.{ℕ, _+_, _*_, _/_, _%_, _^_, _<_}
 use mathlib.Core.Path.{_≡_, refl, sym, ap, ap₂, _∙_}
 use mathlib.Core.Bool.{Bool, true, false, _&&_, and-eq-true-iff}

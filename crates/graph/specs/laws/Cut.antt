@@ -1,4 +1,4 @@
--- THE CUT PROPERTY: the earliest edge that leaves a set of nodes is in the tree.
+-- THE CUT PROPERTY: the earliest edge that leaves a set of nodes is in the tree (`cut`, `cut-rank`).
 use Prim.Native.Nat.{ℕ, _≤_}
 use native.Mathlib.Omega.{arith}
 use mathlib.Core.Path.{_≡_, sym, _∙_}

@@ -1,4 +1,4 @@
--- The tree has no cycle: no tree edge can be spared.
+-- The tree has no cycle: no tree edge can be spared (`spare`, `needed`).
 use Prim.Native.Nat.{ℕ, zero, suc, _<_}
 use native.Mathlib.Omega.{arith}
 use native.Mathlib.Nat.{not-suc-le-zero}

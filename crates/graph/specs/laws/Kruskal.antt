@@ -1,4 +1,5 @@
--- The tree edge by edge, from the earliest on: with labels by the earlier edges, an edge is in the tree exactly if its ends' labels differ.
+-- The tree edge by edge, from the earliest on: with labels by the earlier edges, an edge is in the tree exactly if its ends' labels differ
+-- (`tree-labels`, `differ-tree`, `tree-differ`).
 use Prim.Native.Nat.{ℕ}
 use mathlib.Core.Path.{_≡_}
 use mathlib.Core.Logic.{_≢_}

@@ -1,4 +1,4 @@
--- The rank of an edge: how many edges are earlier. It turns `earlier` into `<` on numbers.
+-- The rank of an edge: how many edges are earlier. It turns `earlier` into `<` on numbers (`rankIn-lt`, `rankIn-inj`, `rank-bound`).
 use Prim.Native.Nat.{ℕ, _≤_, _<_}
 use native.Mathlib.Omega.{arith}
 use native.Mathlib.Decide.{decLe}

@@ -1,4 +1,4 @@
--- Samples: the definitions compute.
+-- Samples, computed: the tree of a triangle (`tree-012`), and "connected" of it with three nodes, with four and with none (`joined-3`, `not-4`, `no-node`).
 use mathlib.Core.Path.{_≡_, refl}
 use mathlib.Core.Bool.{true, false}
 use mathlib.Core.List.{[], _∷_}

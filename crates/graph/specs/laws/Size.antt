@@ -1,4 +1,4 @@
--- Sizes of parts: how many of the nodes below N carry a label. A part of 2 ^ k nodes has k ≤ ⌊log2 N⌋.
+-- Sizes of parts: how many of the nodes below N carry a label (`size-two`, `size-merge`). A part of 2 ^ k nodes has k ≤ ⌊log2 N⌋ (`level-one`, `level-two`).
 use Prim.Native.Nat.{ℕ, suc, _+_, _^_, _≤_, _<_, zero-le}
 use native.Mathlib.Omega.{arith}
 use native.Mathlib.Nat.{pow-suc}

@@ -1,4 +1,4 @@
--- The tree spans: tree edges join whatever edges join, and none of them is later than the edges that they replace.
+-- The tree spans: tree edges join whatever edges join, and none of them is later than the edges that they replace (`spans-edge`, `spans`).
 use Prim.Native.Nat.{ℕ, _≤_, _<_}
 use native.Mathlib.Omega.{arith}
 use mathlib.Core.Path.{_≡_}

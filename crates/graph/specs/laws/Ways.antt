@@ -1,4 +1,5 @@
--- Ways joined, turned round and widened; where a way leaves a set of nodes; ways without one edge.
+-- Ways joined (`join`), turned round (`back`) and widened (`wider`, `through`); where a way leaves a set of nodes (`cross`); ways without one edge
+-- (`split`, `around`).
 use Prim.Native.Nat.{ℕ, _<_}
 use mathlib.Core.Path.{_≡_, refl, sym, ap, subst, _∙_}
 use mathlib.Core.Logic.{_≢_, _⊎_, inl, inr}

@@ -1,3 +1,4 @@
+-- host_job::settle: one law for each return: `not-set`, `not-woken`, `all-run`.
 use borrow.Author.Needs.{needs}
 use Rattle.host_job.specs.laws.Settled.{not-set, not-woken, all-run}
 use Rattle.host_job.proofs.settle.Statement.{statement}

@@ -1,5 +1,5 @@
--- What the whole job leaves, by demand 3: not refused, at rest within M + N rounds, and every module marks exactly the tree that the central
--- builder writes.
+-- What the whole job leaves, by demand 3: not refused, at rest within M + N rounds (`outcome`), and every module marks exactly the tree that the central
+-- builder writes (`same-tree`, `same-others`).
 use Prim.Native.Nat.{ℕ, _+_, _≤_, _<_}
 use native.Mathlib.Omega.{arith}
 use mathlib.Core.Path.{_≡_, refl, sym, ap, subst, _∙_}

@@ -1,4 +1,4 @@
--- `host_reader::left` meets its contract: a walk of its MIR, by hand. The struct is taken apart, and `left_from` is called on the slice and the place.
+-- host_reader::left: a walk of its MIR, by hand. The struct is taken apart, and `left_from` is called on the slice and the place.
 -- The struct is Copy: what it owns is had twice, and one copy is kept whole for the exit. The callee takes the fields in their order and nothing else, so what the fields own together is what it asks, by computation.
 -- Assumes nothing.
 use mathlib.Core.Path.{_≡_, refl}

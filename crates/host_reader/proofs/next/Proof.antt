@@ -1,4 +1,4 @@
--- `host_reader::next` meets its contract: a walk of its MIR, by hand. The borrow is opened, `step_from` and `place_after` are called on the slice and the place that the struct holds, the new place is stored, and the borrow is closed at the struct with it.
+-- host_reader::next: a walk of its MIR, by hand. The borrow is opened, `step_from` and `place_after` are called on the slice and the place that the struct holds, the new place is stored, and the borrow is closed at the struct with it.
 -- The struct is Copy: for each call what it owns is had twice, and one copy is kept. All that the proof knows of the two functions is that each meets its contract.
 -- Assumes nothing.
 use mathlib.Core.Path.{_≡_, refl, ap}

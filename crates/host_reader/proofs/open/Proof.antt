@@ -1,4 +1,4 @@
--- `host_reader::open` meets its contract: a walk of its MIR, by hand. A `Schedule` is made of the slice passed and 0, in the result's local.
+-- host_reader::open: a walk of its MIR, by hand. A `Schedule` is made of the slice passed and 0, in the result's local.
 -- A `&[u8]` is Copy, so what it owns is had twice: once for bytes at exit, and once inside the result, beside the facts of at.
 -- Assumes nothing.
 use mathlib.Core.Path.{refl}

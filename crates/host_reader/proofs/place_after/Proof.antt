@@ -1,3 +1,4 @@
+-- host_reader::place_after: the definition's two cases, by what `left_from` answers.
 use mathlib.Core.Path.{sym, _∙_}
 use borrow.Author.Needs.{needs}
 use borrow.Author.Tests.{eq-eqb, ne-eqb}

@@ -1,3 +1,4 @@
+-- host_reader::step_from: the definition's two cases, by what `left_from` answers; the step is what `kind` and `number` read.
 use mathlib.Core.Path.{sym, _∙_}
 use borrow.Author.Needs.{needs}
 use borrow.Author.Tests.{eq-eqb, ne-eqb}

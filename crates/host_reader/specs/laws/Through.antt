@@ -1,4 +1,4 @@
--- A schedule read through: from the first place, read after read gives its steps in order, and then none is left.
+-- A schedule read through: from the first place, read after read gives its steps in order (`reads-all`, `run-read`), and then none is left (`none-left`).
 use Prim.Native.Nat.{ℕ, zero, suc, _+_, _≤_, _<_}
 use native.Mathlib.Numerals.{add-one}
 use native.Mathlib.Omega.{arith}

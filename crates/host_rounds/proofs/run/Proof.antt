@@ -1,3 +1,4 @@
+-- host_rounds::run: 31 by `rounds-31`, else the rounds by `rounds-done`.
 use mathlib.Core.Path.{refl}
 use borrow.Author.Needs.{needs}
 use borrow.Author.Tests.{not-false}

@@ -1,3 +1,4 @@
+-- host_run::run: 31 by `run-31`, 51 to 54 by `run-54`, else the steps by `run-done`; the bytes reach as far as the steps, by `taken-size`.
 use native.Mathlib.Omega.{arith}
 use mathlib.Core.Path.{refl, sym, _∙_}
 use borrow.Author.Needs.{needs}

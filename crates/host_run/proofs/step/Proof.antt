@@ -1,3 +1,4 @@
+-- host_run::step: 31 by `step-31`, else the step by `step-done`.
 use borrow.Author.Needs.{needs}
 use borrow.Author.Tests.{not-false}
 use Rattle.host_run.proofs.Alone.{step-31, step-done}

@@ -1,3 +1,4 @@
+-- host_schedule::check: one law for each return: `short`, `version`, `wrong-length`, `uneven`, `of-kinds`.
 use Prim.Native.Nat.{ℕ, _+_, _/_, _%_}
 use mathlib.Core.Path.{sym, ap, _∙_}
 use borrow.Author.Needs.{needs}

@@ -1,3 +1,4 @@
+-- host_schedule::is_kind: the arms are the definition's list; what no arm names is `unlisted`.
 use native.Mathlib.Omega.{arith}
 use Rattle.host_schedule.specs.laws.Kinds.{unlisted}
 use Rattle.host_schedule.proofs.is_kind.Statement.{statement}

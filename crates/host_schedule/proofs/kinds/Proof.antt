@@ -1,3 +1,4 @@
+-- host_schedule::kinds: a loop; the first i kinds are listed. One that is not gives 54 by `kinds-bad`, else it is `kinds-fine`.
 use Prim.Native.Nat.{ℕ, _≤_, _<_, _-_}
 use native.Mathlib.Omega.{arith}
 use mathlib.Core.Path.{_≡_, sym, ap, _∙_}

@@ -1,4 +1,5 @@
--- The last test of a schedule, and the outcomes of the whole check.
+-- The last test of a schedule (`kinds-bad`, `kinds-fine`), and the outcomes of the whole check (`short`, `version`, `wrong-length`, `uneven`, `of-kinds`);
+-- how long a schedule is that is taken (`taken-size`).
 use Prim.Native.Nat.{ℕ, _+_, _*_, _/_, _%_, _≤_, _<_}
 use native.Mathlib.Nat.{div-add-mod'}
 use native.Mathlib.Omega.{arith}

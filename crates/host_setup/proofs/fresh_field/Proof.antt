@@ -1,3 +1,4 @@
+-- host_setup::fresh_field: `unmarked` of the cells that `lay_cells` leaves, as the definition has it.
 use Prim.Native.Nat.{ℕ}
 use mathlib.Core.List.{List}
 use mathlib.Core.Path.{ap, _∙_}

@@ -1,3 +1,4 @@
+-- host_setup::lay_cells: a loop; the first v modules are laid, by `laid-more`, in the end all, by `laid-all`.
 use Prim.Native.Nat.{ℕ, _-_, _≤_}
 use native.Mathlib.Omega.{arith}
 use mathlib.Core.List.{List}

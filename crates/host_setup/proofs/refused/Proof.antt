@@ -1,3 +1,4 @@
+-- host_setup::refused: the number, beside the field of zeros that `unmarked` answers.
 use mathlib.Core.Path.{ap}
 use borrow.Author.Needs.{needs}
 use Rattle.field.specs.declared.Field.{Field}

@@ -1,3 +1,4 @@
+-- host_setup::setup: one law for each return: `setup-bad`, `setup-few`, `setup-done`.
 use native.Mathlib.Omega.{arith}
 use mathlib.Core.Path.{refl}
 use borrow.Author.Needs.{needs}

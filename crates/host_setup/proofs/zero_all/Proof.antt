@@ -1,3 +1,4 @@
+-- host_setup::zero_all: a loop; i zeros, and behind them the words as they were, by `fill-more`.
 use Prim.Native.Nat.{_-_, _≤_}
 use native.Mathlib.Omega.{arith}
 use mathlib.Core.List.{_++_, append-nil}

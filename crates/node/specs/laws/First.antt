@@ -1,4 +1,4 @@
--- What the search over the own edges finds, where the edges are in a strict order without ties.
+-- What the search over the own edges finds, where the edges are in a strict order without ties (`first`).
 use Prim.Native.Nat.{ℕ, zero, suc, _<_, _≤_}
 use native.Mathlib.Omega.{arith}
 use native.Mathlib.Nat.{not-suc-le-zero}

@@ -1,4 +1,5 @@
--- One law for each outcome of each part of the rules, for any response so far. Code and proof of the protocol both cite these.
+-- One law for each outcome of each part of the rules, for any response so far: `wake-`, `report-`, `test-`, `root-`, `connect-`, `initiate-`, `core-` and so on.
+-- Code and proof of the protocol both cite these.
 use Prim.Native.Nat.{ℕ, _+_, _-_, _≤_, _<_}
 use mathlib.Core.Path.{_≡_}
 use mathlib.Core.Logic.{_≢_}

@@ -1,4 +1,4 @@
--- Samples of the rules: the starred one of document 01, its corners and traps, each refusal 32. One theorem over the table.
+-- Samples of the rules: the starred one of document 01, its corners and traps, each refusal 32. One theorem over the table (`samples`).
 use Prim.Native.Nat.{ℕ}
 use mathlib.Core.Path.{_≡_, refl}
 use mathlib.Core.List.{List, [], _∷_}

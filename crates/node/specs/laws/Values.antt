@@ -1,4 +1,4 @@
--- A node's values by their number: `values` and `nodeBy` are inverse, and nodes of equal values are equal. Laws for any width.
+-- A node's values by their number: `values` and `nodeBy` are inverse (`node-by`, `values-by`), and nodes of equal values are equal (`node-values`). Laws for any width.
 use Prim.Native.Nat.{ℕ, zero, suc, _+_, _<_}
 use native.Mathlib.Nat.{not-suc-le-zero, add-zero}
 use native.Mathlib.Omega.{arith}

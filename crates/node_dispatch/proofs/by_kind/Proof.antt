@@ -1,3 +1,5 @@
+-- node_dispatch::by_kind: one law for each arm, `as-deaf`, `as-connect` and so on to `as-change`; a listed message is in one of them
+-- (`zero-unlisted`, `rest-unlisted`).
 use borrow.Author.Needs.{needs}
 use mathlib.Core.Logic.{⊎-elim}
 use mathlib.Core.Path.{refl, sym, _∙_}

@@ -1,3 +1,4 @@
+-- node_dispatch::respond: `by_kind` on a response that has done nothing (`begun-fresh`), by `from-begun`.
 use borrow.Author.Needs.{needs}
 use Rattle.node_response.specs.laws.Response.{from-begun}
 use Rattle.node_dispatch.specs.laws.Dispatch.{begun-fresh}

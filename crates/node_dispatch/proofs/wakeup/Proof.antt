@@ -1,3 +1,4 @@
+-- node_dispatch::wakeup: `wake` on a response that has done nothing (`begun-fresh`), by `from-begun`.
 use borrow.Author.Needs.{needs}
 use mathlib.Core.List.{[]}
 use Rattle.node_response.specs.laws.Response.{from-begun}

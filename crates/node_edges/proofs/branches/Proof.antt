@@ -1,3 +1,4 @@
+-- node_edges::branches: `count` with the test of branches other than j, by `counted`.
 use borrow.Author.Needs.{needs}
 use Rattle.node_edges.specs.Own.{counted}
 use Rattle.node_edges.proofs.branches.Statement.{statement}

@@ -1,3 +1,4 @@
+-- node_edges::count: a loop; n is the `number` counted among the first k edges, by `number-turn` and `number-end`.
 use Prim.Native.Nat.{_≤_, _-_}
 use borrow.Author.Needs.{needs}
 use mathlib.Core.Path.{_≡_, refl}

@@ -1,3 +1,4 @@
+-- node_edges::degree: `count` with the test that takes all, by `counted`.
 use borrow.Author.Needs.{needs}
 use Rattle.node_edges.specs.Own.{counted}
 use Rattle.node_edges.proofs.degree.Statement.{statement}

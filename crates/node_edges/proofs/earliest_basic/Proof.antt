@@ -1,3 +1,4 @@
+-- node_edges::earliest_basic: `find` with the test for Basic, by `looked`.
 use borrow.Author.Needs.{needs}
 use Rattle.node_edges.specs.Own.{looked}
 use Rattle.node_edges.proofs.earliest_basic.Statement.{statement}

@@ -1,3 +1,4 @@
+-- node_edges::earliest_own: `find` with the test that takes all, by `looked`.
 use borrow.Author.Needs.{needs}
 use Rattle.node_edges.specs.Own.{looked}
 use Rattle.node_edges.proofs.earliest_own.Statement.{statement}

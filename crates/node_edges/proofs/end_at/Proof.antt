@@ -1,3 +1,4 @@
+-- node_edges::end_at: from the lower end by `end-lower`, from the higher by `end-higher`.
 use borrow.Author.Needs.{needs}
 use mathlib.Core.Path.{sym, _∙_}
 use Rattle.field.specs.laws.Edges.{end-lower, end-higher}

@@ -1,3 +1,4 @@
+-- node_edges::find: a loop; best is the `earliest` among the first k edges, by `earliest-turn` and `earliest-end`.
 use Prim.Native.Nat.{_≤_, _<_, _-_}
 use borrow.Author.Needs.{needs}
 use mathlib.Core.Logic.{_⊎_, inr}

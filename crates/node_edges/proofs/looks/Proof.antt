@@ -1,3 +1,4 @@
+-- node_edges::looks: one law for each return: `looks-not`, `looks-all`, `looks-basic`.
 use Prim.Native.Nat.{ℕ}
 use borrow.Author.Needs.{needs}
 use borrow.Author.Tests.{not-true, not-false}

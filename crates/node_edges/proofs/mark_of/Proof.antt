@@ -1,3 +1,4 @@
+-- node_edges::mark_of: the new mark by `marked-here`; else the one at the link's end, by `marked-other` and `mark-own`.
 use Prim.Native.Nat.{ℕ}
 use borrow.Author.Needs.{needs}
 use lib.ListN.{getD}

@@ -1,3 +1,4 @@
+-- node_edges::one: one law for each return: `counts-not`, `counts-all`, `counts-self`, `counts-branch`, `counts-other`.
 use borrow.Author.Needs.{needs}
 use borrow.Author.Tests.{not-true, not-false}
 use mathlib.Core.Path.{sym, _∙_}

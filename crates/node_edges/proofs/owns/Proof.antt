@@ -1,3 +1,4 @@
+-- node_edges::owns: at the lower end by `own-lower`, else by `own-higher`.
 use borrow.Author.Needs.{needs}
 use mathlib.Core.Path.{sym, _∙_, ap}
 use Prim.Native.Nat.{ℕ}

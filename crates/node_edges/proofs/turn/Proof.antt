@@ -1,3 +1,4 @@
+-- node_edges::turn: one law for each return: `pick-not`, `pick-new`, `pick-late`.
 use borrow.Author.Needs.{needs}
 use borrow.Author.Tests.{not-true, not-false}
 use mathlib.Core.Logic.{inl}

@@ -1,3 +1,4 @@
+-- node_joining::absorb: Found by `absorb-found`; Find by `absorb-find`, with the count refused (`count-refused`) or raised (`count-rises`).
 use borrow.Author.Needs.{needs}
 use mathlib.Core.Path.{sym, _∙_}
 use native.Mathlib.Omega.{arith}

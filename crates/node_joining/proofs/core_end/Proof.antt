@@ -1,3 +1,4 @@
+-- node_joining::core_end: at the level limit by `core-refused`, else by `core-answers`.
 use borrow.Author.Needs.{needs}
 use mathlib.Core.Path.{sym}
 use native.Mathlib.Omega.{arith}

@@ -1,3 +1,4 @@
+-- node_joining::join: the mark (`marks-edge`) and then the Initiate that `say` sends, by `does-then`.
 use borrow.Author.Needs.{needs}
 use mathlib.Core.Path.{refl}
 use Rattle.node_response.specs.laws.Response.{told-as, does-then, marks-edge}

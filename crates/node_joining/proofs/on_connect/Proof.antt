@@ -1,3 +1,4 @@
+-- node_joining::on_connect: one law of the rules for each return: `connect-absorbed`, `connect-waits`, `connect-core`.
 use borrow.Author.Needs.{needs}
 use mathlib.Core.Logic.{⊎-elim}
 use mathlib.Core.Path.{sym, _∙_}

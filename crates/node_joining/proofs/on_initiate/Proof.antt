@@ -1,3 +1,4 @@
+-- node_joining::on_initiate: Found by `initiate-found`; Find by the copies (`tell-find`), then `initiate-refused` or `initiate-searches`.
 use borrow.Author.Needs.{needs}
 use mathlib.Core.Path.{sym, _∙_}
 use native.Mathlib.Omega.{arith}

@@ -1,4 +1,4 @@
--- An Initiate's copies, where m are the node's marks.
+-- An Initiate's copies, where m are the node's marks (`tell-found`, `tell-find`, `initiate-refused`, `initiate-searches`).
 use Prim.Native.Nat.{ℕ, _+_, _<_, _≤_}
 use native.Mathlib.Omega.{arith}
 use mathlib.Core.Path.{_≡_, sym, ap, _∙_}

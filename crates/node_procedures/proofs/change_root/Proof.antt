@@ -1,3 +1,4 @@
+-- node_procedures::change_root: one law of the rules for each return: `root-refused`, `root-told`, `root-connects`.
 use borrow.Author.Needs.{needs}
 use mathlib.Core.Path.{sym, _∙_}
 use native.Mathlib.Omega.{arith}

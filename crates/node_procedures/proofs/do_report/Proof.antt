@@ -1,3 +1,4 @@
+-- node_procedures::do_report: one law of the rules for each return: `report-counts`, `report-tests`, `report-refused`, `report-sends`.
 use borrow.Author.Needs.{needs}
 use mathlib.Core.Path.{sym}
 use Rattle.node.specs.laws.Rules.{report-counts, report-tests, report-refused, report-sends}

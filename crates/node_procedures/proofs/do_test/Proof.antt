@@ -1,3 +1,4 @@
+-- node_procedures::do_test: `test_on` of the earliest Basic edge is the rules' procedure, by `test-same`.
 use borrow.Author.Needs.{needs}
 use Rattle.node_response.specs.laws.Response.{told-as}
 use Rattle.node_procedures.specs.laws.Procedures.{test-same}

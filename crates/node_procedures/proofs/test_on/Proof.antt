@@ -1,3 +1,4 @@
+-- node_procedures::test_on: one law of the rules for each return: `test-over`, `test-refused`, `test-sends`.
 use borrow.Author.Needs.{needs}
 use mathlib.Core.Path.{sym}
 use Rattle.node.specs.laws.Rules.{test-over, test-refused, test-sends}

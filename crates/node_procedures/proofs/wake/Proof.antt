@@ -1,3 +1,4 @@
+-- node_procedures::wake: `wake_on` of the earliest own edge is the rules' wakeup, by `wake-same`.
 use borrow.Author.Needs.{needs}
 use Rattle.node_response.specs.laws.Response.{told-as}
 use Rattle.node_procedures.specs.laws.Procedures.{wake-same}

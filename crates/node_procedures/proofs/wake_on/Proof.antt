@@ -1,3 +1,4 @@
+-- node_procedures::wake_on: without an edge by `wake-alone`, with one by `wake-edge`.
 use Prim.Native.Nat.{ℕ}
 use borrow.Author.Needs.{needs}
 use mathlib.Core.List.{[]}

@@ -1,3 +1,4 @@
+-- node_procedures::wakened: a sleeper by `awake-wakes`, a node that is awake by `awake-is`.
 use borrow.Author.Needs.{needs}
 use mathlib.Core.Logic.{inl, inr}
 use mathlib.Core.Path.{sym}

@@ -1,4 +1,4 @@
--- Small facts that the proofs of procedures and responses share.
+-- Facts that the proofs of procedures and responses share: the search's result as the code has it is the rules' (`test-same`, `wake-same`).
 use Prim.Native.Nat.{ℕ}
 use mathlib.Core.Path.{_≡_, ap}
 use mathlib.Core.Logic.{_⊎_, inl, inr}

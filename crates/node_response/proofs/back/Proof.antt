@@ -1,3 +1,4 @@
+-- node_response::back: the answer becomes "put back" and nothing else changes, so the definition computes.
 use mathlib.Core.Path.{refl}
 use Rattle.node_response.proofs.back.Statement.{statement}
 use Rattle.node_response.proofs.back.Tie as tie

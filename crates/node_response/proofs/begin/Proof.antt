@@ -1,3 +1,4 @@
+-- node_response::begin: the definition's response, with no message yet (`a_change`).
 use borrow.Author.Needs.{needs}
 use Rattle.node_response.proofs.begin.Statement.{statement}
 use Rattle.node_response.proofs.begin.Tie as tie

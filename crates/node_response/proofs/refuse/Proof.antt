@@ -1,3 +1,4 @@
+-- node_response::refuse: the answer becomes 32 and nothing else changes, so the definition computes.
 use mathlib.Core.Path.{refl}
 use Rattle.node_response.proofs.refuse.Statement.{statement}
 use Rattle.node_response.proofs.refuse.Tie as tie

@@ -1,3 +1,4 @@
+-- node_response::say: the first message by `says-first`, the second by `says-second`.
 use Rattle.node_response.specs.laws.Response.{says-first, says-second}
 use Rattle.node_response.proofs.say.Statement.{statement}
 use Rattle.node_response.proofs.say.Tie as tie

@@ -1,4 +1,5 @@
--- How a response worked out by value goes on: one message more, a mark, one part after another.
+-- How a response worked out by value goes on: one message more (`says-first`, `says-second`), a mark (`marks-edge`), the node (`sets-node`), one part after
+-- another (`does-then`).
 use Prim.Native.Nat.{ℕ}
 use mathlib.Core.Path.{_≡_, refl, sym, ap, _∙_}
 use mathlib.Core.Logic.{_≢_}

@@ -1,3 +1,4 @@
+-- node_searching::better: one law for each return: `better-new`, `better-old`.
 use borrow.Author.Needs.{needs}
 use mathlib.Core.Path.{sym, _∙_}
 use Rattle.node_searching.specs.laws.Searching.{better-new, better-old}

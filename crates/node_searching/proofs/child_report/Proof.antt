@@ -1,3 +1,4 @@
+-- node_searching::child_report: refused by `child-refused`; else `child-reports`, with the node that `better` answers (`report-with`).
 use borrow.Author.Needs.{needs}
 use mathlib.Core.Path.{sym, _∙_}
 use Rattle.node.specs.laws.Rules.{child-refused, child-reports}

@@ -1,3 +1,4 @@
+-- node_searching::core_report: one law of the rules for each return: `core-decides`, `core-edge`, `core-idle`, `core-halts`.
 use borrow.Author.Needs.{needs}
 use mathlib.Core.Path.{sym, _∙_}
 use Rattle.node.specs.laws.Rules.{core-decides, core-edge, core-idle, core-halts}

@@ -1,3 +1,4 @@
+-- node_searching::on_accept: the node that `better` answers, then procedure report: the rule, by `report-with`.
 use borrow.Author.Needs.{needs}
 use mathlib.Core.Logic.{inl}
 use Rattle.node_response.specs.Response.{workOf}

@@ -1,3 +1,4 @@
+-- node_searching::on_reject: the struck edge, then procedure test, by `does-then`.
 use mathlib.Core.Path.{ap, _∙_}
 use Rattle.node_response.specs.laws.Response.{does-then}
 use Rattle.node_response.specs.declared.Packet.{Packet}

@@ -1,3 +1,4 @@
+-- node_searching::on_report: one law of the rules for each return: `report-child`, `report-waits`, `report-core`.
 use borrow.Author.Needs.{needs}
 use mathlib.Core.Path.{sym}
 use Rattle.node.specs.laws.Rules.{report-child, report-waits, report-core}

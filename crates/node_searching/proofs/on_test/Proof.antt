@@ -1,3 +1,4 @@
+-- node_searching::on_test: one law of the rules for each return: `test-waits`, `test-accepted`, `test-crossed`, `test-rejected`.
 use borrow.Author.Needs.{needs}
 use mathlib.Core.Logic.{⊎-elim}
 use mathlib.Core.Path.{sym, ap, _∙_}

@@ -1,3 +1,4 @@
+-- node_searching::strike: the mark that `struck` answers is set (`marks-edge`): the rules' `strike`, by `strike-with`.
 use Prim.Native.Nat.{ℕ}
 use borrow.Author.Needs.{needs}
 use lib.Dec.{eqb}

@@ -1,4 +1,4 @@
--- A struck mark and a better edge, as the code's tests meet them.
+-- A struck mark (`struck-basic`, `struck-other`) and a better edge (`better-new`, `better-old`), as the code's tests meet them.
 use Prim.Native.Nat.{ℕ}
 use mathlib.Core.Path.{_≡_, ap}
 use mathlib.Core.Logic.{_≢_}

@@ -1,3 +1,4 @@
+-- plan::before: the three cases of `beforeBy`: a none, b none, or two links, which `earlier` compares.
 use Prim.Native.Nat.{ℕ, _<_}
 use mathlib.Core.Path.{_≡_}
 use mathlib.Core.Logic.{_≢_, _⊎_, inl, inr}

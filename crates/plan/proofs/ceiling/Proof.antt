@@ -1,3 +1,4 @@
+-- plan::ceiling: the sum stays within 32 bits, by `first-term-fits`.
 use native.Mathlib.Omega.{arith}
 use Rattle.base.specs.laws.Ceiling.{first-term-fits}
 use borrow.Author.Needs.{needs}

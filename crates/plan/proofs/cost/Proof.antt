@@ -1,3 +1,4 @@
+-- plan::cost: the definition's `costOf` of the readings that `near` and `far` answer.
 use mathlib.Core.Path.{_∙_, ap₂}
 use Rattle.plan.specs.Weights.{costOf, cost}
 use borrow.Author.Needs.{needs}

@@ -1,3 +1,4 @@
+-- plan::earlier: equal costs by `same-cost`, others by `other-cost`.
 use Rattle.plan.proofs.Order.{same-cost, other-cost}
 use borrow.Author.Needs.{needs}
 use Rattle.plan.proofs.earlier.Statement.{statement}

@@ -1,3 +1,4 @@
+-- plan::first_term: both products stay within 32 bits, by `first-term-fits`.
 use Prim.Native.Nat.{ℕ, _*_, _^_, _≤_, _<_}
 use native.Mathlib.Omega.{arith}
 use mathlib.Core.Path.{_≡_}

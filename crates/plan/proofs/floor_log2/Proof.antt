@@ -1,3 +1,4 @@
+-- plan::floor_log2: 0 by the definition, else 31 less the leading zeros, by `leading`.
 use native.Mathlib.Omega.{arith}
 use Rattle.base.specs.Log.{log2}
 use Rattle.base.specs.laws.Log.{leading}

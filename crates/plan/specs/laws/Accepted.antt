@@ -1,4 +1,5 @@
--- What an accepted plan is: the conditions behind refusals 14 to 19, as facts. `planRefusal p ≡ 0` holds exactly for these plans.
+-- What an accepted plan is: the conditions behind refusals 14 to 19, as facts. `planRefusal p ≡ 0` holds exactly for these plans (`accepted`,
+-- `accepted-back`).
 use Prim.Native.Nat.{ℕ, zero, suc, _+_, _≤_, _<_}
 use native.Mathlib.Omega.{arith}
 use mathlib.Core.Path.{_≡_, refl, subst}

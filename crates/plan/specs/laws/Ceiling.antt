@@ -1,4 +1,4 @@
--- The ceiling of an accepted plan.
+-- The ceiling of an accepted plan fits its words (`ceiling-small`), and its level limit three bits (`level-small`).
 use Prim.Native.Nat.{_≤_, _<_}
 use native.Mathlib.Omega.{arith}
 use mathlib.Core.Path.{_≡_}

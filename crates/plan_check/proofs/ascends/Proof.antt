@@ -1,3 +1,4 @@
+-- plan_check::ascends: an equal lower end by `same-lower`, another by `other-lower`.
 use Rattle.plan_check.proofs.Verdict.{same-lower, other-lower}
 use Rattle.plan_check.proofs.ascends.Statement.{statement}
 use Rattle.plan_check.proofs.ascends.Tie as tie

@@ -1,3 +1,5 @@
+-- plan_check::check: one law for each return: `p-counts`, `p-link`, `p-fine`, `p-apart`; that links and labels may be looked at, by `c-limits` and
+-- `ends-inside`.
 use mathlib.Core.Path.{_≡_, sym, _∙_}
 use mathlib.Core.Bool.{true}
 use Rattle.plan.specs.Links.{modulesOf, linksOf}

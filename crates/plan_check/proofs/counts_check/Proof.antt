@@ -1,3 +1,4 @@
+-- plan_check::counts_check: one law for each return: `c-nobody`, `c-modules`, `c-links`, `c-length`, `c-fine`.
 use borrow.Author.Tests.{not-true, not-false}
 use Rattle.plan_check.proofs.Verdict.{c-nobody, c-modules, c-links, c-length, c-fine}
 use Rattle.plan_check.proofs.counts_check.Statement.{statement}

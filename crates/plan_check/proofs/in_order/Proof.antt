@@ -1,3 +1,4 @@
+-- plan_check::in_order: the first link by the definition, another by `in-order-from`, from the ends that were read.
 use mathlib.Core.Path.{_∙_}
 use Rattle.plan.specs.Refusal.{inOrder}
 use Rattle.plan_check.proofs.Verdict.{in-order-from}

@@ -1,3 +1,4 @@
+-- plan_check::link_check: the verdict on the numbers that were read is the link's, by `link-from`.
 use Rattle.plan_check.proofs.Verdict.{link-from}
 use borrow.Author.Needs.{needs}
 use Rattle.plan_check.proofs.link_check.Statement.{statement}

@@ -1,3 +1,4 @@
+-- plan_check::link_verdict: one law for each return: `v-order`, `v-range`, `v-after`, `v-near`, `v-far`, `v-fine`.
 use borrow.Author.Tests.{not-true, not-false}
 use Rattle.plan_check.proofs.Verdict.{v-order, v-range, v-after, v-near, v-far, v-fine}
 use Rattle.plan_check.proofs.link_verdict.Statement.{statement}

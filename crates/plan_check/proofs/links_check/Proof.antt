@@ -1,4 +1,4 @@
--- The refusal of all links is that of the links from k on.
+-- plan_check::links_check: a loop; the refusal of all links is that of the links from k on (`links-go`). It ends by `links-stop` or `links-over`.
 use Prim.Native.Nat.{_≤_, _-_}
 use native.Mathlib.Omega.{arith}
 use mathlib.Core.Path.{_≡_, sym, _∙_}

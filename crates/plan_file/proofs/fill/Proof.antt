@@ -1,4 +1,4 @@
--- The first i numbers are read, zeros past them.
+-- plan_file::fill: a loop; the first i numbers are read and zeros lie past them (`one-read`), in the end all (`all-read`).
 use Prim.Native.Nat.{suc, _≤_, _-_}
 use native.Mathlib.Omega.{arith}
 use native.Mathlib.Numerals.{add-one}

@@ -1,3 +1,4 @@
+-- plan_file::head_check: one law for each return: `h-short`, `h-version`, `h-length`, `h-least`, `h-counts`.
 use mathlib.Core.Path.{_∙_}
 use Rattle.plan_file.proofs.Head.{h-short, h-version, h-length, h-least, h-counts}
 use borrow.Author.Needs.{needs}

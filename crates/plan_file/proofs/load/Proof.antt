@@ -1,3 +1,4 @@
+-- plan_file::load: refused at the head by `load-head`; else the plan is read and its check answers, by `load-plan`.
 use mathlib.Core.Path.{sym, _∙_}
 use Rattle.plan_file.specs.laws.Head.{head-ok}
 use Rattle.plan_file.proofs.Answers.{load-head, load-plan}

@@ -1,3 +1,4 @@
+-- plan_file::read: by `not-read` where `load` refused, else by `is-read`.
 use Rattle.plan_file.proofs.Answers.{not-read, is-read}
 use borrow.Author.Needs.{needs}
 use Rattle.plan_file.proofs.read.Statement.{statement}

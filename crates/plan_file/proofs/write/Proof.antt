@@ -1,3 +1,4 @@
+-- plan_file::write: one law for each return: `w-refused`, `w-short`, `w-written`; that the links fit the array, by `w-links`.
 use native.Mathlib.Omega.{arith}
 use Rattle.plan_file.proofs.Stores.{w-refused, w-links, w-short, w-written}
 use borrow.Author.Needs.{needs}

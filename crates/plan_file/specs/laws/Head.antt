@@ -1,4 +1,4 @@
--- What a passed check of the head says, and back.
+-- What a passed check of the head says (`head-ok`), and back (`ok-head`).
 use Prim.Native.Nat.{ℕ, _+_, _*_, _-_, _≤_}
 use native.Mathlib.Omega.{arith}
 use mathlib.Core.Path.{_≡_}

@@ -1,4 +1,4 @@
--- How long the bytes of a plan are.
+-- How long the bytes of a plan are (`length-encode`, `length-bytesOf`).
 use Prim.Native.Nat.{ℕ, _+_, _*_}
 use native.Mathlib.Omega.{arith}
 use mathlib.Core.Path.{_≡_, refl}

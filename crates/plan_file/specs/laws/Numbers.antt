@@ -1,4 +1,4 @@
--- Integers and their bytes determine each other.
+-- Integers and their bytes determine each other (`number-of`, `bytes-of`).
 use Prim.Native.Nat.{ℕ, zero, suc, _+_, _*_, _/_, _%_, _-_, _<_}
 use native.Mathlib.Omega.{arith}
 use native.Mathlib.Nat.{not-suc-le-zero}

@@ -1,4 +1,5 @@
--- Written and read, read and written: each gives back what went in. The reader takes exactly the written plans.
+-- Written and read (`written-read`, `left-read`, `trimmed-same`), read and written (`read-written`, `written-again`): each gives back what went in.
+-- The reader takes exactly the written plans (`taken-listed`, `listed-taken`).
 use Prim.Native.Nat.{ℕ, zero, suc, _+_, _*_, _/_, _%_, _-_, _≤_, _<_}
 use native.Mathlib.Omega.{arith}
 use mathlib.Core.Path.{_≡_, refl, sym, ap, ap₂, _∙_}

@@ -1,3 +1,4 @@
+-- plan_labels::join: where both parts are one already a renaming changes nothing, by `rename-same`.
 use Rattle.base.specs.Limits.{maxModules}
 use Rattle.plan_labels.proofs.Laws.{rename-same}
 use borrow.Author.Needs.{needs}

@@ -1,4 +1,4 @@
--- After k links the labels are the graph's labels of the first k links.
+-- plan_labels::merge: a loop; after k links the labels are the graph's `label` of the first k links, by `merge-turn`.
 use Prim.Native.Nat.{_≤_, _<_, _-_}
 use native.Mathlib.Omega.{arith}
 use native.Mathlib.Numerals.{add-one}

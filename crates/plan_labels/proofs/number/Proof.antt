@@ -1,4 +1,4 @@
--- The first v labels are their own numbers.
+-- plan_labels::number: a loop; the first v labels are their own numbers, by `fill-turn`.
 use Prim.Native.Nat.{_≤_, _-_}
 use native.Mathlib.Omega.{arith}
 use native.Mathlib.Numerals.{add-one}

@@ -1,4 +1,4 @@
--- The first v labels are renamed, the others as they were.
+-- plan_labels::relabel: a loop; the first v labels are renamed and the others as they were, by `fill-turn`.
 use mathlib.Core.Path.{ap, _≡_, refl, _∙_}
 use Rattle.base.specs.Table.{tabulate, upto}
 use Rattle.base.specs.laws.Table.{fill-next, fill-start, fill-turn, fill-end}

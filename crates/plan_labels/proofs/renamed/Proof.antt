@@ -1,3 +1,4 @@
+-- plan_labels::renamed: the two cases of the graph's `rename`, the first by `rename-from`.
 use mathlib.Core.Path.{sym}
 use borrow.Author.Tests.{ne-eqb}
 use Rattle.graph.specs.Labels.{rename}

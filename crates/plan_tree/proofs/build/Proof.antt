@@ -1,3 +1,4 @@
+-- plan_tree::build: refused by `refused-plan` or `refused-size`; else the marks are exactly the tree, and so the bytes, by `exact-bytes` and `built`.
 use mathlib.Core.Path.{_≡_, sym, _∙_}
 use borrow.Author.Needs.{needs}
 use lib.ListN.{length}

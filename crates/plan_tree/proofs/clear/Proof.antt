@@ -1,3 +1,4 @@
+-- plan_tree::clear: a loop; the first k bytes are 0, by `fill`.
 use Prim.Native.Nat.{ℕ, _-_, _<_, _≤_}
 use native.Mathlib.Omega.{arith}
 use mathlib.Core.Path.{_≡_, refl}

@@ -1,3 +1,4 @@
+-- plan_tree::grow: no edge marked, and each node its own label: a forest to begin with, by `start`.
 use mathlib.Core.Path.{_∙_}
 use native.Mathlib.Omega.{arith}
 use borrow.Author.Needs.{needs}

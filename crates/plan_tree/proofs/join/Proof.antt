@@ -1,3 +1,4 @@
+-- plan_tree::join: the mark and the labels renamed are one edge joined, by `joined`.
 use native.Mathlib.Omega.{arith}
 use borrow.Author.Needs.{needs}
 use Rattle.base.specs.Limits.{maxModules}

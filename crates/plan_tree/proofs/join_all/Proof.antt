@@ -1,3 +1,4 @@
+-- plan_tree::join_all: a loop; the picks of the first a parts are taken (`TakesTo`), the next by `takes-next`.
 use Prim.Native.Nat.{_-_, _≤_}
 use native.Mathlib.Omega.{arith}
 use mathlib.Core.Path.{_≡_, refl, subst, _∙_}

@@ -1,3 +1,4 @@
+-- plan_tree::join_pick: none joins nothing; an edge is joined, by `takes`.
 use borrow.Author.Needs.{needs}
 use Rattle.plan.specs.Links.{graphOf}
 use Rattle.plan_tree.proofs.Joins.{not-none, takes}

@@ -1,3 +1,4 @@
+-- plan_tree::offer: the part's pick becomes what `sooner` answers.
 use borrow.Author.Needs.{needs}
 use Rattle.plan_tree.proofs.offer.Statement.{statement}
 use Rattle.plan_tree.proofs.offer.Tie as tie

@@ -1,3 +1,4 @@
+-- plan_tree::phase: the scan's first edges (`first-bound`), all joined, make the next forest, by `phased`.
 use borrow.Author.Needs.{needs}
 use Rattle.plan.specs.Links.{graphOf}
 use Rattle.plan.specs.Weights.{earlier}

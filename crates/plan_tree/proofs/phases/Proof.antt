@@ -1,3 +1,4 @@
+-- plan_tree::phases: a loop; the marks stay a `Forest` and fewer edges are `apart` each time. With none apart they are the tree, by `finished`.
 use mathlib.Core.Path.{_≡_, refl, _∙_}
 use lib.ListN.{length}
 use Rattle.plan.specs.Links.{graphOf}

@@ -1,3 +1,4 @@
+-- plan_tree::scan: a loop; `Firsts` of the first k edges, and how many of them are apart (`sum-next`).
 use Prim.Native.Nat.{_-_, _≤_}
 use native.Mathlib.Omega.{arith}
 use mathlib.Core.Path.{_≡_, ap, subst, _∙_}

@@ -1,3 +1,4 @@
+-- plan_tree::scan_edge: an edge within a part is `skipped`, one between two parts `offered` to both.
 use Prim.Native.Nat.{_<_}
 use native.Mathlib.Omega.{arith}
 use mathlib.Core.Path.{_≡_, sym, ap, _∙_}

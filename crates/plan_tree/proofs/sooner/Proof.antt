@@ -1,3 +1,4 @@
+-- plan_tree::sooner: one law for each return: `sooner-none`, `sooner-new`, `sooner-old`.
 use mathlib.Core.Path.{sym, _∙_}
 use mathlib.Core.Logic.{⊎-elim}
 use Rattle.plan_tree.specs.laws.Phase.{sooner-none, sooner-new, sooner-old}

@@ -1,5 +1,6 @@
--- Borůvka's algorithm, as laws of two tables: lab v is the part (fragment) of node v, t k is 1 where edge k is marked.
--- Nodes are the numbers below the limit of modules; nothing here needs a connected graph.
+-- Borůvka's algorithm, as laws of two tables: lab v is the part (fragment) of node v, t k is 1 where edge k is marked. An edge joined keeps the forest
+-- (`joined-forest`), and a forest with no edge left between parts is the tree (`finished`). Nodes are the numbers below the limit of modules; nothing here
+-- needs a connected graph.
 use Prim.Native.Nat.{ℕ, _≤_, _<_}
 use native.Mathlib.Omega.{arith}
 use mathlib.Core.Path.{_≡_, refl, sym, ap, subst, _∙_}

@@ -1,4 +1,5 @@
--- One phase: the earliest edge that leaves each part, found by a scan of all edges. By the cut property it is a tree edge.
+-- One phase: the earliest edge that leaves each part, found by a scan of all edges (`first-skip`, `first-offer`). By the cut property it is a tree edge
+-- (`first-pick`); joining it leaves fewer edges between parts (`apart-falls`).
 use Prim.Native.Nat.{ℕ, zero, suc, _+_, _≤_, _<_}
 use native.Mathlib.Omega.{arith}
 use mathlib.Core.Path.{_≡_, refl, sym, ap, subst, _∙_}

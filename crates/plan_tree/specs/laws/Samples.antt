@@ -1,4 +1,4 @@
--- Document 01's samples of the tree, as rows that the definitions compute.
+-- Document 01's samples of the tree, as rows that the definitions compute (`samples`).
 use Prim.Native.Nat.{ℕ}
 use mathlib.Core.Path.{_≡_, refl}
 use mathlib.Core.List.{List, [], _∷_, map}

@@ -1,5 +1,5 @@
--- What the builder writes: exactly the tree by the path rule; it spans, has no cycle, and no set of links that joins all modules costs less.
--- `centralTree p out` is the builder's contract; an answer of 0 is a plan that was taken.
+-- What the builder writes: exactly the tree by the path rule (`written-tree`, `tree-written`); it spans, has no cycle, and no set of links that joins all
+-- modules costs less (`written-spans`, `written-acyclic`, `written-least`). `centralTree p out` is the builder's contract; an answer of 0 is a plan that was taken.
 use Prim.Native.Nat.{ℕ, _≤_, _<_}
 use native.Mathlib.Omega.{arith}
 use mathlib.Core.Path.{_≡_, ap, _∙_}

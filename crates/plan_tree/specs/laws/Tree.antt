@@ -1,4 +1,4 @@
--- The outcomes of `centralTree`: refused by the plan's number, refused by 20, or built.
+-- The outcomes of `centralTree`: refused by the plan's number (`refused-plan`), refused by 20 (`refused-size`), or built (`built`, `exact-bytes`).
 use Prim.Native.Nat.{ℕ}
 use native.Mathlib.Omega.{arith}
 use mathlib.Core.Path.{_≡_, sym, ap, _∙_}

@@ -1,3 +1,5 @@
+-- program_report::main: the text is that of every input which can have left these bytes, by `of-input` with `long-refused`; it fits, by
+-- `reported-fits`.
 use native.Mathlib.Omega.{arith}
 use mathlib.Core.Path.{_∙_}
 use borrow.Author.Needs.{needs}

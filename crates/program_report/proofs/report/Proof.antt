@@ -1,3 +1,4 @@
+-- program_report::report: a refused plan by `plan-refused`, else by `plan-taken`; the array has words enough, by `read-small`.
 use Prim.Native.Nat.{_≤_}
 use native.Mathlib.Omega.{arith}
 use mathlib.Core.Path.{sym, ap, _∙_}

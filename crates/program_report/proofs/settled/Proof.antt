@@ -1,3 +1,4 @@
+-- program_report::settled: refused by `settled-refused`, else by `settled-shown`.
 use mathlib.Core.Path.{sym, ap, _∙_}
 use borrow.Author.Needs.{needs}
 use Rattle.format_text.specs.Put.{put}

@@ -1,3 +1,4 @@
+-- program_trace::follow: head, modules and words are put one behind the other: the trace of a run, by `ran-parts`.
 use mathlib.Core.Path.{sym, ap, _∙_}
 use lib.Seq.{length-take-le}
 use borrow.Author.Needs.{needs}

@@ -1,3 +1,4 @@
+-- program_trace::main: the text is that of every input which can have left these bytes, by `of-input` with `long-same`; it fits, by `traced-fits`.
 use native.Mathlib.Omega.{arith}
 use mathlib.Core.Path.{_∙_}
 use borrow.Author.Needs.{needs}

@@ -1,3 +1,4 @@
+-- program_trace::set_up_and_run: an accepted plan with M words is set up, by `set-up`; then the run is `runBytes`.
 use mathlib.Core.Path.{ap, _∙_}
 use borrow.Author.Needs.{needs}
 use Rattle.base.specs.Loop.{After}

@@ -1,3 +1,4 @@
+-- program_trace::trace: refused by `traced-refused`, else by `traced-ran`; the array has words enough, by `ceiling-small`.
 use Prim.Native.Nat.{_≤_}
 use native.Mathlib.Omega.{arith}
 use mathlib.Core.Path.{_≡_, sym, ap, _∙_}

@@ -1,4 +1,4 @@
--- What the call answered, with the field in its parts.
+-- test_field::muruapy_test_rounds: what `host_rounds::run` answered, with the field in its parts, by `rounds-parts`.
 use borrow.Author.Needs.{needs}
 use Rattle.test_field.proofs.Kept.{rounds-parts}
 use Rattle.test_field.proofs.muruapy_test_rounds.Statement.{statement}

@@ -1,4 +1,4 @@
--- What the call answered, with the field in its parts.
+-- test_field::muruapy_test_run: what `host_run::run` answered, with the field in its parts, by `run-parts`.
 use borrow.Author.Needs.{needs}
 use Rattle.test_field.proofs.Kept.{run-parts}
 use Rattle.test_field.proofs.muruapy_test_run.Statement.{statement}

@@ -1,4 +1,4 @@
--- What the call answered, with the field in its parts.
+-- test_field::muruapy_test_step: what `host_run::step` answered, with the field in its parts, by `step-parts`.
 use borrow.Author.Needs.{needs}
 use Rattle.test_field.proofs.Kept.{step-parts}
 use Rattle.test_field.proofs.muruapy_test_step.Statement.{statement}

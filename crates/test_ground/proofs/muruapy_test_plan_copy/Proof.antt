@@ -1,4 +1,4 @@
--- The reader's refusal, or what follows on what it gave.
+-- test_ground::muruapy_test_plan_copy: the reader's refusal by `unless-refused`, or what the writer does with the plan read, by `unless-taken`.
 use mathlib.Core.Path.{ap, _∙_}
 use borrow.Author.Needs.{needs}
 use Rattle.plan_file.specs.Writing.{writePlan}

@@ -1,4 +1,4 @@
--- The reader's refusal, or what follows on what it gave.
+-- test_ground::muruapy_test_tree: the reader's refusal by `unless-refused`, or what the builder does with the plan read, by `unless-taken`.
 use mathlib.Core.Path.{ap, _∙_}
 use borrow.Author.Needs.{needs}
 use Rattle.plan_tree.specs.Tree.{centralTree}

@@ -1,4 +1,4 @@
--- The two outcomes of a call on what a reader gave.
+-- The two outcomes of a call on what a reader gave (`unless-refused`, `unless-taken`).
 use Prim.Native.Nat.{ℕ}
 use mathlib.Core.Path.{_≡_, refl, sym, _∙_}
 use mathlib.Core.Logic.{_≢_}

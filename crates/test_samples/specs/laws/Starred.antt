@@ -1,4 +1,4 @@
--- Document 01's starred samples: one table of the definitions, one theorem over its rows.
+-- Document 01's starred samples: one table of the definitions, one theorem over its rows (`starred`).
 use Prim.Native.Nat.{ℕ}
 use mathlib.Core.Path.{_≡_, refl}
 use mathlib.Core.Bool.{true, false}

@@ -1,3 +1,4 @@
+-- field_check::items::identity_fits: the definition's two cases, level 0 and above.
 use borrow.Author.Tests.{eq-eqb, ne-eqb}
 use Rattle.field_check.proofs.items.identity_fits.Statement.{statement}
 use Rattle.field_check.proofs.items.identity_fits.Tie as tie

@@ -1,3 +1,4 @@
+-- field_check::items::link_or_none: the definition's test, with L as `links` answers it.
 use mathlib.Core.Path.{ap}
 use mathlib.Core.Bool.{_||_}
 use Prim.Native.Nat.{ℕ}

@@ -1,3 +1,4 @@
+-- field_check::items::node_fits: what the callees answer are the parts of `nodeFits`.
 use borrow.Author.Needs.{needs}
 use Rattle.field.specs.Valid.{nodeFits}
 use Rattle.field_check.proofs.items.node_fits.Statement.{statement}

@@ -1,3 +1,4 @@
+-- field_check::items::own_or_none: none, a number past the links, or what `owns` answers: the cases of `isOwn`.
 use borrow.Author.Tests.{eq-eqb, ne-eqb, le-ltb}
 use borrow.Author.Needs.{needs}
 use Rattle.field.specs.Edges.{isOwn}

@@ -1,3 +1,4 @@
+-- field_check::items::values_listed: what the callees answer are the parts of the definition.
 use borrow.Author.Needs.{needs}
 use Rattle.field_check.proofs.items.values_listed.Statement.{statement}
 use Rattle.field_check.proofs.items.values_listed.Tie as tie

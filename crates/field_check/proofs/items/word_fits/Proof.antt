@@ -1,3 +1,4 @@
+-- field_check::items::word_fits: what the callees answer are the parts of `wordFits`.
 use borrow.Author.Needs.{needs}
 use Rattle.field.specs.Valid.{wordFits}
 use Rattle.field_check.proofs.items.word_fits.Statement.{statement}

@@ -1,3 +1,4 @@
+-- host_rounds::air::hand_phase: a loop; d links had their turn (`Handed`), one more by `handed-on`; all are the definition's phase, by `hand-phase`.
 use Prim.Native.Nat.{ℕ, _*_, _-_, _≤_}
 use mathlib.Core.Path.{_≡_, ap}
 use borrow.Author.Needs.{needs}

@@ -1,3 +1,4 @@
+-- host_rounds::air::hand_turn: a loop; j words are handed over (`Handed`), one more by `handed-on`; all are the definition's turn, by `hand-turn`.
 use Prim.Native.Nat.{_-_, _≤_}
 use mathlib.Core.Path.{sym}
 use lib.Seq.{length-take-le}

@@ -1,3 +1,5 @@
+-- host_rounds::queue::serve_phase: a loop; v modules had their turn (`Turned`), one more by `turn-on`; all are the definition's phase, by
+-- `serve-phase`.
 use Prim.Native.Nat.{_-_, _≤_}
 use borrow.Author.Needs.{needs}
 use mathlib.Core.Path.{_≡_}

@@ -1,3 +1,4 @@
+-- host_rounds::queue::serve_turn: a loop; j words are served (`Turned`), one more by `turn-on`; all are the definition's turn, by `serve-turn`.
 use Prim.Native.Nat.{_-_, _≤_}
 use mathlib.Core.Path.{sym}
 use lib.Seq.{length-take-le}

@@ -1,3 +1,4 @@
+-- host_rounds::round::round: a refused hand-over ends it, by `round-off`; else the modules serve, by `round-on`. The field stays ready, by `hands`.
 use mathlib.Core.Path.{refl, _∙_}
 use borrow.Author.Needs.{needs}
 use Rattle.field_calls.specs.Rounds.{handPhase}

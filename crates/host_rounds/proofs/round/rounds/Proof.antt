@@ -1,3 +1,4 @@
+-- host_rounds::round::rounds: a loop; k rounds are completed (`Going`), one more by `goes-on`. It ends by `goes-rest`, `goes-off` or `goes-over`.
 use Prim.Native.Nat.{_-_, _≤_}
 use borrow.Author.Needs.{needs}
 use Rattle.field_calls.specs.Rounds.{atRest, round}

@@ -1,3 +1,4 @@
+-- host_run::steps::step: one law for each arm: `is-wake`, `is-hand`, `is-serve`, `is-none`; the field stays ready, by `hands` and `stays`.
 use native.Mathlib.Omega.{arith}
 use mathlib.Core.Logic.{⊎-elim}
 use borrow.Author.Needs.{needs}

@@ -1,3 +1,4 @@
+-- host_run::steps::steps: a loop; k steps are done (`Going`), one more by `goes-on`. It ends by `goes-off` or `goes-over`.
 use Prim.Native.Nat.{_-_, _≤_}
 use native.Mathlib.Omega.{arith}
 use mathlib.Core.Path.{_≡_, refl}

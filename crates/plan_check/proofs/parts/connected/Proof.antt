@@ -1,3 +1,4 @@
+-- plan_check::parts::connected: labels of one part are what the graph's test asks for, by `one-part-is`.
 use native.Mathlib.Omega.{arith}
 use mathlib.Core.Path.{_∙_}
 use Rattle.base.specs.Limits.{maxModules}

@@ -1,4 +1,4 @@
--- The test of all n is the test of the v that are left.
+-- plan_check::parts::one_part: a loop downwards; the test of all n is the test of the v that are left (`every-goes-on`, `every-stops`).
 use borrow.Author.Tests.{eq-eqb, ne-eqb}
 use Prim.Native.Nat.{ℕ, _≤_}
 use native.Mathlib.Omega.{arith}

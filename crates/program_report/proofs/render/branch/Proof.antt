@@ -1,3 +1,4 @@
+-- program_report::render::branch: no line by `branch-none`, one by `branch-one`.
 use mathlib.Core.Path.{sym, ap, _∙_}
 use mathlib.Core.List.{_++_}
 use borrow.Author.Needs.{needs}

@@ -1,3 +1,4 @@
+-- program_report::render::branches: a loop; the lines of the first k links are put, one more by `lines-turn`.
 use Prim.Native.Nat.{_≤_, _-_}
 use native.Mathlib.Omega.{arith}
 use mathlib.Core.Path.{_≡_, refl, sym, ap, _∙_}

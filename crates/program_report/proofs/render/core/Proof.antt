@@ -1,3 +1,4 @@
+-- program_report::render::core: fewer than two modules by `core-none`, else by `core-some`.
 use native.Mathlib.Omega.{arith}
 use mathlib.Core.Path.{sym, ap, _∙_}
 use mathlib.Core.List.{_++_}

@@ -1,3 +1,4 @@
+-- program_report::render::end: not halted by `end-none`, halted by `end-one`.
 use mathlib.Core.Path.{sym, ap, _∙_}
 use borrow.Author.Needs.{needs}
 use Rattle.format_text.specs.Put.{put}

@@ -1,3 +1,4 @@
+-- program_report::render::ends: a loop; the halted among the first v modules are named, one more by `ends-turn`.
 use Prim.Native.Nat.{_≤_, _-_}
 use native.Mathlib.Omega.{arith}
 use mathlib.Core.Path.{_≡_, refl, sym, ap, _∙_}

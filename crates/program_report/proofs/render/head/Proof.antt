@@ -1,3 +1,4 @@
+-- program_report::render::head: the two lines one behind the other, by `put-on`.
 use borrow.Author.Needs.{needs}
 use Rattle.format_text.specs.laws.Put.{put-on}
 use Rattle.format_text.specs.Lines.{line}

@@ -1,3 +1,4 @@
+-- program_report::render::render: head, branches, total, core and tail one behind the other: the report, by `report-parts`.
 use mathlib.Core.Path.{ap, _∙_}
 use borrow.Author.Needs.{needs}
 use Rattle.format_text.specs.Put.{put}

@@ -1,3 +1,4 @@
+-- program_report::render::tail: the two lines one behind the other, by `put-on`.
 use mathlib.Core.List.{_++_}
 use borrow.Author.Needs.{needs}
 use Rattle.format_text.specs.laws.Put.{put-on}

@@ -1,3 +1,4 @@
+-- program_report::render::total: a loop; the branches' cost among the first k links, by `total-branch` and `total-other`, within 64 bits.
 use Prim.Native.Nat.{_≤_, _*_, _-_}
 use native.Mathlib.Omega.{arith}
 use mathlib.Core.Path.{_≡_, refl, sym, ap, _∙_}

@@ -1,3 +1,4 @@
+-- program_trace::render::first_values: four items one behind the other, by `put-on`.
 use borrow.Author.Needs.{needs}
 use Rattle.format_text.specs.laws.Put.{put-on}
 use Rattle.program_trace.proofs.render.first_values.Statement.{statement}

@@ -1,3 +1,4 @@
+-- program_trace::render::head: the four lines one behind the other, by `put-on`.
 use borrow.Author.Needs.{needs}
 use mathlib.Core.List.{_++_}
 use Rattle.format_text.specs.laws.Put.{put-on}

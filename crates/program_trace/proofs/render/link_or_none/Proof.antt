@@ -1,3 +1,4 @@
+-- program_trace::render::link_or_none: "-" by `link-none`, a number by `link-some`.
 use mathlib.Core.Path.{sym, ap, _∙_}
 use borrow.Author.Needs.{needs}
 use Rattle.format_text.specs.Put.{put}

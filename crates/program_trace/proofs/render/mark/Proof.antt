@@ -1,3 +1,4 @@
+-- program_trace::render::mark: no link of v by `mark-none`; else its number and mark, by `mark-own`.
 use mathlib.Core.Path.{sym, ap, _∙_}
 use borrow.Author.Needs.{needs}
 use borrow.Author.Tests.{not-true, not-false}

@@ -1,3 +1,4 @@
+-- program_trace::render::module_line: name, values, marks and the line's end, by `put-on`.
 use mathlib.Core.Path.{ap, _∙_}
 use mathlib.Core.List.{_++_}
 use borrow.Author.Needs.{needs}

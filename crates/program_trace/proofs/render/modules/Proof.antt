@@ -1,3 +1,4 @@
+-- program_trace::render::modules: a loop; the lines of the first v modules are put, one more by `modules-turn`.
 use Prim.Native.Nat.{_≤_, _-_}
 use native.Mathlib.Omega.{arith}
 use mathlib.Core.Path.{_≡_, refl, sym, ap, _∙_}

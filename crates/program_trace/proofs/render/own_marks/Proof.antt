@@ -1,3 +1,4 @@
+-- program_trace::render::own_marks: a loop; the marks of v's links among the first k are put, one more by `marks-turn`.
 use Prim.Native.Nat.{_≤_, _-_}
 use native.Mathlib.Omega.{arith}
 use mathlib.Core.Path.{_≡_, refl, sym, ap, _∙_}

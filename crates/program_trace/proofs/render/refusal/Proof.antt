@@ -1,3 +1,4 @@
+-- program_trace::render::refusal: "none" by `refusal-none`, a number by `refusal-some`.
 use mathlib.Core.Path.{sym, ap, _∙_}
 use borrow.Author.Needs.{needs}
 use Rattle.format_text.specs.Put.{put}

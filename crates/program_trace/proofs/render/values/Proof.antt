@@ -1,3 +1,4 @@
+-- program_trace::render::values: the first four and the others, by `put-on`.
 use borrow.Author.Needs.{needs}
 use Rattle.format_text.specs.laws.Put.{put-on}
 use Rattle.program_trace.specs.Text.{firstText, otherText}

@@ -1,3 +1,4 @@
+-- program_trace::render::words: a loop; the words from i on are left to put, by `words-turn`, in the end none, by `words-over`.
 use Prim.Native.Nat.{_≤_, _-_}
 use native.Mathlib.Omega.{arith}
 use mathlib.Core.Path.{_≡_, sym, _∙_}
