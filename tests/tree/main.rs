@@ -22,11 +22,13 @@ const ALLOWED: [(&str, usize); 9] = [
     ("crates that crates.txt and crates/ do not share", 0),
 ];
 
-/// The names that the pages have in backquotes; docs/TRUST.md is made from the tree and does not count.
+/// The names that the pages have in backquotes. docs/TRUST.md is made from the tree and docs/CHANGES.md names what is gone: they do not count.
 fn named_by_pages(top: &Path) -> BTreeSet<String> {
     let pages = fs::read_dir(top.join("docs")).into_iter().flatten().flatten().map(|e| e.path());
     let mut names = BTreeSet::new();
-    let written = |p: &PathBuf| p.extension().is_some_and(|e| e == "md") && !p.ends_with("TRUST.md");
+    let written = |p: &PathBuf| {
+        p.extension().is_some_and(|e| e == "md") && !p.ends_with("TRUST.md") && !p.ends_with("CHANGES.md")
+    };
     for page in pages.filter(written).chain([top.join("README.md")]) {
         let text = fs::read_to_string(page).unwrap_or_default();
         let quoted = text.split('`').skip(1).step_by(2).flat_map(str::split_whitespace);

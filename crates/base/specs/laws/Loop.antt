@@ -64,10 +64,6 @@ module _ {S : Type 0} where
         (λ q. ap (λ i. then (loop i g x) (g i)) (sym q) ∙ next)
         (λ lt. ap (λ a. then a (g n)) (off n lt h) ∙ then-off z (g n) h)
 
-  -- no turn is left
-  over : (g : ℕ → S → After S) (n k : ℕ) (x y : S) → loop k g x ≡ takenTo y → n ≤ k → k ≤ n → loop n g x ≡ takenTo y
-  over g n k x y d l r = ap (λ i. loop i g x) (omega arith) ∙ d
-
   -- what every turn keeps, refused or not
   pub loop-keeps : (P : S → Type 0) (n : ℕ) (g : ℕ → S → After S) (x : S) → P x → ((k : ℕ) (y : S) → k < n → P y → P (g k y .state)) → P (loop n g x .state)
   unfolding loop

@@ -1,3 +1,4 @@
+-- field_serve::no_module: the comparison itself.
 use borrow.Author.Needs.{needs}
 use Rattle.field_serve.proofs.no_module.Statement.{statement}
 use Rattle.field_serve.proofs.no_module.Tie as tie

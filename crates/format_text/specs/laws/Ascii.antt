@@ -3,5 +3,5 @@ use mathlib.Core.Path.{_≡_, refl}
 use mathlib.Core.List.{[], _∷_}
 use Rattle.format_text.specs.Ascii.{ascii}
 
-sample : ascii "core 0\n" ≡ 99 ∷ 111 ∷ 114 ∷ 101 ∷ 32 ∷ 48 ∷ 10 ∷ []
-sample = refl
+ascii-sample : ascii "core 0\n" ≡ 99 ∷ 111 ∷ 114 ∷ 101 ∷ 32 ∷ 48 ∷ 10 ∷ []
+ascii-sample = refl

@@ -14,9 +14,9 @@ use Rattle.io.specs.Digits.{digits, Fewest}
 use Rattle.format_text.specs.Ascii.{ascii}
 use Rattle.format_text.specs.Decimal.{digit, decimal-to, decimal}
 
-samples : decimal 0 ++ decimal 10 ++ decimal 18446744073709551615 ≡ ascii "01018446744073709551615"
+decimal-samples : decimal 0 ++ decimal 10 ++ decimal 18446744073709551615 ≡ ascii "01018446744073709551615"
 unfolding decimal
-samples = refl
+decimal-samples = refl
 
 to-length : (k n : ℕ) → length (decimal-to k n) ≤ k
 unfolding decimal-to

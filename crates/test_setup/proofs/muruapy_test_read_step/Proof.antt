@@ -1,3 +1,4 @@
+-- test_setup::muruapy_test_read_step: what `read_at` found, in its parts.
 use mathlib.Core.Path.{ap}
 use borrow.Author.Needs.{needs}
 use Rattle.test_setup.specs.declared.Found.{Found}

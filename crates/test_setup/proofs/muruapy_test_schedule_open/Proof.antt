@@ -1,4 +1,4 @@
--- `test_setup::muruapy_test_schedule_open` meets its contract: a walk of its MIR, by hand. The reader that `open` returns is held in a local and passed to `left`. All that the proof knows of the two is that each meets its contract.
+-- test_setup::muruapy_test_schedule_open: a walk of its MIR, by hand. The reader that `open` returns is held in a local and passed to `left`. All that the proof knows of the two is that each meets its contract.
 -- In a local of a body MIR erases the lifetime of the struct's type, so its value is shown to have the type at `erased`.
 -- Assumes nothing.
 use mathlib.Core.Path.{_≡_, refl, ap, _∙_}

@@ -1,4 +1,4 @@
--- `test_setup::read_at` meets its contract: a walk of its MIR, by hand. A reader is made of the slice and the place, in a local. A copy is passed to `left`; then the local is lent to `next` for a lifetime that the walk makes within the slice's, taken back, and its place is read.
+-- test_setup::read_at: a walk of its MIR, by hand. A reader is made of the slice and the place, in a local. A copy is passed to `left`; then the local is lent to `next` for a lifetime that the walk makes within the slice's, taken back, and its place is read.
 -- A `&[u8]` is Copy: for each reader what it owns is had once more, and one copy is kept for the exit. All that the proof knows of the two functions is that each meets its contract.
 -- Assumes nothing.
 use mathlib.Core.Path.{_≡_, refl, ap}
