@@ -8,6 +8,7 @@ ghost use Rattle.format_text.specs.Ascii.{ascii};
 ghost use Rattle.format_text.specs.Put.{page};
 ghost use Rattle.format_text.specs.Put.{put as Put·put};
 ghost use Rattle.format_text.specs.Decimal.{decimal};
+ghost use Rattle.format_text.specs.Lines.{refusedText};
 ghost use Rattle.format_text.specs.Input.{roomOf, countOf};
 use libc::STDIN_FILENO;
 
@@ -52,6 +53,13 @@ pub fn put_line(out: &mut [u8], at: usize, s: &[u8], x: u64) -> usize
     put(out, a, b"\n")
 }
 
+// The line of a refused plan.
+pub fn put_refused(out: &mut [u8], number: u32) -> usize
+    ensures { λ r. ⌜ page r (now (out .exit)) ≡ Put·put (page 0 (now (out .entry))) (refusedText number) ⌝ }
+{
+    put_line(out, 0, b"refused ", number as u64)
+}
+
 // The front of a buffer: the bytes that were read into it, or the text that was put.
 pub fn front<'a>(buffer: &'a [u8], end: usize) -> &'a [u8]
     ensures { λ r. ⌜ now r ≡ take end (now (buffer .entry)) ⌝ }
@@ -81,8 +89,9 @@ pub fn read_input(space: &mut [u8]) -> Intake
     }
 }
 
-pub fn bytes_read(intake: Intake) -> usize
-    ensures { λ r. ⌜ r ≡ countOf intake ⌝ }
+// The bytes that came.
+pub fn came<'a>(space: &'a [u8], intake: Intake) -> &'a [u8]
+    ensures { λ r. ⌜ now r ≡ take (countOf intake) (now (space .entry)) ⌝ }
 {
-    intake.count
+    front(space, intake.count)
 }
