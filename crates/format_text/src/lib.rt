@@ -89,9 +89,8 @@ pub fn read_input(space: &mut [u8]) -> Intake
     }
 }
 
-// The bytes that came.
-pub fn came<'a>(space: &'a [u8], intake: Intake) -> &'a [u8]
-    ensures { λ r. ⌜ now r ≡ take (countOf intake) (now (space .entry)) ⌝ }
+pub fn bytes_read(intake: Intake) -> usize
+    ensures { λ r. ⌜ r ≡ countOf intake ⌝ }
 {
-    front(space, intake.count)
+    intake.count
 }

@@ -50,7 +50,8 @@ const PLANROOM: usize = 65539;
 fn main() {
     let mut space = [0u8; PLANROOM];
     let intake = format_text::read_input(&mut space);
+    let n = format_text::bytes_read(intake);
     let mut out = [0u8; 65536];
-    let end = report(format_text::came(&space, intake), &mut out);
+    let end = report(format_text::front(&space, n), &mut out);
     write(&space, intake, format_text::front(&out, end));
 }

@@ -65,7 +65,8 @@ const RUNROOM: usize = 70346;
 fn main() {
     let mut space = [0u8; RUNROOM];
     let intake = format_text::read_input(&mut space);
+    let n = format_text::bytes_read(intake);
     let mut out = [0u8; 400000];
-    let end = trace(format_text::came(&space, intake), &mut out);
+    let end = trace(format_text::front(&space, n), &mut out);
     write(&space, intake, format_text::front(&out, end));
 }

@@ -22,12 +22,12 @@ module _ {told : List ℕ → List ℕ} (space : List ℕ) (i : Intake) where
   of-read l b o = o (take (countOf i) space) b (take-all (roomOf i) (take (countOf i) space) (omega (arith, length-take (countOf i) space)))
 
   -- the text of what came is that of the input, where there was room for enough bytes
-  pub of-input : {n : ℕ} → Enough told n → n ≤ roomOf i → {given : List ℕ} → given ≡ take (countOf i) space
+  pub of-input : {n : ℕ} → Enough told n → n ≤ roomOf i → {count : ℕ} → count ≡ countOf i → {given : List ℕ} → given ≡ take count space
       → {text : List ℕ} → text ≡ told given → OfInput told space i text
-  of-input law enough e t s b r = t ∙ ap told (e ∙ sym r) ∙ law (roomOf i) enough s b
+  of-input law enough k e t s b r = t ∙ ap told (e ∙ ap (λ n. take n space) k ∙ sym r) ∙ law (roomOf i) enough s b
 
   -- for a program: put into a buffer that has room for every text, and read back from its front
-  pub input-told : {n : ℕ} → Enough told n → n ≤ roomOf i → {given : List ℕ} → given ≡ take (countOf i) space
+  pub input-told : {n : ℕ} → Enough told n → n ≤ roomOf i → {count : ℕ} → count ≡ countOf i → {given : List ℕ} → given ≡ take count space
       → (b : List ℕ) → ((s : List ℕ) → length (told s) ≤ length b) → {end : ℕ} {b′ : List ℕ} → page end b′ ≡ put (page 0 b) (told given)
       → {text : List ℕ} → text ≡ take end b′ → OfInput told space i text
-  input-told law enough {given} e b fits {end} {b′} f t = of-input law enough e (t ∙ whole-text b (told given) (fits given) end b′ f)
+  input-told law enough k {given} e b fits {end} {b′} f t = of-input law enough k e (t ∙ whole-text b (told given) (fits given) end b′ f)
