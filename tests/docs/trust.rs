@@ -19,7 +19,7 @@ const CALLED: [(&str, &[&str]); 13] = [
     ("host_setup", &["setup"]),
     ("host_run", &["step", "run"]),
     ("host_rounds", &["run"]),
-    ("host_job", &["settle"]),
+    ("host_job", &["run_job"]),
     ("host_schedule", &["check"]),
     ("host_reader", &["open", "left", "next"]),
     ("format_text", &[]),

@@ -1,4 +1,4 @@
--- A word and a number, and the same on a line.
+-- A word and a number, the same on a line, and the line of a refused plan.
 use Prim.Native.Nat.{ℕ}
 use Prim.Native.String.{String}
 use mathlib.Core.List.{List, _++_}
@@ -10,3 +10,7 @@ named word n = ascii word ++ decimal n
 
 abbrev pub line : String → ℕ → List ℕ
 line word n = named word n ++ ascii "\n"
+
+-- "A refused plan prints one line, as "refused 19"."
+abbrev pub refusedText : ℕ → List ℕ
+refusedText number = line "refused " number

@@ -8,6 +8,7 @@ ghost use Rattle.format_text.specs.Ascii.{ascii};
 ghost use Rattle.format_text.specs.Put.{page};
 ghost use Rattle.format_text.specs.Put.{put as Put·put};
 ghost use Rattle.format_text.specs.Decimal.{decimal};
+ghost use Rattle.format_text.specs.Lines.{refusedText};
 ghost use Rattle.format_text.specs.Input.{roomOf, countOf};
 use libc::STDIN_FILENO;
 
@@ -50,6 +51,13 @@ pub fn put_line(out: &mut [u8], at: usize, s: &[u8], x: u64) -> usize
 {
     let a = put_named(out, at, s, x);
     put(out, a, b"\n")
+}
+
+// The line of a refused plan.
+pub fn put_refused(out: &mut [u8], number: u32) -> usize
+    ensures { λ r. ⌜ page r (now (out .exit)) ≡ Put·put (page 0 (now (out .entry))) (refusedText number) ⌝ }
+{
+    put_line(out, 0, b"refused ", number as u64)
 }
 
 // The front of a buffer: the bytes that were read into it, or the text that was put.

@@ -2,23 +2,23 @@
 use field::Field;
 use plan::Plan;
 ghost use mathlib.Core.Path.{_≡_};
-ghost use Rattle.host_job.specs.Settled.{settled};
+ghost use Rattle.host_job.specs.Job.{jobRun};
 
-// rounds: rounds completed. refusal: 14 to 19, 21 or 0; no other can occur (specs/Agrees).
-pub struct Settled {
+// rounds: rounds completed. refusal: 14 to 19, 21 or 0; no other can occur (specs/laws/Agrees).
+pub struct JobDone {
     pub rounds: u16,
     pub refusal: u32,
     pub field: Field,
 }
 
-pub fn settle(p: &Plan, words: &mut [u64]) -> Settled
+pub fn run_job(p: &Plan, words: &mut [u64]) -> JobDone
     ensures { λ r. ⌜ record { done = r .rounds; refusal = r .refusal; state = record { field = r .field; words = now (words .exit) } }
-        ≡ settled (now (p .entry)) (now (words .entry)) ⌝ }
+        ≡ jobRun (now (p .entry)) (now (words .entry)) ⌝ }
 {
     let s = host_setup::setup(p, words);
     let start = s.field;
     if s.refusal != 0 {
-        return Settled {
+        return JobDone {
             rounds: 0,
             refusal: s.refusal,
             field: start,
@@ -27,7 +27,7 @@ pub fn settle(p: &Plan, words: &mut [u64]) -> Settled
     let w = host_run::step(start, words, 1, 0);
     let woken = w.field;
     if w.refusal != 0 {
-        return Settled {
+        return JobDone {
             rounds: 0,
             refusal: w.refusal,
             field: woken,
@@ -35,7 +35,7 @@ pub fn settle(p: &Plan, words: &mut [u64]) -> Settled
     }
     let r = host_rounds::run(woken, words, 65535);
     let end = r.field;
-    Settled {
+    JobDone {
         rounds: r.rounds,
         refusal: r.refusal,
         field: end,

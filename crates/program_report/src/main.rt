@@ -3,31 +3,23 @@
 ghost use mathlib.Core.Path.{_≡_};
 ghost use Rattle.format_text.specs.Input.{OfInput};
 ghost use Rattle.format_text.specs.Put.{page, put};
-ghost use Rattle.host_job.specs.Settled.{settled as Settled·settled};
-ghost use Rattle.program_report.specs.Reported.{refusedText, settledText, reported};
+ghost use Rattle.host_job.specs.Job.{jobRun};
+ghost use Rattle.text_owed.specs.Reported.{jobText, reported};
 use base::MAX_WORDS;
 use format_text::Intake;
 use libc::STDOUT_FILENO;
 use plan::Plan;
 
-mod render;
-
-fn refused(out: &mut [u8], number: u32) -> usize
-    ensures { λ r. ⌜ page r (now (out .exit)) ≡ put (page 0 (now (out .entry))) (refusedText number) ⌝ }
+// The report of what the whole job on a plan leaves. (`words` is lent for the job alone: what it leaves there is of no use after.)
+fn job_report(p: &Plan, words: &mut [u64], out: &mut [u8]) -> usize
+    ensures { λ r. ⌜ page r (now (out .exit)) ≡ put (page 0 (now (out .entry))) (jobText (jobRun (now (p .entry)) (now (words .entry)))) ⌝ }
 {
-    format_text::put_line(out, 0, b"refused ", number as u64)
-}
-
-// What the field of a plan comes to.
-fn settled(p: &Plan, words: &mut [u64], out: &mut [u8]) -> usize
-    ensures { λ r. ⌜ page r (now (out .exit)) ≡ put (page 0 (now (out .entry))) (settledText (Settled·settled (now (p .entry)) (now (words .entry)))) ⌝ }
-{
-    let s = host_job::settle(p, words);
+    let s = host_job::run_job(p, words);
     let f = s.field;
     if s.refusal != 0 {
-        return refused(out, s.refusal);
+        return format_text::put_refused(out, s.refusal);
     }
-    render::render(f, s.rounds, out)
+    text_report::render(f, s.rounds, out)
 }
 
 // The report of a plan's bytes.
@@ -37,11 +29,11 @@ fn report(s: &[u8], out: &mut [u8]) -> usize
     let got = plan_file::read(s);
     let p = got.plan;
     if got.refusal != 0 {
-        return refused(out, got.refusal);
+        return format_text::put_refused(out, got.refusal);
     }
     let m = plan::ceiling_of(&p) as usize;
     let mut lent = [0u64; MAX_WORDS];
-    settled(&p, &mut lent[..m], out)
+    job_report(&p, &mut lent[..m], out)
 }
 
 // What it asks is what the program owes: the text is the report of the whole input, of which `space` holds what came.

@@ -8,61 +8,42 @@ ghost use Rattle.format_text.specs.Put.{page, put};
 ghost use Rattle.plan.specs.Refusal.{planRefusal};
 ghost use Rattle.field.specs.Edges.{ceilingOf};
 ghost use Rattle.field_calls.specs.Call.{runBytes};
-ghost use Rattle.program_trace.specs.Text.{ranText};
-ghost use Rattle.program_trace.specs.Traced.{start, planPart, traced};
+ghost use Rattle.text_owed.specs.Traced.{freshHeld, ranText, traced};
 use base::MAX_WORDS;
 use format_text::Intake;
 use host_run::Ran;
 use libc::STDOUT_FILENO;
 use plan::Plan;
 
-mod render;
-
 // Setup of an accepted plan with exactly M words, then a run of the schedule.
 fn set_up_and_run(p: &Plan, lent: &mut [u64], schedule: &[u8]) -> Ran
     requires { ⌜ (planRefusal (now p) ≡ 0) × (length (now lent) ≡ ceilingOf (now p)) ⌝ }
     ensures { λ r. ⌜ record { done = r .steps; refusal = r .refusal; state = record { field = r .field; words = now (lent .exit) } }
-        ≡ runBytes (now (schedule .entry)) (start (now (p .entry))) ⌝ }
+        ≡ runBytes (now (schedule .entry)) (freshHeld (now (p .entry))) ⌝ }
 {
     let begun = host_setup::setup(p, lent);
     host_run::run(begun.field, lent, schedule)
 }
 
-// An accepted plan's schedule run, and what it led to.
+// An accepted plan's schedule run, and what it led to. (`lent` is for the run alone: what it leaves there is in the text, and of no use after.)
 fn follow(p: &Plan, lent: &mut [u64], schedule: &[u8], out: &mut [u8]) -> usize
     requires { ⌜ (planRefusal (now p) ≡ 0) × (length (now lent) ≡ ceilingOf (now p)) ⌝ }
-    ensures { λ r. ⌜ page r (now (out .exit)) ≡ put (page 0 (now (out .entry))) (ranText (now (p .entry)) (runBytes (now (schedule .entry)) (start (now (p .entry))))) ⌝ }
+    ensures { λ r. ⌜ page r (now (out .exit)) ≡ put (page 0 (now (out .entry))) (ranText (now (p .entry)) (runBytes (now (schedule .entry)) (freshHeld (now (p .entry))))) ⌝ }
 {
     let r = set_up_and_run(p, lent, schedule);
     let f = r.field;
     let n = field_check::waiting(lent);
-    let a = render::head(out, r.steps, r.refusal, f.sent, n);
-    let b = render::modules(p, &f.cells, &f.marks, out, a);
-    render::words(&lent[..n], out, b)
-}
-
-// How many bytes are the plan's: the first 3 and as many more as its length says, or all there is.
-fn plan_part(input: &[u8]) -> usize
-    ensures { λ r. ⌜ r ≡ planPart (now (input .entry)) ⌝ }
-{
-    if input.len() < 3 {
-        return input.len();
-    }
-    let end = 3 + format_int16::at(input, 1) as usize;
-    if input.len() < end {
-        return input.len();
-    }
-    end
+    text_trace::render(p, f, r.steps, r.refusal, &lent[..n], out)
 }
 
 // A plan and a schedule followed to the end.
 fn trace(input: &[u8], out: &mut [u8]) -> usize
     ensures { λ r. ⌜ page r (now (out .exit)) ≡ put (page 0 (now (out .entry))) (traced (now (input .entry))) ⌝ }
 {
-    let part = plan_part(input);
+    let part = text_owed::plan_part(input);
     let got = plan_file::read(&input[..part]);
     if got.refusal != 0 {
-        return format_text::put_line(out, 0, b"refused ", got.refusal as u64);
+        return format_text::put_refused(out, got.refusal);
     }
     let p = got.plan;
     let m = plan::ceiling_of(&p) as usize;

@@ -26,7 +26,7 @@ use Rattle.field_laws.specs.Laid.{Live}
 use Rattle.demand.specs.Demand.{demand3}
 use Rattle.plan_tree.specs.Tree.{centralTree}
 use Rattle.plan_tree.specs.laws.Theorems.{written-tree, tree-written}
-use Rattle.host_job.specs.Settled.{next, settled}
+use Rattle.host_job.specs.Job.{next, jobRun}
 
 -- the calls that it makes
 abbrev pub calls : List Call
@@ -94,31 +94,31 @@ module _ (p : Plan) (lent : List ℕ) (ok : setUp p lent .refusal ≡ 0) where
   room = let k = started p lent ok .plan in omega (arith, ceiling-small p k, accepted p k .modulesOk)
 
   -- so the job is that list of calls
-  pub settled-is : settled p lent ≡ runRounds 65535 (stepAlone 1 0 start .state)
-  unfolding settled next
-  settled-is = rw (ok, wakes) refl
+  pub job-is : jobRun p lent ≡ runRounds 65535 (stepAlone 1 0 start .state)
+  unfolding jobRun next
+  job-is = rw (ok, wakes) refl
 
   -- AT THE END: "comes to rest unrefused within N more rounds than the ceiling"; the sent count is exact and within the ceiling; all modules
   -- agree on the tree, and exactly the ends of one tree link have halted
-  pub record Outcome : Type 0 where
-    pub settles : ComesToRest p (settled p lent)
-    pub exact : stateOf (settled p lent .state) .sent ≡ messagesSent p (trail calls start)
-    pub ceiling : stateOf (settled p lent .state) .sent ≤ ceilingOf p
-    pub agreed : Agreed p (stateOf (settled p lent .state))
+  pub record JobOutcome : Type 0 where
+    pub rests : ComesToRest p (jobRun p lent)
+    pub exact : stateOf (jobRun p lent .state) .sent ≡ messagesSent p (trail calls start)
+    pub ceiling : stateOf (jobRun p lent .state) .sent ≤ ceilingOf p
+    pub agreed : Agreed p (stateOf (jobRun p lent .state))
 
-  pub outcome : Outcome
+  pub job-outcome : JobOutcome
   unfolding after does
-  outcome = record {
-    settles = rw settled-is (first .rests 65535 room);
-    exact = rw settled-is (whole .exact);
-    ceiling = rw settled-is (whole .ceiling);
-    agreed = rw settled-is (whole .agreed (woken p start live wakes _) (first .rests 65535 room .rest));
+  job-outcome = record {
+    rests = rw job-is (first .rests 65535 room);
+    exact = rw job-is (whole .exact);
+    ceiling = rw job-is (whole .ceiling);
+    agreed = rw job-is (whole .agreed (woken p start live wakes _) (first .rests 65535 room .rest));
   }
 
   -- THE TREE OF THE CENTRAL BUILDER: both ends of a link say branch where its byte is 1, rejected where it is 0
   module _ (out : List ℕ) (built : centralTree p out .refusal ≡ 0) (k : ℕ) (l : k < linksOf p) where
-    pub same-tree : getD (centralTree p out .state) k 0 ≡ 1 → BothSay p (stateOf (settled p lent .state)) BRANCH k
-    same-tree e = outcome .agreed .tree k l (tree-written p out built k l e)
+    pub same-tree : getD (centralTree p out .state) k 0 ≡ 1 → BothSay p (stateOf (jobRun p lent .state)) BRANCH k
+    same-tree e = job-outcome .agreed .tree k l (tree-written p out built k l e)
 
-    pub same-others : getD (centralTree p out .state) k 0 ≡ 0 → BothSay p (stateOf (settled p lent .state)) REJECTED k
-    same-others e = outcome .agreed .others k l (λ t. omega (arith, written-tree p out built k l t))
+    pub same-others : getD (centralTree p out .state) k 0 ≡ 0 → BothSay p (stateOf (jobRun p lent .state)) REJECTED k
+    same-others e = job-outcome .agreed .others k l (λ t. omega (arith, written-tree p out built k l t))

@@ -1,12 +1,10 @@
 -- program_report::main: the text is that of every input which can have left these bytes, by `of-input` with `long-refused`; it fits, by
 -- `reported-fits`.
 use native.Mathlib.Omega.{arith}
-use mathlib.Core.Path.{_∙_}
 use borrow.Author.Needs.{needs}
-use Rattle.format_text.specs.laws.Input.{of-input}
-use Rattle.format_text.specs.laws.Put.{whole-text}
-use Rattle.program_report.specs.laws.Fits.{reported-fits}
-use Rattle.program_report.specs.laws.Long.{long-refused}
+use Rattle.format_text.specs.laws.Input.{input-told}
+use Rattle.text_owed.specs.laws.ReportFits.{reported-fits}
+use Rattle.text_owed.specs.laws.ReportLong.{long-refused}
 use Rattle.program_report.proofs.main.Statement.{statement}
 use Rattle.program_report.proofs.main.Tie as tie
 
@@ -16,8 +14,8 @@ write-requires c κs =
     let given = made .before .before in
     let count = given .before .before in
     let read = count .before .before .read-input in
-    of-input (read .last .0) (read .result) long-refused (omega (arith, read .ensures .0)) (count .bytes-read .ensures) (given .front .ensures)
-    (c .front2 .ensures ∙ whole-text _ _ (reported-fits _) _ _ (made .report .ensures))
+    input-told (read .last .0) (read .result) long-refused (omega (arith, read .ensures .0)) (count .bytes-read .ensures) (given .front .ensures)
+    _ reported-fits (made .report .ensures) (c .front2 .ensures)
 
 pub main-spec : {M : Type 1} → statement M
 main-spec =

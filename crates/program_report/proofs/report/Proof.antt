@@ -8,8 +8,8 @@ use borrow.Author.Needs.{needs}
 use Rattle.base.specs.Limits.{maxWords}
 use Rattle.format_text.specs.Put.{put}
 use Rattle.field.specs.Edges.{ceilingOf}
-use Rattle.program_report.specs.laws.Reported.{plan-refused, plan-taken}
-use Rattle.program_report.specs.laws.Fits.{read-small, zeros-front}
+use Rattle.text_owed.specs.laws.Reported.{plan-refused, plan-taken}
+use Rattle.text_owed.specs.laws.ReportFits.{read-small, zeros-front}
 use Rattle.program_report.proofs.report.Statement.{statement}
 use Rattle.program_report.proofs.report.Tie as tie
 
@@ -17,7 +17,7 @@ returns : tie.Need-returns
 returns c =
     let call = c .before .before in
     let test = call .before .before in
-    call .refused .ensures ∙ ap (put _) (sym (plan-refused _ _ (test .before .before .before .read .ensures) (test .if1 .taken)))
+    call .put-refused .ensures ∙ ap (put _) (sym (plan-refused _ _ (test .before .before .before .read .ensures) (test .if1 .taken)))
 
 -- the array has the words of the largest plan
 room : (c : tie.After-ceiling-of) → c .ceiling-of .result ≤ maxWords
@@ -29,15 +29,15 @@ room c =
 array-borrow-prefix-lent : tie.Need-array-borrow-prefix-lent
 array-borrow-prefix-lent c = room (c .before)
 
-slice-aggregate-settled : tie.Need-slice-aggregate-settled
-slice-aggregate-settled c = sym (length-take-le _ _ (room (c .before .before)))
+slice-aggregate-job-report : tie.Need-slice-aggregate-job-report
+slice-aggregate-job-report c = sym (length-take-le _ _ (room (c .before .before)))
 
 returns-2 : tie.Need-returns-2
 returns-2 c =
     let call = c .before .before .before in
     let m = call .before .before .before .before in
     let test = m .before .before in
-    call .settled .ensures
+    call .job-report .ensures
     ∙ ap (put _) (sym (plan-taken _ _ (test .before .before .before .read .ensures) (test .if1 .left) _
     (zeros-front _ _ (room m) ∙ ap (λ k. replicate k 0) (m .ceiling-of .ensures))))
 
@@ -52,7 +52,7 @@ report-spec =
     (λ c κs. search needs)
     (λ c. search needs)
     array-borrow-prefix-lent
-    slice-aggregate-settled
+    slice-aggregate-job-report
     (λ c κs. search needs)
     (λ c. search needs)
     returns-2)

@@ -1,11 +1,9 @@
 -- program_trace::main: the text is that of every input which can have left these bytes, by `of-input` with `long-same`; it fits, by `traced-fits`.
 use native.Mathlib.Omega.{arith}
-use mathlib.Core.Path.{_∙_}
 use borrow.Author.Needs.{needs}
-use Rattle.format_text.specs.laws.Input.{of-input}
-use Rattle.format_text.specs.laws.Put.{whole-text}
-use Rattle.program_trace.specs.laws.Fits.{traced-fits}
-use Rattle.program_trace.specs.laws.Long.{long-same}
+use Rattle.format_text.specs.laws.Input.{input-told}
+use Rattle.text_owed.specs.laws.TraceFits.{traced-fits}
+use Rattle.text_owed.specs.laws.TraceLong.{long-same}
 use Rattle.program_trace.proofs.main.Statement.{statement}
 use Rattle.program_trace.proofs.main.Tie as tie
 
@@ -15,8 +13,8 @@ write-requires c κs =
     let given = made .before .before in
     let count = given .before .before in
     let read = count .before .before .read-input in
-    of-input (read .last .0) (read .result) long-same (omega (arith, read .ensures .0)) (count .bytes-read .ensures) (given .front .ensures)
-    (c .front2 .ensures ∙ whole-text _ _ (traced-fits _) _ _ (made .trace .ensures))
+    input-told (read .last .0) (read .result) long-same (omega (arith, read .ensures .0)) (count .bytes-read .ensures) (given .front .ensures)
+    _ traced-fits (made .trace .ensures) (c .front2 .ensures)
 
 pub main-spec : {M : Type 1} → statement M
 main-spec =

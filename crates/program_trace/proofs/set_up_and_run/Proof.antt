@@ -4,7 +4,7 @@ use borrow.Author.Needs.{needs}
 use Rattle.base.specs.Loop.{After}
 use Rattle.field.specs.Held.{Held}
 use Rattle.field_calls.specs.Call.{runBytes}
-use Rattle.program_trace.proofs.Start.{set-up}
+use Rattle.text_owed.specs.laws.Traced.{fresh-taken}
 use Rattle.program_trace.proofs.set_up_and_run.Statement.{statement}
 use Rattle.program_trace.proofs.set_up_and_run.Tie as tie
 
@@ -13,7 +13,7 @@ returns c =
     let r = c .before .before in
     let s = r .before .before .before .before in
     let b = s .before .before .before .before in
-    r .run .ensures ∙ ap (runBytes (b .args .schedule .now)) (ap (λ (x : After Held). x .state) (s .setup .ensures ∙ set-up _ _ (b .pre .0) (b .pre .1)))
+    r .run .ensures ∙ ap (runBytes (b .args .schedule .now)) (ap (λ (x : After Held). x .state) (s .setup .ensures ∙ fresh-taken _ _ (b .pre .0) (b .pre .1)))
 
 pub set-up-and-run-spec : {M : Type 1} → statement M
 set-up-and-run-spec = tie.close (tie.spec (λ c κs. search needs) (λ c κs. search needs) (λ c. search needs) returns)

@@ -9,7 +9,7 @@ use Rattle.format_text.specs.Put.{put}
 use Rattle.plan.specs.Refusal.{planRefusal}
 use Rattle.plan.specs.laws.Ceiling.{ceiling-small}
 use Rattle.plan_file.specs.laws.RoundTrip.{read-taken}
-use Rattle.program_trace.specs.laws.Traced.{traced-refused, traced-ran}
+use Rattle.text_owed.specs.laws.Traced.{traced-refused, traced-ran}
 use Rattle.program_trace.proofs.trace.Statement.{statement}
 use Rattle.program_trace.proofs.trace.Tie as tie
 
@@ -19,9 +19,9 @@ slice-aggregate-read c = sym (length-take-le _ _ (omega arith))
 returns : tie.Need-returns
 returns c =
     let call = c .before .before in
-    let test = call .before .before .before .before in
+    let test = call .before .before in
     let got = test .before .before in
-    call .put-line .ensures
+    call .put-refused .ensures
     ∙ ap (put _) (sym (traced-refused _ _ (got .before .before .plan-part .ensures) _ (got .read .ensures) (test .if1 .taken)))
 
 -- the plan is accepted
@@ -60,8 +60,6 @@ trace-spec =
     (λ c κs. search needs)
     slice-aggregate-read
     (λ c κs. search needs)
-    (λ c. search needs)
-    (λ c. search needs)
     (λ c κs. search needs)
     (λ c. search needs)
     returns

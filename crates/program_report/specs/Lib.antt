@@ -1,5 +1,0 @@
-pub mod Total
-pub mod Text
-pub mod Reported
-pub mod Tree
-pub mod laws

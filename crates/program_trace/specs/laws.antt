@@ -1,4 +1,0 @@
-pub mod Text
-pub mod Traced
-pub mod Fits
-pub mod Long

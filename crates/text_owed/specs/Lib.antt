@@ -1,0 +1,4 @@
+pub mod Reported
+pub mod Traced
+pub mod Tree
+pub mod laws

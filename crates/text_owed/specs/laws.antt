@@ -1,0 +1,9 @@
+pub mod Reported
+pub mod ReportFits
+pub mod ReportLong
+pub mod Tree
+pub mod Agrees
+pub mod Sample
+pub mod Traced
+pub mod TraceFits
+pub mod TraceLong
