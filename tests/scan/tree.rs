@@ -28,6 +28,8 @@ pub struct File {
     pub functions: Vec<Function>,
     /// The comment that it begins with, its lines joined.
     pub head: String,
+    /// The lines behind that.
+    pub body: String,
 }
 
 #[derive(Default)]
@@ -75,7 +77,9 @@ fn read(top: &Path, path: &Path) -> File {
     let (stem, rattle) = path.strip_suffix(".rt").map_or((path.trim_end_matches(".antt"), false), |s| (s, true));
     let module = stem.split('/').skip(2).map(str::to_string).collect();
     let comment = text.lines().map_while(|line| line.strip_prefix("--").or(line.strip_prefix("//")));
-    let head = comment.map(str::trim).collect::<Vec<_>>().join(" ");
+    let comment: Vec<&str> = comment.map(str::trim).collect();
+    let body = text.lines().skip(comment.len()).collect::<Vec<_>>().join("\n");
+    let head = comment.join(" ");
     let source =
         if rattle { rattle::parse(&text) } else { rattle::Source { parsed: antt::parse(&text), ..Default::default() } };
     let (uses, items) = (source.parsed.uses, source.parsed.items);
@@ -87,6 +91,7 @@ fn read(top: &Path, path: &Path) -> File {
         ghosts: source.ghosts,
         functions: source.functions,
         head,
+        body,
         path,
     }
 }

@@ -125,7 +125,19 @@ fn proved(file: &File) -> Option<String> {
     Some(format!("{}::{function}:", file.of))
 }
 
-/// Files that do not begin with a comment, and proofs whose comment does not begin with the function. Spared: laws.antt and Lib.antt, which are
+/// What is wrong with a proof's head: another beginning, or the first name in backquotes that the proof does not have. Functions are called
+/// `with_lines` there, and the proof calls them with-lines.
+fn misled(file: &File) -> Option<String> {
+    let function = proved(file)?;
+    if !file.head.starts_with(&function) {
+        return Some(format!("the head does not begin with {function}"));
+    }
+    let mut named = file.head.split('`').skip(1).step_by(2).filter(|n| n.len() > 1 && !n.contains([' ', '&', ':']));
+    let gone = |n: &&str| !file.body.contains(*n) && !file.body.contains(&n.replace('_', "-"));
+    named.find(gone).map(|n| format!("the head names {n}, and the proof does not"))
+}
+
+/// Files that do not begin with a comment, and proofs whose comment is about something else. Spared: laws.antt and Lib.antt, which are
 /// lists of files, but not where the crate's source is empty, since specs/Lib.antt then says what the crate holds; and that source.
 pub fn heads(tree: &Tree) -> Vec<Fault> {
     let coded: BTreeSet<&str> =
@@ -135,9 +147,8 @@ pub fn heads(tree: &Tree) -> Vec<Fault> {
     let empty = |f: &File| f.path.ends_with("/src/lib.rt") && f.uses.is_empty() && f.items.is_empty();
     let bare = tree.files.iter().filter(|f| f.head.is_empty() && !list(f) && !said(f) && !empty(f));
     let bare = bare.map(|f| fault(&f.path, 1, "no head"));
-    let headed = tree.files.iter().filter(|f| !f.head.is_empty()).filter_map(|f| Some((f, proved(f)?)));
-    let other = headed.filter(|(f, name)| !f.head.starts_with(name.as_str()));
-    bare.chain(other.map(|(f, name)| fault(&f.path, 1, format!("the head does not begin with {name}")))).collect()
+    let headed = tree.files.iter().filter(|f| !f.head.is_empty());
+    bare.chain(headed.filter_map(|f| Some(fault(&f.path, 1, misled(f)?)))).collect()
 }
 
 /// Rows of docs/TRUST.md whose file is one of laws: what must be believed stands outside specs/laws/.

@@ -97,6 +97,8 @@ fn a_file_without_a_head() {
     let bare = PROOF.replace("-- b::g: by `f-law`.\n", "");
     let path = "crates/b/proofs/g/Proof.antt";
     assert_eq!(only(with(path, &bare).top(), 5), [format!("{path}:1: no head")]);
+    let stale = PROOF.replace("`f-law`.", "`g-law`.");
+    assert_eq!(only(with(path, &stale).top(), 5), [format!("{path}:1: the head names g-law, and the proof does not")]);
     let other = PROOF.replace("b::g:", "b::h:");
     assert_eq!(only(with(path, &other).top(), 5), [format!("{path}:1: the head does not begin with b::g:")]);
     for list in ["crates/a/specs/laws.antt", "crates/b/specs/Lib.antt", "crates/b/proofs/Lib.antt"] {
