@@ -137,8 +137,8 @@ fn lines_of(tokens: &[Placed]) -> usize {
     lines.len()
 }
 
-/// Puts a group of tokens where it belongs.
-fn place(group: Vec<Placed>, sections: &[Section], out: &mut Parsed) {
+/// Puts a group of tokens where it belongs. What a section opens belongs to its head, as all that follows may name it.
+fn place(group: Vec<Placed>, sections: &mut [Section], out: &mut Parsed) {
     let Some(first) = group.iter().find(|t| !["pub", "unfoldable"].iter().any(|m| t.is(m))) else {
         return;
     };
@@ -146,6 +146,12 @@ fn place(group: Vec<Placed>, sections: &[Section], out: &mut Parsed) {
         return out.uses.push(import(&group));
     }
     if first.name().is_some_and(|n| n == "mod" || n.starts_with("infix")) {
+        return;
+    }
+    if first.is("open") {
+        if let Some(section) = sections.last_mut() {
+            section.header.extend(group);
+        }
         return;
     }
     let header: Vec<Placed> = sections.iter().flat_map(|s| s.header.iter().cloned()).collect();
@@ -193,7 +199,7 @@ pub fn parse(text: &str) -> Parsed {
         if goes_on(&line, &sections, &group) {
             group.extend(line);
         } else {
-            place(std::mem::take(&mut group), &sections, &mut out);
+            place(std::mem::take(&mut group), &mut sections, &mut out);
             while sections.last().is_some_and(|s| line[0].column <= s.column) {
                 sections.pop();
             }
@@ -208,6 +214,6 @@ pub fn parse(text: &str) -> Parsed {
             sections.push(Section { column: header[0].column, inside: None, header });
         }
     }
-    place(group, &sections, &mut out);
+    place(group, &mut sections, &mut out);
     out
 }

@@ -31,6 +31,14 @@ fn sections_and_clauses() {
 }
 
 #[test]
+fn what_a_section_opens() {
+    let made = one_file("record R : Type 0 where\n  x : ℕ\n\nr : R\nr = record { x = 0 }\n\nmodule _ (p : P) where\n  open R r using (x)\n\n  f : ℕ\n  f = 0\n\ng : ℕ\ng = 0\n");
+    let tree = Tree::load(made.top());
+    assert_eq!(named(&tree, "f"), ["specs.A/R", "specs.A/r", "specs.A/f"]);
+    assert_eq!(named(&tree, "g"), ["specs.A/g"]);
+}
+
+#[test]
 fn records_and_data() {
     let text = "pub record R (n : ℕ) : Type 0 where\n  pub a b : ℕ\n  -- note\n  pub c : a ≡ b\n\npub data D : Type 0 where\n  one : ℕ → D\n  two : D\n";
     let items = parse(text).items;

@@ -25,11 +25,11 @@ module _ (f : Field) (lent : List ℕ) (c : Checked) (e : c ≡ checkOf (record 
   pub passes : not (c .ok) ≡ false → valid h ≡ true
   passes y = sym (ap (λ (x : Checked). x .ok) e) ∙ not-false _ y
 
-  pub waits : take (c .waiting) lent ≡ H.stateOf h .words
-  waits = front lent (c .waiting) (ap (λ (x : Checked). x .waiting) e)
+  pub words-waiting : take (c .waiting) lent ≡ H.stateOf h .words
+  words-waiting = front lent (c .waiting) (ap (λ (x : Checked). x .waiting) e)
 
   pub starts : lentState (f .cells) (f .marks) lent (c .waiting) (f .sent) ≡ H.stateOf h
-  starts = ap (λ (w : List ℕ). record { cells = f .cells; marks = f .marks; words = w; sent = f .sent }) waits
+  starts = ap (λ (w : List ℕ). record { cells = f .cells; marks = f .marks; words = w; sent = f .sent }) words-waiting
 
 -- what the arrays hold, as what the host holds
 pub again : (f : Field) (lent cells marks words : List ℕ) (n sent : ℕ) → Laid words n → length words ≡ length lent

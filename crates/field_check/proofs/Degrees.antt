@@ -21,8 +21,8 @@ number-le o f zero = omega arith
 number-le o f (suc n) = omega (arith, number-le o f n, bit-le (o.own n && f n))
 
 -- the counts over the first k links
-abbrev pub Counted : Plan → ℕ → List ℕ → Type 0
-Counted p k degrees =
+abbrev pub Degrees : Plan → ℕ → List ℕ → Type 0
+Degrees p k degrees =
     (v : ℕ) → v < maxModules → getD degrees v 0 ≡ number (ownOf p v) anyEdge k
 
 number-hit : (o : Own) (k : ℕ) → o.own k ≡ true → number o anyEdge (k + 1) ≡ number o anyEdge k + 1
@@ -34,18 +34,18 @@ unfolding number
 number-miss o k h = rw (add-one k, h) (omega arith)
 
 -- each count is small
-pub counted-small : (p : Plan) (k : ℕ) (degrees : List ℕ) → Counted p k degrees → (v : ℕ) → v < maxModules → getD degrees v 0 ≤ k
-counted-small p k degrees c v h =
+pub degrees-small : (p : Plan) (k : ℕ) (degrees : List ℕ) → Degrees p k degrees → (v : ℕ) → v < maxModules → getD degrees v 0 ≤ k
+degrees-small p k degrees c v h =
     omega (arith, c v h, number-le (ownOf p v) anyEdge k)
 
 -- link k from a to b
 module _ (p : Plan) (k : ℕ) (l : k < linksOf p) (a b : ℕ) (low : a ≡ lowerOf p k) (high : b ≡ higherOf p k) (degrees : List ℕ)
-    (sized : length degrees ≡ maxModules) (up : a < b) (inside : b < maxModules) (c : Counted p k degrees) where
+    (sized : length degrees ≡ maxModules) (up : a < b) (inside : b < maxModules) (c : Degrees p k degrees) where
   abbrev pub raised : List ℕ
   raised = set degrees a (getD degrees a 0 + 1)
 
-  pub counted-on : Counted p (k + 1) (set raised b (getD raised b 0 + 1))
-  counted-on v h =
+  pub degrees-on : Degrees p (k + 1) (set raised b (getD raised b 0 + 1))
+  degrees-on v h =
       let o = ownOf p v in
       by-eq a v
       (λ e. let own = own-lower p v k l (sym low ∙ e) in

@@ -22,7 +22,7 @@ use Rattle.field_check.specs.declared.Checked.{Checked}
 use Rattle.field_check.specs.Checked.{checkOf}
 use Rattle.field_check.proofs.Words.{within}
 use Rattle.field_check.specs.Ready.{Ready}
-use Rattle.field_check.proofs.Admitted.{waits, starts}
+use Rattle.field_check.proofs.Admitted.{words-waiting, starts}
 
 -- the arrays of a field have room for every plan
 pub record Full (f : Field) : Type 0 where
@@ -53,7 +53,7 @@ module _ (f : Field) (lent : List ℕ) (c : Checked) (full : Full f) (e : c ≡ 
     whole = full .plan;
     laid = record {
       within = within lent (c .waiting) (ap (λ (x : Checked). x .waiting) e);
-      zeros = sym (ap (layout (length lent)) (waits f lent c e) ∙ ap (λ (x : Held). x .words) (held-same h live));
+      zeros = sym (ap (layout (length lent)) (words-waiting f lent c e) ∙ ap (λ (x : Held). x .words) (held-same h live));
     };
     room = enough-words;
     sound = subst (Sound (f .plan)) (sym (starts f lent c e)) (live-sound h live);

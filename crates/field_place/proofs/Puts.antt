@@ -30,8 +30,8 @@ module _ (p : Plan) (v : ℕ) where
   pub put-many : {l : List Send} {lent after : List ℕ} {n r : ℕ} → Put p v l lent n after r → r ≡ n + length l
   put-many {l} {n = n} d = d .words .many ∙ ap (λ k. n + k) (posted-many l)
 
-  pub put-none : (lent : List ℕ) (n : ℕ) → Laid lent n → Put p v [] lent n lent n
-  put-none lent n h = record { same = refl; laid = h; words = posted-none lent n h }
+  pub put-nothing : (lent : List ℕ) (n : ℕ) → Laid lent n → Put p v [] lent n lent n
+  put-nothing lent n h = record { same = refl; laid = h; words = posted-none lent n h }
 
   pub put-as : {s t : List Send} {lent after : List ℕ} {n r : ℕ} → s ≡ t → Put p v s lent n after r → Put p v t lent n after r
   put-as {lent = lent} {after = after} {n = n} {r = r} e d = subst (λ l. Put p v l lent n after r) e d

@@ -16,13 +16,13 @@ use Rattle.field_words.specs.Laid.{Laid}
 use Rattle.field_place.specs.Posted.{copyTest, copiedAt, copiesTo, Posted, Put}
 use Rattle.field_place.proofs.Words.{posted-laid, posted-length, posted-then}
 use Rattle.field_place.proofs.Copies.{each-on, each-off, each-short, copies-on}
-use Rattle.field_place.proofs.Puts.{put-many, put-none}
+use Rattle.field_place.proofs.Puts.{put-many, put-nothing}
 
 -- module v's copies of word x, which says msgIn x
 module _ (p : Plan) (marks : List ℕ) (v x : ℕ) (lent₀ : List ℕ) (n : ℕ) (start : Laid lent₀ n) where
   pub copying-start : Put p v (copiesTo p marks v x 0) lent₀ n lent₀ n
   unfolding onEach
-  copying-start = put-none p v lent₀ n start
+  copying-start = put-nothing p v lent₀ n start
 
   module _ (room : n + length (copiesTo p marks v x (linksOf p)) ≤ length lent₀) (lent : List ℕ) (m k : ℕ)
       (c : Put p v (copiesTo p marks v x k) lent₀ n lent m) (l : k < linksOf p) where

@@ -18,8 +18,8 @@ use Rattle.field_serve.specs.declared.Done.{Done}
 use Rattle.field_serve.specs.Lent.{Advances, Runs}
 
 -- a step's end, with the words laid out again
-abbrev pub put : Held → After State → After Held
-put h a = record { refusal = a .refusal; state = heldOf h (a .state) }
+abbrev pub laidAfter : Held → After State → After Held
+laidAfter h a = record { refusal = a .refusal; state = heldOf h (a .state) }
 
 module _ (f : Field) (lent : List ℕ) (c : Checked) (e : c ≡ checkOf (record { field = f; words = lent })) {b : Done}
     (eb : b ≡ record { refusal = 0; waiting = c .waiting; sent = f .sent }) where
@@ -32,10 +32,10 @@ module _ (f : Field) (lent : List ℕ) (c : Checked) (e : c ≡ checkOf (record 
   pub step-stands : (g : Plan → State → After State) (d : Done) (cells marks words : List ℕ)
       → Advances g (f .plan) (f .cells) (f .marks) lent b d cells marks words → length words ≡ length lent
       → record { refusal = d .refusal; state = record { field = record { plan = f .plan; cells = cells; marks = marks; sent = d .sent }; words = words } }
-      ≡ put h (g (f .plan) (H.stateOf h))
+      ≡ laidAfter h (g (f .plan) (H.stateOf h))
   step-stands g d cells marks words q k =
       ap (λ (x : Held). record { refusal = d .refusal; state = x }) (again f lent cells marks words (d .waiting) (d .sent) (q .ready .laid) k)
-      ∙ ap (put h) (q .is ∙ ap (g (f .plan)) begins)
+      ∙ ap (laidAfter h) (q .is ∙ ap (g (f .plan)) begins)
 
   pub run-stands : (g : Plan → State → Ran State) (done : ℕ) (d : Done) (cells marks words : List ℕ)
       → Runs g (f .plan) (f .cells) (f .marks) lent b done d cells marks words → length words ≡ length lent

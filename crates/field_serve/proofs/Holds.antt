@@ -11,8 +11,8 @@ use Rattle.field_words.proofs.Laid.{layout-length, waits, laid}
 use Rattle.field_serve.specs.Holds.{Holds}
 
 -- these words laid out in m lent ones
-pub holds : (lent : List ℕ) (n m : ℕ) (ws : List ℕ) → lent ≡ layout m ws → length ws ≡ n → n ≤ m → Holds lent n m ws
-holds lent n m ws e l h = record { waits = waits lent m ws n e l; laid = laid lent m ws n e l h; size = ap length e ∙ layout-length m ws (omega arith) }
+pub holds-laid : (lent : List ℕ) (n m : ℕ) (ws : List ℕ) → lent ≡ layout m ws → length ws ≡ n → n ≤ m → Holds lent n m ws
+holds-laid lent n m ws e l h = record { waits = waits lent m ws n e l; laid = laid lent m ws n e l h; size = ap length e ∙ layout-length m ws (omega arith) }
 
 pub holds-count : {lent : List ℕ} {n m : ℕ} {ws : List ℕ} → Holds lent n m ws → n ≡ length ws
 holds-count {lent} {n} h = sym (length-take-le n lent (h .laid .within)) ∙ ap length (h .waits)
@@ -25,7 +25,7 @@ module _ (lent : List ℕ) (n : ℕ) (h : Laid lent n) where
   -- one word more
   pub holds-one : (w : ℕ) (ws last : List ℕ) → n < length lent → w ∷ [] ≡ ws → last ≡ layout (length lent) (take n lent ++ (w ∷ [])) → Holds last (n + 1) (length lent) (take n lent ++ ws)
   holds-one w ws last l e q =
-      rw (← e) (holds last (n + 1) (length lent) (take n lent ++ (w ∷ [])) q (omega (arith, length-append (take n lent) (w ∷ []), length-take-le n lent (h .within))) (omega arith))
+      rw (← e) (holds-laid last (n + 1) (length lent) (take n lent ++ (w ∷ [])) q (omega (arith, length-append (take n lent) (w ∷ []), length-take-le n lent (h .within))) (omega arith))
 
 -- some words, then some more
 pub holds-on : {mid last : List ℕ} {r t m : ℕ} {ws : List ℕ} (us : List ℕ)

@@ -16,10 +16,10 @@ use Rattle.field_serve.specs.declared.Done.{Done}
 use Rattle.field_serve.specs.Lent.{Advances}
 
 -- the same step under another name
-pub renamed : {g h : Plan → State → After State} {p : Plan} {cells marks lent cells′ marks′ lent′ : List ℕ} {b d : Done}
+pub advances-as : {g h : Plan → State → After State} {p : Plan} {cells marks lent cells′ marks′ lent′ : List ℕ} {b d : Done}
     → Advances g p cells marks lent b d cells′ marks′ lent′ → g p (lentState cells marks lent (b .waiting) (b .sent)) ≡ h p (lentState cells marks lent (b .waiting) (b .sent))
     → Advances h p cells marks lent b d cells′ marks′ lent′
-renamed x e = record { is = x .is ∙ e; ready = x .ready }
+advances-as x e = record { is = x .is ∙ e; ready = x .ready }
 
 -- s is what the last turn left: k turns of g are taken
 abbrev pub Turned : (Plan → ℕ → State → After State) → Plan → List ℕ → List ℕ → List ℕ → Done → ℕ → Done → List ℕ → List ℕ → List ℕ → Type 0

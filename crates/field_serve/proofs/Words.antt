@@ -20,7 +20,7 @@ use Rattle.field_place.specs.Posted.{Put}
 use Rattle.field_place.proofs.Puts.{put-many}
 use Rattle.field_serve.specs.Holds.{Holds}
 use Rattle.field_serve.specs.Lent.{noWord, wordAt}
-use Rattle.field_serve.proofs.Holds.{holds, holds-count}
+use Rattle.field_serve.proofs.Holds.{holds-laid, holds-count}
 
 -- a word leaves, or there is none at its place
 pub past-length : (i : ℕ) (ws : List ℕ) → length ws ≤ i → without i ws ≡ ws
@@ -33,7 +33,7 @@ module _ (lent : List ℕ) (n i : ℕ) (h : Laid lent n) where
   pub one-out : i < n → (last : List ℕ) → last ≡ layout (length lent) (without i (take n lent)) → Holds last (n - 1) (length lent) (without i (take n lent))
   one-out l last q =
       let k = length-take-le n lent (h .within) in
-      holds last (n - 1) (length lent) (without i (take n lent)) q (omega (arith, without-length i (take n lent) (omega arith))) (omega (arith, h .within))
+      holds-laid last (n - 1) (length lent) (without i (take n lent)) q (omega (arith, without-length i (take n lent) (omega arith))) (omega (arith, h .within))
 
 -- the word that is served, in both cases
 module _ (lent : List ℕ) (n i : ℕ) where
@@ -74,5 +74,5 @@ pub put-holds : {p : Plan} {v : ℕ} {s : List Send} (mid : List ℕ) (l : ℕ) 
     → Put p v s mid l after m → Holds after m (length mid) (take l mid ++ posted p v s)
 put-holds {p} {v} {s} mid l {after} {m} laid d =
     let q = d .words in
-    holds after m (length mid) (take l mid ++ posted p v s) (q .is)
+    holds-laid after m (length mid) (take l mid ++ posted p v s) (q .is)
     (omega (arith, q .many, length-append (take l mid) (posted p v s), length-take-le l mid (laid .within))) (omega (arith, d .laid .within, d .same))

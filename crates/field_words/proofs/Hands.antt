@@ -13,10 +13,10 @@ use Rattle.field_words.specs.Laid.{Laid}
 use Rattle.field_words.specs.Hands.{lentState, Hands}
 
 -- the same under another name
-pub renamed : {g h : State → After State} {n refusal : ℕ} {lent lent′ : List ℕ} → Hands g n lent refusal lent′
+pub hands-as : {g h : State → After State} {n refusal : ℕ} {lent lent′ : List ℕ} → Hands g n lent refusal lent′
     → ((cells marks : List ℕ) (sent : ℕ) → g (lentState cells marks lent n sent) ≡ h (lentState cells marks lent n sent))
     → Hands h n lent refusal lent′
-renamed x e = record { is = λ cells marks sent. x .is cells marks sent ∙ e cells marks sent; laid = x .laid }
+hands-as x e = record { is = λ cells marks sent. x .is cells marks sent ∙ e cells marks sent; laid = x .laid }
 
 -- k turns of g are taken
 abbrev pub Handed : (ℕ → State → After State) → ℕ → List ℕ → ℕ → List ℕ → Type 0
@@ -28,7 +28,7 @@ module _ (g : ℕ → State → After State) (n : ℕ) (lent₀ : List ℕ) wher
 
   module _ (k : ℕ) {lent : List ℕ} (t : Handed g n lent₀ k lent) where
     pub handed-all : (m : ℕ) → m ≤ k → k ≤ m → Hands (loop m g) n lent₀ 0 lent
-    handed-all m l r = renamed (t .1) (λ cells marks sent. ap (λ (i : ℕ). loop i g (lentState cells marks lent₀ n sent)) (omega arith))
+    handed-all m l r = hands-as (t .1) (λ cells marks sent. ap (λ (i : ℕ). loop i g (lentState cells marks lent₀ n sent)) (omega arith))
 
     -- the next turn answered a
     module _ {a : ℕ} {lent′ : List ℕ} (x : Hands (g k) n lent a lent′) where

@@ -20,11 +20,11 @@ module _ (q : ℕ → Bool) (ws : List ℕ) where
   abbrev pub Counted : ℕ → ℕ → Type 0
   Counted m i = (i ≤ length ws) × (m ≤ i) × (many q ws ≡ m + many q (drop i ws))
 
-  pub sought : Sought 0
-  sought = (omega arith, omega arith)
+  pub sought-start : Sought 0
+  sought-start = (omega arith, omega arith)
 
-  pub counted : Counted 0 0
-  counted = (omega arith, omega arith, omega arith)
+  pub counted-start : Counted 0 0
+  counted-start = (omega arith, omega arith, omega arith)
 
   module _ {i : ℕ} where
     -- no word is left

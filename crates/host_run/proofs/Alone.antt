@@ -19,14 +19,14 @@ use Rattle.field_check.specs.Checked.{checkOf}
 use Rattle.field_serve.specs.declared.Done.{Done}
 use Rattle.field_serve.specs.Lent.{Advances, Runs}
 use Rattle.field_check.proofs.Admitted.{invalid, passes}
-use Rattle.field_serve.proofs.Call.{put, step-stands, run-stands}
+use Rattle.field_serve.proofs.Call.{laidAfter, step-stands, run-stands}
 
 module _ (h : Held) where
   step-refused : (kind number : ℕ) → valid h ≡ false → refusedBy 31 h ≡ stepAlone kind number h
   unfolding stepAlone
   step-refused kind number e = rw e refl
 
-  step-goes : (kind number : ℕ) → valid h ≡ true → put h (step (h .field .plan) kind number (H.stateOf h)) ≡ stepAlone kind number h
+  step-goes : (kind number : ℕ) → valid h ≡ true → laidAfter h (step (h .field .plan) kind number (H.stateOf h)) ≡ stepAlone kind number h
   unfolding stepAlone
   step-goes kind number e = rw e refl
 

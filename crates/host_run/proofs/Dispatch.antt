@@ -12,7 +12,7 @@ use Rattle.field_calls.specs.Schedule.{kindOf, numberOf, stepAt}
 use Rattle.field_words.specs.Hands.{lentState}
 use Rattle.field_serve.specs.declared.Done.{Done}
 use Rattle.field_serve.specs.Lent.{Advances}
-use Rattle.field_serve.proofs.Turns.{renamed}
+use Rattle.field_serve.proofs.Turns.{advances-as}
 
 module _ (p : Plan) (kind number : ℕ) (s : State) where
   pub is-wake : kind ≡ 1 → wake p number s ≡ step p kind number s
@@ -37,4 +37,4 @@ pub read-step : {p : Plan} (bytes : List ℕ) (k : ℕ) {kind number : ℕ} {cel
     → Advances (λ p. stepAt p bytes k) p cells marks lent b d cells′ marks′ lent′
 read-step {p} bytes k {kind} {number} {cells} {marks} {lent} {b = z} x ek en =
     let s = lentState cells marks lent (z .waiting) (z .sent) in
-    renamed x (ap (λ (y : ℕ). step p y number s) ek ∙ ap (λ (y : ℕ). step p (kindOf bytes k) y s) en)
+    advances-as x (ap (λ (y : ℕ). step p y number s) ek ∙ ap (λ (y : ℕ). step p (kindOf bytes k) y s) en)

@@ -1,4 +1,4 @@
--- Marks with one changed (`marked`); the edges that a search (`looked`) or a count (`counted`) of one node's own edges looks at.
+-- Marks with one changed (`marked`); the edges that a search (`looked`) or a count (`counts`) of one node's own edges looks at.
 use Prim.Native.Nat.{ℕ}
 use mathlib.Core.Bool.{Bool, not, cond, _&&_, _||_}
 use lib.Dec.{eqb}
@@ -15,5 +15,5 @@ unfoldable pub looked : Bool → (ℕ → ℕ) → ℕ → Bool
 looked all m k = all || eqb (m k) BASIC
 
 -- the edges that a count counts: all, or the branches other than j
-unfoldable pub counted : Bool → ℕ → (ℕ → ℕ) → ℕ → Bool
-counted all j m k = all || (not (eqb k j) && eqb (m k) BRANCH)
+unfoldable pub counts : Bool → ℕ → (ℕ → ℕ) → ℕ → Bool
+counts all j m k = all || (not (eqb k j) && eqb (m k) BRANCH)

@@ -16,7 +16,7 @@ ghost use Rattle.plan.specs.Links.{linksOf};
 ghost use Rattle.plan.specs.Weights.{earlier};
 ghost use Rattle.field.specs.Edges.{isOwn, ownOf, endOf, marksIn};
 ghost use Rattle.node.specs.Work.{BASIC, BRANCH, earliest, number, anyEdge, degree};
-ghost use Rattle.node_edges.specs.Own.{marked, looked, counted};
+ghost use Rattle.node_edges.specs.Own.{marked, looked, counts};
 
 // Whether edge k ends at node v.
 pub fn owns<'a>(plan: &'a Plan, v: u16, k: u16) -> bool
@@ -131,7 +131,7 @@ pub fn earliest_basic<'a>(plan: &'a Plan, marks: &'a Marks, v: u16, e: u16, x: u
 fn one<'a>(plan: &'a Plan, marks: &'a Marks, v: u16, all: bool, j: u16, k: u16) -> u16
     requires { ⌜ (linksOf (now plan) ≤ maxLinks) × (k < linksOf (now plan)) ⌝ }
     ensures { λ r. ⌜ (r ≡ bit (isOwn (now (plan .entry)) v k
-        && counted all j (marksIn (now (plan .entry)) (now (marks .entry)) v) k)) × (r ≤ 1) ⌝ }
+        && counts all j (marksIn (now (plan .entry)) (now (marks .entry)) v) k)) × (r ≤ 1) ⌝ }
 {
     if !owns(plan, v, k) {
         return 0;
@@ -152,7 +152,7 @@ fn one<'a>(plan: &'a Plan, marks: &'a Marks, v: u16, all: bool, j: u16, k: u16) 
 fn count<'a>(plan: &'a Plan, marks: &'a Marks, v: u16, all: bool, j: u16) -> u16
     requires { ⌜ linksOf (now plan) ≤ maxLinks ⌝ }
     ensures { λ r. ⌜ (r ≡ number (ownOf (now (plan .entry)) v)
-        (counted all j (marksIn (now (plan .entry)) (now (marks .entry)) v)) (linksOf (now (plan .entry)))) × (r ≤ maxLinks) ⌝ }
+        (counts all j (marksIn (now (plan .entry)) (now (marks .entry)) v)) (linksOf (now (plan .entry)))) × (r ≤ maxLinks) ⌝ }
 {
     let links = plan::links(plan);
     let mut n: u16 = 0;

@@ -16,6 +16,17 @@ pub record Tells (p : Network) (s : ProtocolState) (u v k l f x a b d e : ℕ) (
   pub mode : Mode v x a b
   pub place : Place s u v k d e
 
+-- names that the files on this step open: the state after it, what is known of the Initiate, the message, the channels without it, the
+-- edges that get a copy. And two laws of other messages: a channel has as many as before, and none that is new.
+pub record TellNames (p : Network) (s : ProtocolState) (u v k l f x : ℕ) : Type 0 where
+  pub S′ : ProtocolState
+  pub ok : InitOk p s.lev s.fr s.gl s.gc s.ub s.due s.mark k u v l f x
+  pub m : Msg
+  pub c₁ : ℕ → ℕ → List Msg
+  pub kid : ℕ → Bool
+  pub same : (g : Msg → ℕ) → g m ≡ 0 → (w j : ℕ) → sumL g (S′.ch w j) ≡ sumL g (s.ch w j)
+  pub old : {y : Msg} (g : Msg → ℕ) → g m ≡ 0 → 1 ≤ g y → (w j : ℕ) → In y (S′.ch w j) → In y (s.ch w j)
+
 module _ {p : Network} {s : ProtocolState} (i : Inv p s) {u v k l f x a b d e : ℕ} {r : List Msg} (act : Tells p s u v k l f x a b d e r) where
   abbrev S′ : ProtocolState
   S′ = initiated p (pop s u k r) v k l f x a d e b
@@ -267,3 +278,6 @@ module _ {p : Network} {s : ProtocolState} (i : Inv p s) {u v k l f x a b d e : 
   -- what is left there stood behind the Initiate
   pub behind-tell : (y : Msg) → In y (S′.ch u k) → Fits m y
   behind-tell y h = i.Q1.q1 k u v m y act.ends (subst (λ t. Bef m y t) (sym act.q) (heads (subst (λ t. In y t) rest-tell h)))
+
+  abbrev pub tell-names : TellNames p s u v k l f x
+  tell-names = record { S′ = S′; ok = ok; m = m; c₁ = c₁; kid = kid; same = same-tell; old = old-tell }

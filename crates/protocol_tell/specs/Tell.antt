@@ -1,7 +1,7 @@
 -- Initiate (l, f, x) from u at v over k: v takes level, identity and status from it, and sends copies over its other branches (`inv-tell`).
-use Rattle.protocol.specs.Prelude.{ℕ, suc, _≤_, _<_, arith, _≡_, refl, sym, ap, subst, _∙_, _≢_, _⊎_, inl, inr, ⊎-elim, List, [], _∷_, Bool, true, upd2}
-use Rattle.protocol.specs.Prelude.{upd-other, by-eq, sumL, All, All-app, con, nil, Msg, connect, initiate, Network, Edge, key, flip, other-end, ends-irr, ProtocolState, Idle, Mode}
-use Rattle.protocol.specs.Prelude.{Place, initiated, pop, copy, isC, isT, isA, isR, isK, arg1, top, top-app, Fits, fits-initiate, In, in-nil, at2, else-same}
+use Rattle.protocol.specs.Prelude.{ℕ, suc, _<_, arith, _≡_, refl, sym, ap, subst, _∙_, _≢_, _⊎_, inl, inr, ⊎-elim, List, [], _∷_, true}
+use Rattle.protocol.specs.Prelude.{upd-other, by-eq, All, All-app, con, nil, Msg, connect, initiate, Network, Edge, key, flip, other-end, ends-irr, ProtocolState, Idle, Mode}
+use Rattle.protocol.specs.Prelude.{Place, initiated, pop, isC, isT, isA, isR, isK, arg1, top, top-app, Fits, fits-initiate, In, in-nil, at2, else-same}
 use Rattle.protocol.specs.Prelude.{pop-in, in-pop, pop-bef, pop-all, fan-elim, in-fan, fan-new, fan-bef, fan-else, GL, GC, Inf, Jn, Inv, mark-awake, no-root}
 use Rattle.protocol.specs.Traffic.{Hush, Tokens, Connects, InitOk, Initiates, Telling, Testing, Answers, Ordered}
 use Rattle.protocol_tell.specs.Laws.{ends-at, three, initiate-at, init-eq, fan-here}
@@ -11,26 +11,7 @@ use Rattle.protocol_tell.specs.TellTables as T
 use Rattle.protocol_tell.specs.TellReports as R
 
 module _ {p : Network} {s : ProtocolState} (i : Inv p s) {u v k l f x a b d e : ℕ} {r : List Msg} (act : Tells p s u v k l f x a b d e r) where
-  abbrev S′ : ProtocolState
-  S′ = initiated p (pop s u k r) v k l f x a d e b
-
-  abbrev ok : InitOk p s.lev s.fr s.gl s.gc s.ub s.due s.mark k u v l f x
-  ok = F.ok i act
-
-  abbrev m : Msg
-  m = initiate l f x
-
-  abbrev c₁ : ℕ → ℕ → List Msg
-  c₁ = upd2 s.ch u k r
-
-  abbrev kid : ℕ → Bool
-  kid = copy (pop s u k r) v k
-
-  same : (g : Msg → ℕ) → g m ≡ 0 → (w j : ℕ) → sumL g (S′.ch w j) ≡ sumL g (s.ch w j)
-  same = F.same-tell i act
-
-  old : {y : Msg} (g : Msg → ℕ) → g m ≡ 0 → 1 ≤ g y → (w j : ℕ) → In y (S′.ch w j) → In y (s.ch w j)
-  old = F.old-tell i act
+  open F.TellNames (F.tell-names i act) using (S′, ok, m, c₁, kid, same, old)
 
   -- what holds of each message on a channel and, where v sends a copy over it, of the Initiate
   every : {P : Msg → Type 0} (w j : ℕ) → (v ≡ w → kid j ≡ true → P m) → All P (s.ch w j) → All P (S′.ch w j)

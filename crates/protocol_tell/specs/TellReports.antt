@@ -1,34 +1,15 @@
 -- v serves Initiate (l, f, x) from u over k: the clauses on Reports, on what is owed, and on best weights (`R1-tell`, `F4c-tell`, `B2-tell`).
-use Rattle.protocol.specs.Prelude.{ℕ, suc, _≤_, _<_, arith, _≡_, refl, sym, ap, subst, _∙_, _≢_, _⊎_, inl, inr, ⊎-elim, List, Bool, upd2, upd-other, by-eq}
-use Rattle.protocol.specs.Prelude.{sumL, Msg, connect, initiate, report, Network, Edge, key, rank, flip, ends-irr, ProtocolState, initiated, pop, copy, fill-elim}
+use Rattle.protocol.specs.Prelude.{ℕ, suc, _≤_, _<_, arith, _≡_, refl, sym, ap, subst, _∙_, _≢_, _⊎_, inl, inr, ⊎-elim, List, upd-other, by-eq}
+use Rattle.protocol.specs.Prelude.{sumL, Msg, connect, initiate, report, Network, Edge, key, rank, flip, ends-irr, ProtocolState, fill-elim}
 use Rattle.protocol.specs.Prelude.{fill-else, isCI, isR, kinds, no-calls, some-report, In, next, Bef, tails, pop-bef, fan-bef, GL, GC, Inf, Jn, Outst, Covered}
 use Rattle.protocol.specs.Prelude.{CoreEnds, Spent, Inv}
-use Rattle.protocol.specs.Traffic.{InitOk, Reports, Owing, Bests}
+use Rattle.protocol.specs.Traffic.{Reports, Owing, Bests}
 use Rattle.protocol_tell.specs.Laws.{ends-at, three, fill-here}
 use Rattle.protocol_tell.specs.Heard.{Tells}
 use Rattle.protocol_tell.specs.Heard as F
 
 module _ {p : Network} {s : ProtocolState} (i : Inv p s) {u v k l f x a b d e : ℕ} {r : List Msg} (act : Tells p s u v k l f x a b d e r) where
-  abbrev S′ : ProtocolState
-  S′ = initiated p (pop s u k r) v k l f x a d e b
-
-  abbrev ok : InitOk p s.lev s.fr s.gl s.gc s.ub s.due s.mark k u v l f x
-  ok = F.ok i act
-
-  abbrev m : Msg
-  m = initiate l f x
-
-  abbrev c₁ : ℕ → ℕ → List Msg
-  c₁ = upd2 s.ch u k r
-
-  abbrev kid : ℕ → Bool
-  kid = copy (pop s u k r) v k
-
-  same : (g : Msg → ℕ) → g m ≡ 0 → (w j : ℕ) → sumL g (S′.ch w j) ≡ sumL g (s.ch w j)
-  same = F.same-tell i act
-
-  old : {y : Msg} (g : Msg → ℕ) → g m ≡ 0 → 1 ≤ g y → (w j : ℕ) → In y (S′.ch w j) → In y (s.ch w j)
-  old = F.old-tell i act
+  open F.TellNames (F.tell-names i act) using (S′, ok, m, c₁, kid, same, old)
 
   -- to v: its Initiate was the last, so nothing is ahead of the Report any more
   core-v : (n : ℕ) → GC s v ≡ k → CoreEnds s u v k n → CoreEnds S′ u v k n

@@ -1,24 +1,16 @@
 -- v serves Initiate (l, f, x) from u over k: the clauses on tables, `W0-tell`, `W1-tell` and so on, each by its name.
-use Rattle.protocol.specs.Prelude.{ℕ, suc, _+_, _*_, _≤_, _<_, arith, _≡_, refl, sym, ap, subst, _∙_, _≢_, _⊎_, inl, inr, ⊎-elim, List, Bool, upd-same}
-use Rattle.protocol.specs.Prelude.{upd-other, upd-elim, by-eq, bit, sum, sum-eq, Msg, none, Network, Edge, key, flip, other-end, ends-irr, edge-some, ProtocolState, initiated, pop}
-use Rattle.protocol.specs.Prelude.{copy, fill-elim, fill-else, sum-fill, Bounding, GL, GC, Inf, Jn, Inv, no-root}
+use Rattle.protocol.specs.Prelude.{ℕ, suc, _+_, _*_, _≤_, _<_, arith, _≡_, refl, sym, ap, subst, _∙_, _≢_, _⊎_, inl, inr, ⊎-elim, List, upd-same}
+use Rattle.protocol.specs.Prelude.{upd-other, upd-elim, by-eq, bit, sum, sum-eq, Msg, none, Network, Edge, key, flip, other-end, ends-irr, edge-some, ProtocolState}
+use Rattle.protocol.specs.Prelude.{fill-elim, fill-else, sum-fill, Bounding, GL, GC, Inf, Jn, Inv, no-root}
 use Rattle.protocol.specs.Fragments.{Ranges, Values, Levels, Sleepers, Inbounds}
 use Rattle.protocol.specs.Decisions.{Halves, ChangeRoots, Rootings, Finishes}
 use Rattle.protocol.specs.Search.{Parents, Kids, FindOk, Finds, Pending, FindCounts, Tests, Weights}
-use Rattle.protocol.specs.Traffic.{InitOk}
 use Rattle.protocol_tell.specs.Laws.{three}
 use Rattle.protocol_tell.specs.Heard.{Tells}
 use Rattle.protocol_tell.specs.Heard as F
 
 module _ {p : Network} {s : ProtocolState} (i : Inv p s) {u v k l f x a b d e : ℕ} {r : List Msg} (act : Tells p s u v k l f x a b d e r) where
-  abbrev S′ : ProtocolState
-  S′ = initiated p (pop s u k r) v k l f x a d e b
-
-  abbrev ok : InitOk p s.lev s.fr s.gl s.gc s.ub s.due s.mark k u v l f x
-  ok = F.ok i act
-
-  abbrev kid : ℕ → Bool
-  kid = copy (pop s u k r) v k
+  open F.TellNames (F.tell-names i act) using (S′, ok, kid)
 
   -- the number of copies, and v's find-count then
   abbrev kids : ℕ

@@ -29,10 +29,10 @@ module _ (h : Held) where
 -- One law for the three calls. A call's whole answer is made of what is held then, by `make`, and `state` reads that back.
 module _ {R : Type 0} (state : R → Held) (make : Held → R) (reads : (x : Held) → state (make x) ≡ x)
     (call : Held → R) (keeps : (h : Held) → state (call h) .field .plan ≡ h .field .plan) where
-  pub parts : (p : Plan) (cells marks : List ℕ) (sent : ℕ) (lent : List ℕ) (f : Field) → f ≡ fieldFrom p cells marks sent → (g : Field) (words : List ℕ)
+  call-parts : (p : Plan) (cells marks : List ℕ) (sent : ℕ) (lent : List ℕ) (f : Field) → f ≡ fieldFrom p cells marks sent → (g : Field) (words : List ℕ)
       → make (record { field = g; words = words }) ≡ call (record { field = f; words = lent })
       → make (heldFrom p (g .cells) (g .marks) (g .sent) words) ≡ call (heldFrom p cells marks sent lent)
-  parts p cells marks sent lent f is g words e =
+  call-parts p cells marks sent lent f is g words e =
       let e′ = e ∙ ap (λ (x : Field). call (record { field = x; words = lent })) is in
       let q = sym (ap (λ (x : Held). x .field .plan) (reads (record { field = g; words = words }))) ∙ ap (λ (a : R). state a .field .plan) e′ ∙ keeps _ in
       ap (λ (x : Plan). make (heldFrom x (g .cells) (g .marks) (g .sent) words)) (sym q) ∙ e′
@@ -40,7 +40,7 @@ module _ {R : Type 0} (state : R → Held) (make : Held → R) (reads : (x : Hel
 pub step-parts : (kind number refusal : ℕ) → (p : Plan) (cells marks : List ℕ) (sent : ℕ) (lent : List ℕ) (f : Field) → f ≡ fieldFrom p cells marks sent → (g : Field) (words : List ℕ)
     → record { refusal = refusal; state = record { field = g; words = words } } ≡ stepAlone kind number (record { field = f; words = lent })
     → record { refusal = refusal; state = heldFrom p (g .cells) (g .marks) (g .sent) words } ≡ stepAlone kind number (heldFrom p cells marks sent lent)
-step-parts kind number refusal = parts (λ a. a .state) (λ x. record { refusal = refusal; state = x }) (λ x. refl) (stepAlone kind number) (λ h. step-plan h kind number)
+step-parts kind number refusal = call-parts (λ a. a .state) (λ x. record { refusal = refusal; state = x }) (λ x. refl) (stepAlone kind number) (λ h. step-plan h kind number)
 
 abbrev pub Told : (Held → Ran Held) → Type 0
 Told call = (done refusal : ℕ) (p : Plan) (cells marks : List ℕ) (sent : ℕ) (lent : List ℕ) (f : Field) → f ≡ fieldFrom p cells marks sent → (g : Field) (words : List ℕ)
@@ -48,7 +48,7 @@ Told call = (done refusal : ℕ) (p : Plan) (cells marks : List ℕ) (sent : ℕ
     → record { done = done; refusal = refusal; state = heldFrom p (g .cells) (g .marks) (g .sent) words } ≡ call (heldFrom p cells marks sent lent)
 
 pub run-parts : (bytes : List ℕ) → Told (runBytes bytes)
-run-parts bytes done refusal = parts (λ a. a .state) (λ x. record { done = done; refusal = refusal; state = x }) (λ x. refl) (runBytes bytes) (λ h. run-plan h bytes)
+run-parts bytes done refusal = call-parts (λ a. a .state) (λ x. record { done = done; refusal = refusal; state = x }) (λ x. refl) (runBytes bytes) (λ h. run-plan h bytes)
 
 pub rounds-parts : (limit : ℕ) → Told (runRounds limit)
-rounds-parts limit done refusal = parts (λ a. a .state) (λ x. record { done = done; refusal = refusal; state = x }) (λ x. refl) (runRounds limit) (λ h. rounds-plan h limit)
+rounds-parts limit done refusal = call-parts (λ a. a .state) (λ x. record { done = done; refusal = refusal; state = x }) (λ x. refl) (runRounds limit) (λ h. rounds-plan h limit)

@@ -10,12 +10,12 @@ use Rattle.base.specs.Limits.{maxModules}
 use Rattle.plan.specs.Links.{linksOf}
 use Rattle.field.specs.Edges.{ownOf}
 use Rattle.node.specs.Work.{anyEdge, number}
-use Rattle.field_check.proofs.Degrees.{Counted, counted-small, counted-on}
+use Rattle.field_check.proofs.Degrees.{Degrees, degrees-small, degrees-on}
 use Rattle.field_check.proofs.count_links.Statement.{statement}
 use Rattle.field_check.proofs.count_links.Tie as tie
 
 abbrev Inv-loop : tie.InvT-loop
-Inv-loop plan degrees₀ links k₀ degrees k = (k ≤ links) × (links ≡ linksOf plan) × (length degrees ≡ maxModules) × Counted plan k degrees
+Inv-loop plan degrees₀ links k₀ degrees k = (k ≤ links) × (links ≡ linksOf plan) × (length degrees ≡ maxModules) × Degrees plan k degrees
 
 abbrev μ-loop : tie.MeasureT-loop
 μ-loop plan degrees₀ links k₀ degrees k = links - k
@@ -31,7 +31,7 @@ both c =
 -- no count is above the links passed
 small : (c : tie.In-loop Inv-loop μ-loop) (v : ℕ) → v < maxModules → getD (c .before .loop .degrees) v 0 ≤ c .before .loop .k
 small c v h =
-    counted-small (c .before .before .before .args .plan .now) (c .before .loop .k) (c .before .loop .degrees) (c .before .loop .inv .3) v h
+    degrees-small (c .before .before .before .args .plan .now) (c .before .loop .k) (c .before .loop .degrees) (c .before .loop .inv .3) v h
 
 loop-holds : tie.Need-loop-holds Inv-loop μ-loop
 unfolding number
@@ -92,7 +92,7 @@ loop-again c =
       omega arith,
       t .inv .1,
       simp length-set (t .inv .2),
-      counted-on (i .before .before .before .args .plan .now) (t .k) (omega (arith, i .loop-test .taken, t .inv .1)) (h .before .lower .result) (h .higher .result)
+      degrees-on (i .before .before .before .args .plan .now) (t .k) (omega (arith, i .loop-test .taken, t .inv .1)) (h .before .lower .result) (h .higher .result)
           (h .before .lower .ensures) (h .higher .ensures) (t .degrees) (t .inv .2) (both h .0) (both h .1) (t .inv .3),
     )
 

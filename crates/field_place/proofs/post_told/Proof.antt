@@ -4,7 +4,7 @@ use mathlib.Core.Path.{sym, ap}
 use lib.ListN.{length}
 use borrow.Author.Needs.{needs}
 use Rattle.plan.specs.Links.{linksOf}
-use Rattle.field_place.proofs.Puts.{copies-told, copies-none, put-none, put-as}
+use Rattle.field_place.proofs.Puts.{copies-told, copies-none, put-nothing, put-as}
 use Rattle.field_place.specs.Posted.{copiesTo}
 use Rattle.field_place.proofs.post_told.Statement.{statement}
 use Rattle.field_place.proofs.post_told.Tie as tie
@@ -13,7 +13,7 @@ returns : tie.Need-returns
 returns c =
     let s = c .before .before in
     rw (copies-none (s .args .copies) (copiesTo (s .args .plan .now) (s .args .marks .now) (s .args .v) (s .args .x) (linksOf (s .args .plan .now))) (c .if1 .taken))
-    (put-none _ _ (s .args .lent .now) (s .args .n) (s .pre .0))
+    (put-nothing _ _ (s .args .lent .now) (s .args .n) (s .pre .0))
 
 post-copies-requires : tie.Need-post-copies-requires
 post-copies-requires c κs =

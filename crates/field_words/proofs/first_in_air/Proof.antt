@@ -3,7 +3,7 @@ use Prim.Native.Nat.{_-_}
 use lib.ListN.{length}
 use borrow.Author.Needs.{needs}
 use Rattle.field.specs.Step.{inAir}
-use Rattle.field_words.proofs.Search.{Sought, sought, found, sought-on, found-none}
+use Rattle.field_words.proofs.Search.{Sought, sought-start, found, sought-on, found-none}
 use Rattle.field_words.proofs.first_in_air.Statement.{statement}
 use Rattle.field_words.proofs.first_in_air.Tie as tie
 
@@ -19,7 +19,7 @@ first-in-air-spec =
     (tie.spec
     Inv-loop
     μ-loop
-    (λ c. search (needs, sought))
+    (λ c. search (needs, sought-start))
     (λ c. search needs)
     (λ c. search needs)
     (λ c κs. search needs)

@@ -4,7 +4,7 @@ use Prim.Native.Nat.{_-_}
 use lib.ListN.{length}
 use borrow.Author.Needs.{needs}
 use Rattle.field.specs.Step.{inQueue}
-use Rattle.field_words.proofs.Search.{Sought, sought, found, sought-on, found-none}
+use Rattle.field_words.proofs.Search.{Sought, sought-start, found, sought-on, found-none}
 use Rattle.field_words.proofs.first_in_queue.Statement.{statement}
 use Rattle.field_words.proofs.first_in_queue.Tie as tie
 
@@ -20,7 +20,7 @@ first-in-queue-spec =
     (tie.spec
     Inv-loop
     μ-loop
-    (λ c. search (needs, sought))
+    (λ c. search (needs, sought-start))
     (λ c. search needs)
     (λ c. search needs)
     (λ c κs. search needs)

@@ -6,9 +6,6 @@ use Rattle.host_rounds.proofs.Call.{rounds-31, rounds-done}
 use Rattle.host_rounds.proofs.run.Statement.{statement}
 use Rattle.host_rounds.proofs.run.Tie as tie
 
-returns : tie.Need-returns
-returns c = let t = c .before in rw (c .after .ensures) (rounds-31 _ _ _ (t .before .before .admit .ensures .0) _ (t .if1 .taken))
-
 rounds-requires : tie.Need-rounds-requires
 rounds-requires c κs =
     let l = c .before .before .before .before .before in
@@ -31,7 +28,7 @@ run-spec =
     (λ c κs. search needs)
     (λ c κs. search needs)
     (λ c. search needs)
-    returns
+    (λ c. rw (c .after .ensures) (search (needs, rounds-31)))
     (λ c κs. search needs)
     rounds-requires
     (λ c κs. search needs)

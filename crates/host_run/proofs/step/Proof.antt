@@ -5,9 +5,6 @@ use Rattle.host_run.proofs.Alone.{step-31, step-done}
 use Rattle.host_run.proofs.step.Statement.{statement}
 use Rattle.host_run.proofs.step.Tie as tie
 
-returns : tie.Need-returns
-returns c = let t = c .before in rw (c .after-step .ensures) (step-31 _ _ _ (t .before .before .admit .ensures .0) _ _ (t .if1 .taken))
-
 step-requires : tie.Need-step-requires
 step-requires c κs =
     let l = c .before .before .before .before .before in
@@ -30,7 +27,7 @@ step-spec =
     (λ c κs. search needs)
     (λ c κs. search needs)
     (λ c. search needs)
-    returns
+    (λ c. rw (c .after-step .ensures) (search (needs, step-31)))
     (λ c κs. search needs)
     step-requires
     (λ c κs. search needs)

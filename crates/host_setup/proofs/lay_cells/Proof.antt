@@ -8,12 +8,12 @@ use Rattle.base.specs.Limits.{maxModules}
 use Rattle.field.specs.Held.{freshCells}
 use Rattle.field.specs.State.{CELLS, putNode}
 use Rattle.node.specs.Work.{setup}
-use Rattle.host_setup.proofs.Fresh.{laid, laid-none, laid-more, laid-all}
+use Rattle.host_setup.proofs.Fresh.{laidCells, laid-none, laid-more, laid-all}
 use Rattle.host_setup.proofs.lay_cells.Statement.{statement}
 use Rattle.host_setup.proofs.lay_cells.Tie as tie
 
 abbrev Inv-loop : tie.InvT-loop
-Inv-loop cells₀ n v₀ cells v = (v ≤ maxModules) × (cells ≡ laid CELLS v)
+Inv-loop cells₀ n v₀ cells v = (v ≤ maxModules) × (cells ≡ laidCells CELLS v)
 
 abbrev μ-loop : tie.MeasureT-loop
 μ-loop cells₀ n v₀ cells v = maxModules - v

@@ -1,11 +1,11 @@
 -- node_edges::branches: `count` with the test of branches other than j, by `counted`.
 use borrow.Author.Needs.{needs}
-use Rattle.node_edges.specs.Own.{counted}
+use Rattle.node_edges.specs.Own.{counts}
 use Rattle.node_edges.proofs.branches.Statement.{statement}
 use Rattle.node_edges.proofs.branches.Tie as tie
 
 returns : tie.Need-returns
-unfolding counted
+unfolding counts
 returns c = c .count .ensures
 
 pub branches-spec : {M : Type 1} → statement M

@@ -7,13 +7,13 @@ use Rattle.plan.specs.Links.{linksOf}
 use Rattle.field.specs.Edges.{ownOf, marksIn}
 use Rattle.node.specs.Work.{number}
 use Rattle.node_edges.specs.laws.Own.{number-turn, number-end}
-use Rattle.node_edges.specs.Own.{counted}
+use Rattle.node_edges.specs.Own.{counts}
 use Rattle.node_edges.proofs.count.Statement.{statement}
 use Rattle.node_edges.proofs.count.Tie as tie
 
 abbrev Inv-loop : tie.InvT-loop
 Inv-loop plan marks v all j links n₀ k₀ n k =
-    (k ≤ links) × (n ≤ k) × (n ≡ number (ownOf plan v) (counted all j (marksIn plan marks v)) k) × (links ≡ linksOf plan)
+    (k ≤ links) × (n ≤ k) × (n ≡ number (ownOf plan v) (counts all j (marksIn plan marks v)) k) × (links ≡ linksOf plan)
 
 abbrev μ-loop : tie.MeasureT-loop
 μ-loop plan marks v all j links n₀ k₀ n k = links - k

@@ -1,11 +1,11 @@
 -- node_edges::degree: `count` with the test that takes all, by `counted`.
 use borrow.Author.Needs.{needs}
-use Rattle.node_edges.specs.Own.{counted}
+use Rattle.node_edges.specs.Own.{counts}
 use Rattle.node_edges.proofs.degree.Statement.{statement}
 use Rattle.node_edges.proofs.degree.Tie as tie
 
 returns : tie.Need-returns
-unfolding counted
+unfolding counts
 returns c = c .count .ensures
 
 pub degree-spec : {M : Type 1} → statement M

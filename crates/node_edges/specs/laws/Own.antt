@@ -13,7 +13,7 @@ use Rattle.plan.specs.Links.{Plan}
 use Rattle.plan.specs.Weights.{earlier}
 use Rattle.field.specs.Edges.{isOwn, ownOf}
 use Rattle.node.specs.Work.{Own, BASIC, BRANCH, earliest, number}
-use Rattle.node_edges.specs.Own.{marked, looked, counted}
+use Rattle.node_edges.specs.Own.{marked, looked, counts}
 
 pub marked-same : (m : ℕ → ℕ) (x k : ℕ) → marked m none x k ≡ m k
 unfolding marked
@@ -85,24 +85,24 @@ number-end o f r k l h e = h ∙ ap (number o f) e
 
 -- whether a count counts an edge, by the code's tests
 module _ (own all : Bool) (j : ℕ) (m : ℕ → ℕ) (k : ℕ) where
-  pub counts-not : own ≡ false → bit (own && counted all j m k) ≡ 0
+  pub counts-not : own ≡ false → bit (own && counts all j m k) ≡ 0
   counts-not h = simp h
 
   module _ (o : own ≡ true) where
-    pub counts-all : all ≡ true → bit (own && counted all j m k) ≡ 1
-    unfolding counted
+    pub counts-all : all ≡ true → bit (own && counts all j m k) ≡ 1
+    unfolding counts
     counts-all h = simp (o, h)
 
     module _ (a : all ≡ false) where
-      pub counts-self : k ≡ j → bit (own && counted all j m k) ≡ 0
-      unfolding counted
+      pub counts-self : k ≡ j → bit (own && counts all j m k) ≡ 0
+      unfolding counts
       counts-self h = simp (o, a, eq-eqb _ _ h)
 
       module _ (d : k ≢ j) where
-        pub counts-branch : m k ≡ BRANCH → bit (own && counted all j m k) ≡ 1
-        unfolding counted
+        pub counts-branch : m k ≡ BRANCH → bit (own && counts all j m k) ≡ 1
+        unfolding counts
         counts-branch h = simp (o, a, ne-eqb _ _ d, eq-eqb _ _ h)
 
-        pub counts-other : m k ≢ BRANCH → bit (own && counted all j m k) ≡ 0
-        unfolding counted
+        pub counts-other : m k ≢ BRANCH → bit (own && counts all j m k) ≡ 0
+        unfolding counts
         counts-other h = simp (o, a, ne-eqb _ _ d, ne-eqb _ _ h)

@@ -4,7 +4,7 @@ use mathlib.Core.Path.{_≡_, ap}
 use borrow.Author.Needs.{needs}
 use Rattle.plan.specs.Links.{linksOf}
 use Rattle.field_calls.specs.Rounds.{handTurn}
-use Rattle.field_words.proofs.Hands.{Handed, renamed, none-handed, handed-on, handed-off, handed-all}
+use Rattle.field_words.proofs.Hands.{Handed, hands-as, none-handed, handed-on, handed-off, handed-all}
 use Rattle.host_rounds.proofs.Turns.{hand-phase}
 use Rattle.host_rounds.proofs.air.hand_phase.Statement.{statement}
 use Rattle.host_rounds.proofs.air.hand_phase.Tie as tie
@@ -25,7 +25,7 @@ returns : tie.Need-returns Inv-loop μ-loop
 returns c =
     let h = c .before .before .before in
     let t = h .before .before in
-    renamed (handed-off _ _ _ _ (t .before .loop .inv .0) (h .hand-turn .ensures) _ (t .loop-test .taken) (c .if1 .taken))
+    hands-as (handed-off _ _ _ _ (t .before .loop .inv .0) (h .hand-turn .ensures) _ (t .loop-test .taken) (c .if1 .taken))
     (λ cells marks sent. hand-phase _ _ _ (t .before .loop .inv .2))
 
 loop-again : tie.Need-loop-again Inv-loop μ-loop
@@ -36,7 +36,7 @@ loop-again c =
 returns-2 : tie.Need-returns-2 Inv-loop μ-loop
 returns-2 c =
     let i = c .before .loop .inv in
-    renamed (handed-all _ _ _ _ (i .0) _ (c .loop-test .left) (i .1)) (λ cells marks sent. hand-phase _ _ _ (i .2))
+    hands-as (handed-all _ _ _ _ (i .0) _ (c .loop-test .left) (i .1)) (λ cells marks sent. hand-phase _ _ _ (i .2))
 
 pub hand-phase-spec : {M : Type 1} → statement M
 hand-phase-spec =

@@ -4,7 +4,7 @@ use mathlib.Core.Path.{sym}
 use lib.Seq.{length-take-le}
 use borrow.Author.Needs.{needs}
 use Rattle.field.specs.Step.{hand}
-use Rattle.field_words.proofs.Hands.{Handed, renamed, none-handed, handed-on, handed-off, handed-all}
+use Rattle.field_words.proofs.Hands.{Handed, hands-as, none-handed, handed-on, handed-off, handed-all}
 use Rattle.host_rounds.proofs.Turns as T
 use Rattle.host_rounds.proofs.air.hand_turn.Statement.{statement}
 use Rattle.host_rounds.proofs.air.hand_turn.Tie as tie
@@ -29,7 +29,7 @@ returns c =
     let h = c .before .before .before in
     let t = h .before .before in
     let i = t .before in
-    renamed (handed-off _ _ _ _ (i .loop .inv .0) (h .hand .ensures) _ (t .loop-test .taken) (c .if1 .taken))
+    hands-as (handed-off _ _ _ _ (i .loop .inv .0) (h .hand .ensures) _ (t .loop-test .taken) (c .if1 .taken))
     (λ cells marks sent. T.hand-turn _ _ _ _ (i .before .many-in-air .ensures))
 
 loop-again : tie.Need-loop-again Inv-loop μ-loop
@@ -40,7 +40,7 @@ loop-again c =
 returns-2 : tie.Need-returns-2 Inv-loop μ-loop
 returns-2 c =
     let i = c .before in
-    renamed (handed-all _ _ _ _ (i .loop .inv .0) _ (c .loop-test .left) (i .loop .inv .1)) (λ cells marks sent. T.hand-turn _ _ _ _ (i .before .many-in-air .ensures))
+    hands-as (handed-all _ _ _ _ (i .loop .inv .0) _ (c .loop-test .left) (i .loop .inv .1)) (λ cells marks sent. T.hand-turn _ _ _ _ (i .before .many-in-air .ensures))
 
 pub hand-turn-spec : {M : Type 1} → statement M
 hand-turn-spec =

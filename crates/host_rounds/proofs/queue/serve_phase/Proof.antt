@@ -5,7 +5,7 @@ use borrow.Author.Needs.{needs}
 use mathlib.Core.Path.{_≡_}
 use Rattle.plan.specs.Links.{modulesOf}
 use Rattle.field_calls.specs.Rounds.{serveTurn}
-use Rattle.field_serve.proofs.Turns.{Turned, renamed, no-turn, turn-on, turn-off, turns-over}
+use Rattle.field_serve.proofs.Turns.{Turned, advances-as, no-turn, turn-on, turn-off, turns-over}
 use Rattle.host_rounds.proofs.Turns as T
 use Rattle.host_rounds.proofs.queue.serve_phase.Statement.{statement}
 use Rattle.host_rounds.proofs.queue.serve_phase.Tie as tie
@@ -27,7 +27,7 @@ returns : tie.Need-returns Inv-loop μ-loop
 returns c =
     let h = c .before .before .before .before in
     let t = h .before .before .before .before in
-    renamed (turn-off _ _ _ _ _ _ _ (t .before .loop .inv .0) (h .serve-turn .ensures) _ (t .loop-test .taken) (c .if1 .taken)) (T.serve-phase _ _ _ (t .before .loop .inv .2))
+    advances-as (turn-off _ _ _ _ _ _ _ (t .before .loop .inv .0) (h .serve-turn .ensures) _ (t .loop-test .taken) (c .if1 .taken)) (T.serve-phase _ _ _ (t .before .loop .inv .2))
 
 loop-again : tie.Need-loop-again Inv-loop μ-loop
 loop-again c =
@@ -36,7 +36,7 @@ loop-again c =
     (turn-on _ _ _ _ _ _ _ (i .loop .inv .0) (h .serve-turn .ensures) (search needs) (c .if1 .left), search needs, i .loop .inv .2)
 
 returns-2 : tie.Need-returns-2 Inv-loop μ-loop
-returns-2 c = let i = c .before .loop .inv in renamed (turns-over _ _ _ _ _ _ _ (i .0) _ (c .loop-test .left) (i .1)) (T.serve-phase _ _ _ (i .2))
+returns-2 c = let i = c .before .loop .inv in advances-as (turns-over _ _ _ _ _ _ _ (i .0) _ (c .loop-test .left) (i .1)) (T.serve-phase _ _ _ (i .2))
 
 pub serve-phase-spec : {M : Type 1} → statement M
 serve-phase-spec =

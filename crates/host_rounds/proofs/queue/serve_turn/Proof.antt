@@ -4,7 +4,7 @@ use mathlib.Core.Path.{sym}
 use lib.Seq.{length-take-le}
 use borrow.Author.Needs.{needs}
 use Rattle.field.specs.Step.{serve}
-use Rattle.field_serve.proofs.Turns.{Turned, renamed, no-turn, turn-on, turn-off, turns-over}
+use Rattle.field_serve.proofs.Turns.{Turned, advances-as, no-turn, turn-on, turn-off, turns-over}
 use Rattle.host_rounds.proofs.Turns as T
 use Rattle.host_rounds.proofs.queue.serve_turn.Statement.{statement}
 use Rattle.host_rounds.proofs.queue.serve_turn.Tie as tie
@@ -36,7 +36,7 @@ returns c =
     let h = c .before .before .before .before in
     let t = h .before .before .before .before in
     let i = t .before in
-    renamed (turn-off _ _ _ _ _ _ _ (i .loop .inv .0) (h .serve .ensures) _ (t .loop-test .taken) (c .if1 .taken))
+    advances-as (turn-off _ _ _ _ _ _ _ (i .loop .inv .0) (h .serve .ensures) _ (t .loop-test .taken) (c .if1 .taken))
     (T.serve-turn _ _ _ _ (i .before .many-in-queue .ensures))
 
 loop-again : tie.Need-loop-again Inv-loop μ-loop
@@ -48,7 +48,7 @@ loop-again c =
 returns-2 : tie.Need-returns-2 Inv-loop μ-loop
 returns-2 c =
     let i = c .before in
-    renamed (turns-over _ _ _ _ _ _ _ (i .loop .inv .0) _ (c .loop-test .left) (i .loop .inv .1)) (T.serve-turn _ _ _ _ (i .before .many-in-queue .ensures))
+    advances-as (turns-over _ _ _ _ _ _ _ (i .loop .inv .0) _ (c .loop-test .left) (i .loop .inv .1)) (T.serve-turn _ _ _ _ (i .before .many-in-queue .ensures))
 
 pub serve-turn-spec : {M : Type 1} → statement M
 serve-turn-spec =

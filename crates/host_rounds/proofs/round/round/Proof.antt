@@ -3,7 +3,7 @@ use mathlib.Core.Path.{refl, _∙_}
 use borrow.Author.Needs.{needs}
 use Rattle.field_calls.specs.Rounds.{handPhase}
 use Rattle.field_serve.proofs.Ready.{hands}
-use Rattle.field_serve.proofs.Turns.{renamed}
+use Rattle.field_serve.proofs.Turns.{advances-as}
 use Rattle.host_rounds.proofs.Turns.{hand-phase-sound, round-on, round-off}
 use Rattle.host_rounds.proofs.round.round.Statement.{statement}
 use Rattle.host_rounds.proofs.round.round.Tie as tie
@@ -17,7 +17,7 @@ returns c =
     let h = t .before .before .before in
     let s = h .before .before .before in
     let r = s .pre .0 in
-    renamed (hands _ _ _ _ (s .args .b) r handPhase (hand-phase-sound _ _ (r .plan) (r .sound)) (h .hand-phase .ensures) (search needs) (c .refused .ensures))
+    advances-as (hands _ _ _ _ (s .args .b) r handPhase (hand-phase-sound _ _ (r .plan) (r .sound)) (h .hand-phase .ensures) (search needs) (c .refused .ensures))
     (round-off _ _ _ (h .hand-phase .ensures .is _ _ _) (t .if1 .taken))
 
 serve-phase-requires : tie.Need-serve-phase-requires

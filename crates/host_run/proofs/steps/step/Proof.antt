@@ -4,7 +4,7 @@ use mathlib.Core.Logic.{⊎-elim}
 use borrow.Author.Needs.{needs}
 use Rattle.field.specs.Step.{hand}
 use Rattle.field_serve.proofs.Ready.{stays, hands, hand-sound}
-use Rattle.field_serve.proofs.Turns.{renamed}
+use Rattle.field_serve.proofs.Turns.{advances-as}
 use Rattle.host_run.proofs.Dispatch.{is-wake, is-hand, is-serve, is-none}
 use Rattle.host_run.proofs.steps.step.Statement.{statement}
 use Rattle.host_run.proofs.steps.step.Tie as tie
@@ -13,20 +13,20 @@ returns : tie.Need-returns
 returns c =
     let w = c .before .before in
     let k = w .before .before .before .before in
-    renamed (w .wake .ensures) (is-wake _ _ _ _ (k .match .keys1))
+    advances-as (w .wake .ensures) (is-wake _ _ _ _ (k .match .keys1))
 
 returns-2 : tie.Need-returns-2
 returns-2 c =
     let w = c .before .before .before in
     let k = w .before .before in
     let r = k .before .before .pre in
-    renamed (hands _ _ _ _ (k .before .before .args .b) r (λ p. hand p (k .before .before .args .number)) (hand-sound _ _ _ _ (k .before .before .args .b) r _) (w .hand .ensures) (search needs) (c .refused .ensures)) (is-hand _ _ _ _ (k .match .keys2))
+    advances-as (hands _ _ _ _ (k .before .before .args .b) r (λ p. hand p (k .before .before .args .number)) (hand-sound _ _ _ _ (k .before .before .args .b) r _) (w .hand .ensures) (search needs) (c .refused .ensures)) (is-hand _ _ _ _ (k .match .keys2))
 
 returns-3 : tie.Need-returns-3
 returns-3 c =
     let w = c .before .before in
     let k = w .before .before .before .before in
-    renamed (w .serve .ensures) (is-serve _ _ _ _ (k .match .keys3))
+    advances-as (w .serve .ensures) (is-serve _ _ _ _ (k .match .keys3))
 
 returns-4 : tie.Need-returns-4
 returns-4 c =
