@@ -176,14 +176,33 @@ pub fn crates(tree: &Tree) -> Vec<Fault> {
     gone.chain(unlisted.map(|name| fault(&format!("crates/{name}"), 1, name))).collect()
 }
 
-/// Public names that are defined in two crates or more, with their files.
-pub fn shared(tree: &Tree) -> BTreeMap<String, BTreeSet<String>> {
-    let mut by: BTreeMap<String, BTreeSet<(&str, &str)>> = BTreeMap::new();
-    let public = |file: &File| file.path.ends_with(".antt") && !file.path.ends_with("/Proof.antt");
-    for (_, _, file, item) in tree.all().filter(|(_, _, file, item)| item.public && public(file)) {
-        by.entry(item.name.clone()).or_default().insert((&file.of, &file.path));
+/// Public names that two crates or more define, in antt or as a type or constant of code, each where it stands.
+pub fn shared(tree: &Tree) -> Vec<Fault> {
+    let mut by: BTreeMap<&str, Vec<(&File, usize)>> = BTreeMap::new();
+    let counts = |file: &File, item: &scan::antt::Item| {
+        item.public && item.sort != Sort::Function && !file.path.ends_with("/Proof.antt")
+    };
+    for (_, _, file, item) in tree.all().filter(|(_, _, file, item)| counts(file, item)) {
+        by.entry(&item.name).or_default().push((file, item.line));
     }
-    let crates = |places: &BTreeSet<(&str, &str)>| places.iter().map(|(of, _)| *of).collect::<BTreeSet<_>>().len();
+    let crates = |places: &[(&File, usize)]| places.iter().map(|(f, _)| f.of.as_str()).collect::<BTreeSet<_>>().len();
     let several = by.into_iter().filter(|(_, places)| crates(places) > 1);
-    several.map(|(name, places)| (name, places.into_iter().map(|(_, p)| p.to_string()).collect())).collect()
+    several.flat_map(|(name, places)| places.into_iter().map(move |(f, line)| fault(&f.path, line, name))).collect()
+}
+
+/// What a program's source has beside one read of its input and one write of its text: the prover does not see what is read and written, so
+/// a second read, or a write of something else, would be proved.
+pub fn programs(tree: &Tree) -> Vec<Fault> {
+    let mut found = Vec::new();
+    for main in tree.files.iter().filter(|f| f.path.ends_with("/src/main.rt")) {
+        let source: String =
+            tree.files.iter().filter(|f| f.of == main.of && f.path.ends_with(".rt")).map(|f| &*f.body).collect();
+        let code: Vec<&str> = source.lines().map(|l| l.split("//").next().unwrap_or("")).collect();
+        let times = |text: &str| code.iter().map(|l| l.matches(text).count()).sum::<usize>();
+        let once = ["format_text::read_input(", "io::write_all(STDOUT_FILENO, text)", "io::", "libc::"];
+        found.extend(
+            once.iter().filter(|t| times(t) != 1).map(|t| fault(&main.path, 1, format!("{t} {} times", times(t)))),
+        );
+    }
+    found
 }

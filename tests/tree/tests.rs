@@ -1,4 +1,3 @@
-use crate::faults;
 use crate::{found, verdict};
 use std::path::Path;
 
@@ -114,10 +113,9 @@ fn crates_that_are_not_listed() {
 
 #[test]
 fn names_in_two_crates() {
-    let made = with("crates/b/specs/B.antt", "-- Head.\npub f : ℕ\nf = 0\n");
-    let shared = faults::shared(&scan::Tree::load(made.top()));
-    assert_eq!(shared.keys().collect::<Vec<_>>(), ["f"]);
-    assert_eq!(shared["f"].len(), 2);
+    let code = CODE.replace("pub fn g", "pub struct f {\n    x: u8,\n}\n\npub fn g");
+    let said = only(with("crates/b/src/lib.rt", &code).top(), 9);
+    assert_eq!(said, ["crates/a/specs/A.antt:4: f", "crates/b/src/lib.rt:4: f"]);
 }
 
 #[test]
@@ -133,4 +131,15 @@ fn laws_stand_apart() {
     assert_eq!(said, ["crates/a/specs/A.antt:8: f-law"]);
     let said = only(with("docs/TRUST.md", "| crates/c/specs/laws/C.antt | `f` | 2 |\n").top(), 6);
     assert_eq!(said, ["docs/TRUST.md:1: c/specs/laws/C.antt"]);
+}
+
+#[test]
+fn a_program_reads_once_and_writes_its_text() {
+    let good = "// Head.\nuse libc::STDOUT_FILENO;\n\nfn main() {\n    let i = format_text::read_input(s);\n    io::write_all(STDOUT_FILENO, text);\n}\n";
+    let of = |text: &str| only(with("crates/b/src/main.rt", text).top(), 10);
+    assert!(of(good).is_empty());
+    let other = good.replace("FILENO, text)", "FILENO, b\"refused 11\")");
+    assert_eq!(of(&other), ["crates/b/src/main.rt:1: io::write_all(STDOUT_FILENO, text) 0 times"]);
+    let twice = good.replace("    let i", "    let h = format_text::read_input(s);\n    let i");
+    assert_eq!(of(&twice), ["crates/b/src/main.rt:1: format_text::read_input( 2 times"]);
 }

@@ -11,16 +11,16 @@ ghost use Rattle.field_check.specs.Ready.{Ready};
 ghost use Rattle.field_serve.specs.Lent.{Advances, Runs};
 
 // done: rounds completed. last: what the last one answered and left.
-pub struct Went {
+pub struct WentRounds {
     pub done: u16,
     pub last: Done,
 }
 
 // After so many rounds.
-fn after(done: u16, last: Done) -> Went
+fn after(done: u16, last: Done) -> WentRounds
     ensures { λ r. ⌜ r ≡ record { done = done; last = last } ⌝ }
 {
-    Went {
+    WentRounds {
         done: done,
         last: last,
     }
@@ -53,7 +53,7 @@ pub fn rounds<'a>(
     lent: &mut [u64],
     b: Done,
     limit: u16,
-) -> Went
+) -> WentRounds
     requires { ⌜ Ready (now plan) (now cells) (now marks) (now lent) (b .waiting) (b .sent) × (b .refusal ≡ 0) ⌝ }
     ensures { λ r. ⌜ Runs (λ p. roundsRun p limit) (now (plan .entry))
         (now (cells .entry)) (now (marks .entry)) (now (lent .entry)) b (r .done) (r .last) (now (cells .exit)) (now (marks .exit)) (now (lent .exit)) ⌝ }

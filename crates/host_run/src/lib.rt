@@ -13,7 +13,7 @@ pub struct Stepped {
 }
 
 // steps: steps done. refusal: the one that ended the run, or 0.
-pub struct Ran {
+pub struct ScheduleRan {
     pub steps: usize,
     pub refusal: u32,
     pub field: Field,
@@ -30,10 +30,10 @@ fn after_step(refusal: u32, field: Field) -> Stepped
 }
 
 // A run's end: steps done, the refusal that ended it or 0, and the field that it leaves.
-fn after(steps: usize, refusal: u32, field: Field) -> Ran
+fn after(steps: usize, refusal: u32, field: Field) -> ScheduleRan
     ensures { λ r. ⌜ r ≡ record { steps = steps; refusal = refusal; field = field } ⌝ }
 {
-    Ran {
+    ScheduleRan {
         steps: steps,
         refusal: refusal,
         field: field,
@@ -58,7 +58,7 @@ pub fn step(f: Field, words: &mut [u64], kind: u8, number: u16) -> Stepped
 }
 
 // A run of a schedule: 31, then 51 to 54, then its steps up to the first that is refused.
-pub fn run(f: Field, words: &mut [u64], bytes: &[u8]) -> Ran
+pub fn run(f: Field, words: &mut [u64], bytes: &[u8]) -> ScheduleRan
     ensures { λ r. ⌜ record { done = r .steps; refusal = r .refusal; state = record { field = r .field; words = now (words .exit) } }
         ≡ runBytes (now (bytes .entry)) (record { field = f; words = now (words .entry) }) ⌝ }
 {

@@ -10,16 +10,16 @@ ghost use Rattle.field_check.specs.Ready.{Ready};
 ghost use Rattle.field_serve.specs.Lent.{Advances, Runs};
 
 // done: steps done. last: what the last one answered and left.
-pub struct Went {
+pub struct WentSteps {
     pub done: usize,
     pub last: Done,
 }
 
 // After so many steps.
-fn after(done: usize, last: Done) -> Went
+fn after(done: usize, last: Done) -> WentSteps
     ensures { λ r. ⌜ r ≡ record { done = done; last = last } ⌝ }
 {
-    Went {
+    WentSteps {
         done: done,
         last: last,
     }
@@ -56,7 +56,7 @@ pub fn steps<'a>(
     b: Done,
     bytes: &[u8],
     count: usize,
-) -> Went
+) -> WentSteps
     requires { ⌜ Ready (now plan) (now cells) (now marks) (now lent) (b .waiting) (b .sent) × (b .refusal ≡ 0)
         × (scheduleRefusal (now bytes) ≡ 0) × (count ≡ stepsIn (now bytes)) ⌝ }
     ensures { λ r. ⌜ Runs (λ p. scheduleRun p (now (bytes .entry))) (now (plan .entry))

@@ -11,12 +11,12 @@ ghost use Rattle.field_calls.specs.Call.{runBytes};
 ghost use Rattle.text_owed.specs.Traced.{freshHeld, ranText, traced};
 use base::MAX_WORDS;
 use format_text::Intake;
-use host_run::Ran;
+use host_run::ScheduleRan;
 use libc::STDOUT_FILENO;
 use plan::Plan;
 
 // Setup of an accepted plan with exactly M words, then a run of the schedule.
-fn set_up_and_run(p: &Plan, lent: &mut [u64], schedule: &[u8]) -> Ran
+fn set_up_and_run(p: &Plan, lent: &mut [u64], schedule: &[u8]) -> ScheduleRan
     requires { ⌜ (planRefusal (now p) ≡ 0) × (length (now lent) ≡ ceilingOf (now p)) ⌝ }
     ensures { λ r. ⌜ record { done = r .steps; refusal = r .refusal; state = record { field = r .field; words = now (lent .exit) } }
         ≡ runBytes (now (schedule .entry)) (freshHeld (now (p .entry))) ⌝ }

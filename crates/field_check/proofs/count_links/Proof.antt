@@ -1,5 +1,5 @@
--- field_check::count_links: a loop; after k links each module's count is of its own links among them, by `counted-on`; it fits 16 bits by
--- `counted-small`.
+-- field_check::count_links: a loop; after k links each module's count is of its own links among them, by `degrees-on`; it fits 16 bits by
+-- `degrees-small`.
 use Prim.Native.Nat.{ℕ, _+_, _-_, _≤_, _<_}
 use native.Mathlib.Omega.{arith}
 use mathlib.Core.Path.{ap, _≡_, _∙_}

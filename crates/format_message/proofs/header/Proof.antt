@@ -1,5 +1,5 @@
 -- format_message::header: a part with too many bits by `from-kind`, `from-level`, `from-find`; else the parts lie apart, so that each `|` is a sum
--- (`joined`, `from-fits`).
+-- (`or-header`, `from-fits`).
 use mathlib.Core.Path.{sym, _∙_}
 use borrow.Author.Needs.{needs}
 use Rattle.format_message.specs.laws.Byte.{or-header, from-fits, from-kind, from-level, from-find}

@@ -1,4 +1,4 @@
--- node_edges::branches: `count` with the test of branches other than j, by `counted`.
+-- node_edges::branches: `count` with the test of branches other than j, by `counts`.
 use borrow.Author.Needs.{needs}
 use Rattle.node_edges.specs.Own.{counts}
 use Rattle.node_edges.proofs.branches.Statement.{statement}

@@ -1,4 +1,4 @@
--- node_edges::degree: `count` with the test that takes all, by `counted`.
+-- node_edges::degree: `count` with the test that takes all, by `counts`.
 use borrow.Author.Needs.{needs}
 use Rattle.node_edges.specs.Own.{counts}
 use Rattle.node_edges.proofs.degree.Statement.{statement}

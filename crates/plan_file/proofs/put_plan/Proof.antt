@@ -1,4 +1,4 @@
--- plan_file::put_plan: a loop; after version and length the stores are those of the first i numbers (`put-turn`), in the end all (`put-end`).
+-- plan_file::put_plan: a loop; after version and length the stores are those of the first i numbers (`write-turn`), in the end all (`write-end`).
 use Prim.Native.Nat.{_≤_, _-_}
 use native.Mathlib.Omega.{arith}
 use mathlib.Core.Path.{_≡_, refl, _∙_}

@@ -1,4 +1,4 @@
--- program_trace::follow: head, modules and words are put one behind the other: the trace of a run, by `ran-parts`.
+-- program_trace::follow: the run is put as text by `text_trace::render`: the trace of a run, by `ran-shown`.
 use mathlib.Core.Path.{sym, ap, _∙_}
 use lib.Seq.{length-take-le}
 use borrow.Author.Needs.{needs}
