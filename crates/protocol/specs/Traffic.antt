@@ -11,12 +11,12 @@ use Rattle.protocol.specs.Kind.{isC, isT, isA, isR, Only, Rouse, Fits, t
 use Rattle.protocol.specs.Chan.{In, Bef}
 use Rattle.protocol.specs.Notion.{Informed, Both, Awaits, GL, GC, DK, Inf, Jn, Half, Changing, Root, Waits, Outst, Covered, Child, CoreEnds, Spent}
 
--- G6: a sleeper has sent nothing, and only Connect and Test are on their way to it
+-- a sleeper has sent nothing, and only Connect and Test are on their way to it
 pub record Hush (p : Network) (s : ProtocolState) : Type 0 where
   pub g6o : (k v u : ℕ) → Edge p k v u → s.st v ≡ 0 → s.ch v k ≡ []
   pub g6i : (k u v : ℕ) → Edge p k u v → s.st v ≡ 0 → All Rouse (s.ch u k)
 
--- D1 to D4, D7, K1: the messages of a decision
+-- the messages of a decision
 pub record Tokens (p : Network) (s : ProtocolState) : Type 0 where
   -- half: besides answers the channel holds just that Connect of the fragment's level
   pub d1c : (k z y : ℕ) → Edge p k z y → Half s z k → In (connect (GL s z)) (s.ch z k)
@@ -33,13 +33,13 @@ pub record Tokens (p : Network) (s : ProtocolState) : Type 0 where
   pub d7 : (k x y : ℕ) → Edge p k x y → GC s x ≡ k → DK s x ≡ 0 → Inf s x → s.st x ≡ 2
       → (1 ≤ sumL isR (s.ch x k)) ⊎ (Inf s y × (s.st y ≡ 2) × (key p (s.bw x) < key p (s.bw y)) × (1 ≤ sumL isR (s.ch y k)))
 
--- C1: a Connect from u to v over k
+-- a Connect from u to v over k
 pub record Connects (p : Network) (s : ProtocolState) : Type 0 where
   pub c1m : (k u v l : ℕ) → Edge p k u v → In (connect l) (s.ch u k) → s.mark u k ≡ 1
   -- on a joined edge: the core, one level below, to an end of that level
   pub c1 : (k u v l : ℕ) → Edge p k u v → In (connect l) (s.ch u k) → s.mark v k ≡ 1 → (GC s u ≡ k) × (l + 1 ≡ GL s u) × (s.lev v ≡ l)
 
--- I1: an Initiate (l, f, x) from u to v over k
+-- an Initiate (l, f, x) from u to v over k
 pub record InitOk (p : Network) (lev fr gl gc ub due : ℕ → ℕ) (mark : ℕ → ℕ → ℕ) (k u v l f x : ℕ) : Type 0 where
   -- on a joined edge that is inbound for its receiver, whose level it raises, to at most the fragment's
   pub i1j : Both mark k u v
@@ -59,7 +59,7 @@ pub record InitOk (p : Network) (lev fr gl gc ub due : ℕ → ℕ) (mark : ℕ 
 pub record Initiates (p : Network) (s : ProtocolState) : Type 0 where
   pub i1 : (k u v l f x : ℕ) → Edge p k u v → In (initiate l f x) (s.ch u k) → InitOk p s.lev s.fr s.gl s.gc s.ub s.due s.mark k u v l f x
 
--- T2, T4, U2: Initiates to come
+-- Initiates to come
 pub record Telling (p : Network) (s : ProtocolState) : Type 0 where
   -- what v was told has arrived across a joined edge that is not inbound for v, or is on its way, and nothing newer
   pub u2 : (k v c : ℕ) → Edge p k v c → Jn s k v c → s.ub v ≢ k → s.lev v ≡ top (s.lev c) (s.ch v k)
@@ -70,7 +70,7 @@ pub record Telling (p : Network) (s : ProtocolState) : Type 0 where
   -- while its Connect is there it is not informed, and its Initiate is not there
   pub t4n : (k x y : ℕ) → Edge p k x y → Jn s k x y → GC s x ≡ k → 1 ≤ sumL isC (s.ch x k) → (s.lev x < GL s x) × (¬ In (initiate (GL s x) k 1) (s.ch y k))
 
--- E1, E2, M6: a Test, and what the owner of a test edge waits for
+-- a Test, and what the owner of a test edge waits for
 pub record Testing (p : Network) (s : ProtocolState) : Type 0 where
   -- it carries level and identity of its informed sender
   pub e1 : (k u v l f : ℕ) → Edge p k u v → In (test l f) (s.ch u k) → (s.lev u ≡ l) × (s.id u ≡ f) × Inf s u
@@ -84,25 +84,25 @@ pub record Testing (p : Network) (s : ProtocolState) : Type 0 where
   -- Rejected at v and Basic at u: u's Test has been served
   pub m6t : (k v u : ℕ) → Edge p k v u → s.mark v k ≡ 2 → s.mark u k ≡ 0 → sumL isT (s.ch u k) ≡ 0
 
--- A1: an Accept from u to v over k: v waits, the edge is Basic, u is of another fragment and of no lower level
+-- an Accept from u to v over k: v waits, the edge is Basic, u is of another fragment and of no lower level
 pub record AcceptOk (te fr lev : ℕ → ℕ) (mark : ℕ → ℕ → ℕ) (ot k u v : ℕ) : Type 0 where
   pub a1w : Awaits te ot v k
   pub a1m : mark v k ≡ 0
   pub a1f : fr u ≢ fr v
   pub a1l : lev v ≤ lev u
 
--- J1: a Reject from u to v over k: v waits, u is of the same fragment, and where v is Basic u is Rejected
+-- a Reject from u to v over k: v waits, u is of the same fragment, and where v is Basic u is Rejected
 pub record RejectOk (te fr : ℕ → ℕ) (mark : ℕ → ℕ → ℕ) (ot k u v : ℕ) : Type 0 where
   pub j1w : Awaits te ot v k
   pub j1f : fr u ≡ fr v
   pub j1m : mark v k ≡ 0 → mark u k ≡ 2
 
--- A1, J1
+-- answers on their way
 pub record Answers (p : Network) (s : ProtocolState) : Type 0 where
   pub a1 : (k u v : ℕ) → Edge p k u v → In accept (s.ch u k) → AcceptOk s.te s.fr s.lev s.mark s.ot k u v
   pub j1 : (k u v : ℕ) → Edge p k u v → In reject (s.ch u k) → RejectOk s.te s.fr s.mark s.ot k u v
 
--- R1: a Report w from u to v over k
+-- a Report w from u to v over k
 pub record Reports (p : Network) (s : ProtocolState) : Type 0 where
   pub r1r : (k u v w : ℕ) → Edge p k u v → In (report w) (s.ch u k) → w ≢ none → w < p.g.L
   pub r1j : (k u v w : ℕ) → Edge p k u v → In (report w) (s.ch u k) → Jn s k u v
@@ -110,12 +110,12 @@ pub record Reports (p : Network) (s : ProtocolState) : Type 0 where
   -- to an informed end of an undecided core it is a core end's
   pub r1c : (k u v w : ℕ) → Edge p k u v → In (report w) (s.ch u k) → Inf s v → DK s v ≡ 0 → GC s v ≡ k → CoreEnds s u v k w
 
--- F4: over which edges a Report is owed
+-- over which edges a Report is owed
 pub record Owing (p : Network) (s : ProtocolState) : Type 0 where
   pub f4y : (k v c : ℕ) → Edge p k v c → s.owe v k ≢ 0 → Inf s v × Jn s k v c × (s.ib v ≢ k) × Outst s c k
   pub f4n : (k v c : ℕ) → Edge p k v c → Inf s v → Jn s k v c → s.ib v ≢ k → Outst s c k → s.owe v k ≡ 1
 
--- B1, B2: best weights
+-- best weights
 pub record Bests (p : Network) (s : ProtocolState) : Type 0 where
   -- a best edge other than the best weight leads to an informed Found child with that best weight, whose Report is consumed
   pub b1e : (v : ℕ) → Inf s v → s.bw v ≢ none → s.be v ≢ s.bw v
@@ -124,6 +124,6 @@ pub record Bests (p : Network) (s : ProtocolState) : Type 0 where
   pub b2 : (k u w : ℕ) → Edge p k u w → s.mark u k ≡ 0 → DK s u ≡ 0 → 1 ≤ GL s u
       → ((s.lev u < GL s u) × (s.due u ≡ 1)) ⊎ ((s.ot ≡ suc u) ⊎ (((s.te u ≢ none) × (key p (s.te u) ≤ rank p k)) ⊎ Covered p s u (rank p k)))
 
--- Q1: the order in a channel
+-- the order in a channel
 pub record Ordered (p : Network) (s : ProtocolState) : Type 0 where
   pub q1 : (k u v : ℕ) (m n : Msg) → Edge p k u v → Bef m n (s.ch u k) → Fits m n
