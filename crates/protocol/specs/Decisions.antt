@@ -2,6 +2,7 @@
 use Prim.Native.Nat.{ℕ, suc, _≤_}
 use mathlib.Core.Path.{_≡_}
 use mathlib.Core.Logic.{_≢_}
+use Rattle.base.specs.Names.{BASIC, BRANCH}
 use Rattle.format_message.specs.Msg.{none}
 use Rattle.protocol.specs.Network.{Network, Edge, key, rank}
 use Rattle.protocol.specs.Notion.{Informed, Both, Bounding, Decision, Rooting}
@@ -9,8 +10,8 @@ use Rattle.protocol.specs.Notion.{Informed, Both, Bounding, Decision, Ro
 -- dk 3, node z has sent Connect over k, whose other end is y
 pub record HalfOk (p : Network) (fr gl lev ub : ℕ → ℕ) (mark : ℕ → ℕ → ℕ) (k z y : ℕ) : Type 0 where
   -- Branch here, Basic at the other end, which lies outside and is of no lower level
-  pub d1m : mark z k ≡ 1
-  pub d1y : mark y k ≡ 0
+  pub d1m : mark z k ≡ BRANCH
+  pub d1y : mark y k ≡ BASIC
   pub d1o : fr y ≢ fr z
   pub d1g : gl (fr z) ≤ lev y
   -- z has its fragment's level, and the edge is inbound for it
@@ -22,7 +23,7 @@ pub record HalfOk (p : Network) (fr gl lev ub : ℕ → ℕ) (mark : ℕ → ℕ
 -- decisions half
 pub record Halves (p : Network) (dk dn de fr gl lev ub : ℕ → ℕ) (mark : ℕ → ℕ → ℕ) : Type 0 where
   -- an edge that is Branch at one end only is that end's decision
-  pub m2 : (k v u : ℕ) → Edge p k v u → mark v k ≡ 1 → mark u k ≢ 1 → Decision 3 dk dn de fr v k
+  pub m2 : (k v u : ℕ) → Edge p k v u → mark v k ≡ BRANCH → mark u k ≢ BRANCH → Decision 3 dk dn de fr v k
   -- the node of the decision lies in the fragment, the edge is its own
   pub d1f : (v : ℕ) → dk (fr v) ≡ 3 → fr (dn (fr v)) ≡ fr v
   pub d1e : (v : ℕ) → dk (fr v) ≡ 3 → (y : ℕ) × Edge p (de (fr v)) (dn (fr v)) y
@@ -69,7 +70,7 @@ pub record Rootings (p : Network) (dk dn fr gl lev ib ub bw : ℕ → ℕ) (mark
 -- dk 4, the fragment is finished
 pub record Finishes (p : Network) (dk fr gl gc lev bw halt due : ℕ → ℕ) (mark : ℕ → ℕ → ℕ) : Type 0 where
   -- nothing is Basic in the fragment
-  pub d4 : (k v u : ℕ) → Edge p k v u → dk (fr v) ≡ 4 → mark v k ≢ 0
+  pub d4 : (k v u : ℕ) → Edge p k v u → dk (fr v) ≡ 4 → mark v k ≢ BASIC
   -- above level 0 both core ends are informed and found nothing
   pub d4i : (k x y : ℕ) → Edge p k x y → gc (fr x) ≡ k → dk (fr x) ≡ 4 → 1 ≤ gl (fr x) → Informed lev fr gl x × (bw x ≡ none)
   -- once decided, nobody is due

@@ -3,6 +3,7 @@
 use Prim.Native.Nat.{ℕ, _^_, _≤_, _<_}
 use mathlib.Core.Path.{_≡_}
 use mathlib.Core.Logic.{_≢_, _⊎_}
+use Rattle.base.specs.Names.{ASLEEP, FOUND, BASIC, BRANCH, REJECTED}
 use Rattle.graph.specs.Graph.{Way}
 use Rattle.format_message.specs.Msg.{none}
 use Rattle.protocol.specs.Network.{Network, Edge, Tree}
@@ -10,11 +11,11 @@ use Rattle.protocol.specs.Notion.{Informed, Both, JoinedEdge, members}
 
 -- ranges of what is coded by numbers
 pub record Ranges (st halt due dk : ℕ → ℕ) (mark : ℕ → ℕ → ℕ) : Type 0 where
-  pub st-le : (v : ℕ) → st v ≤ 2
+  pub st-le : (v : ℕ) → st v ≤ FOUND
   pub halt-le : (v : ℕ) → halt v ≤ 1
   pub due-le : (v : ℕ) → due v ≤ 1
   pub dk-le : (a : ℕ) → dk a ≤ 4
-  pub mark-le : (v k : ℕ) → mark v k ≤ 2
+  pub mark-le : (v k : ℕ) → mark v k ≤ REJECTED
 
 -- values that are edges or none
 pub record Values (p : Network) (bw be : ℕ → ℕ) : Type 0 where
@@ -57,32 +58,32 @@ pub record AsleepOk (fr gl dk due bw be : ℕ → ℕ) (v : ℕ) : Type 0 where
 
 -- sleepers and single nodes
 pub record Sleepers (p : Network) (st fr gl dk due bw be ub halt : ℕ → ℕ) (mark : ℕ → ℕ → ℕ) : Type 0 where
-  pub g6 : (v : ℕ) → st v ≡ 0 → AsleepOk fr gl dk due bw be v
-  pub g6m : (v k : ℕ) → st v ≡ 0 → mark v k ≡ 0
+  pub g6 : (v : ℕ) → st v ≡ ASLEEP → AsleepOk fr gl dk due bw be v
+  pub g6m : (v k : ℕ) → st v ≡ ASLEEP → mark v k ≡ BASIC
   -- an awake node with edges has an inbound edge
-  pub u1a : (k v u : ℕ) → Edge p k v u → st v ≢ 0 → ub v ≢ none
+  pub u1a : (k v u : ℕ) → Edge p k v u → st v ≢ ASLEEP → ub v ≢ none
   -- an awake single node has sent its Connect; without edges it has halted
-  pub g7 : (k v u : ℕ) → Edge p k v u → st v ≢ 0 → gl (fr v) ≡ 0 → dk (fr v) ≡ 3
-  pub g7n : (v : ℕ) → st v ≢ 0 → gl (fr v) ≡ 0 → ((k u : ℕ) → Edge p k v u → ⊥) → (dk (fr v) ≡ 4) × (halt v ≡ 1)
+  pub g7 : (k v u : ℕ) → Edge p k v u → st v ≢ ASLEEP → gl (fr v) ≡ 0 → dk (fr v) ≡ 3
+  pub g7n : (v : ℕ) → st v ≢ ASLEEP → gl (fr v) ≡ 0 → ((k u : ℕ) → Edge p k v u → ⊥) → (dk (fr v) ≡ 4) × (halt v ≡ 1)
 
 -- marks and fragments
 pub record Marks (p : Network) (fr : ℕ → ℕ) (mark : ℕ → ℕ → ℕ) : Type 0 where
   -- only own edges are marked
-  pub own : (v k : ℕ) → mark v k ≢ 0 → (u : ℕ) × Edge p k v u
+  pub own : (v k : ℕ) → mark v k ≢ BASIC → (u : ℕ) × Edge p k v u
   -- Rejected: inside the fragment, and not Branch at the other end
-  pub m1 : (k v u : ℕ) → Edge p k v u → mark v k ≡ 2 → (fr v ≡ fr u) × (mark u k ≢ 1)
+  pub m1 : (k v u : ℕ) → Edge p k v u → mark v k ≡ REJECTED → (fr v ≡ fr u) × (mark u k ≢ BRANCH)
   -- joined: inside the fragment
   pub m3 : (k v u : ℕ) → Edge p k v u → Both mark k v u → fr v ≡ fr u
   -- the joined edges connect each fragment
   pub m4 : (u v : ℕ) → fr u ≡ fr v → Way p.g (JoinedEdge p mark) u v
   -- a Branch is in the tree
-  pub m5 : (k v u : ℕ) → Edge p k v u → mark v k ≡ 1 → Tree p k
+  pub m5 : (k v u : ℕ) → Edge p k v u → mark v k ≡ BRANCH → Tree p k
 
 -- inbound edges
 pub record Inbounds (p : Network) (ub ib : ℕ → ℕ) (mark : ℕ → ℕ → ℕ) : Type 0 where
   -- the inbound edge is an own edge, and Branch
   pub u1o : (v : ℕ) → ub v ≢ none → (u : ℕ) × Edge p (ub v) v u
-  pub u1 : (k v u : ℕ) → Edge p k v u → ub v ≡ k → mark v k ≡ 1
+  pub u1 : (k v u : ℕ) → Edge p k v u → ub v ≡ k → mark v k ≡ BRANCH
   -- the in-branch is an own edge, and joined
   pub u1r : (v : ℕ) → ib v ≢ none → (u : ℕ) × Edge p (ib v) v u
   pub u1i : (k v u : ℕ) → Edge p k v u → ib v ≡ k → Both mark k v u

@@ -3,6 +3,7 @@ use Prim.Native.Nat.{ℕ, suc, _+_, _≤_, _<_}
 use mathlib.Core.Path.{_≡_}
 use mathlib.Core.Logic.{_≢_, _⊎_}
 use Rattle.base.specs.Sum.{sum}
+use Rattle.base.specs.Names.{FIND, BASIC, REJECTED}
 use Rattle.format_message.specs.Msg.{none}
 use Rattle.protocol.specs.Network.{Network, Edge, rank}
 use Rattle.protocol.specs.Notion.{Informed, Both, Awaits}
@@ -41,19 +42,19 @@ pub record FindOk (lev fr gl dk due : ℕ → ℕ) (v : ℕ) : Type 0 where
   pub f1u : due v ≡ 1
 
 pub record Finds (st lev fr gl dk due : ℕ → ℕ) : Type 0 where
-  pub f1 : (v : ℕ) → st v ≡ 1 → FindOk lev fr gl dk due v
-  pub f1d : (v : ℕ) → Informed lev fr gl v → due v ≡ 1 → st v ≡ 1
+  pub f1 : (v : ℕ) → st v ≡ FIND → FindOk lev fr gl dk due v
+  pub f1d : (v : ℕ) → Informed lev fr gl v → due v ≡ 1 → st v ≡ FIND
 
 -- what a node in Find waits for
 pub record Pending (st te fc : ℕ → ℕ) (ot op : ℕ) : Type 0 where
   -- Find: a Report, an answer, or its response is under way
-  pub f2 : (v : ℕ) → st v ≡ 1 → (fc v ≢ 0) ⊎ ((te v ≢ none) ⊎ ((ot ≡ suc v) ⊎ (op ≡ suc v)))
+  pub f2 : (v : ℕ) → st v ≡ FIND → (fc v ≢ 0) ⊎ ((te v ≢ none) ⊎ ((ot ≡ suc v) ⊎ (op ≡ suc v)))
   -- else there is no test edge, and nothing to count
-  pub f3t : (v : ℕ) → st v ≢ 1 → te v ≡ none
-  pub f3c : (v : ℕ) → st v ≢ 1 → fc v ≡ 0
+  pub f3t : (v : ℕ) → st v ≢ FIND → te v ≡ none
+  pub f3c : (v : ℕ) → st v ≢ FIND → fc v ≡ 0
   -- procedures test and report are executed in Find
-  pub f5t : (v : ℕ) → ot ≡ suc v → st v ≡ 1
-  pub f5p : (v : ℕ) → op ≡ suc v → st v ≡ 1
+  pub f5t : (v : ℕ) → ot ≡ suc v → st v ≡ FIND
+  pub f5p : (v : ℕ) → op ≡ suc v → st v ≡ FIND
 
 -- the find-count is the number of edges over which a Report is owed (what is owed: Traffic)
 pub record FindCounts (p : Network) (fc : ℕ → ℕ) (owe : ℕ → ℕ → ℕ) : Type 0 where
@@ -66,12 +67,12 @@ pub record Tests (p : Network) (te ib : ℕ → ℕ) (mark : ℕ → ℕ → ℕ
   -- it is an own edge,
   pub e2o : (v : ℕ) → te v ≢ none → (u : ℕ) × Edge p (te v) v u
   -- and while v waits: earlier own edges are not Basic,
-  pub e2b : (k v u j w : ℕ) → Edge p k v u → Awaits te ot v k → Edge p j v w → mark v j ≡ 0 → rank p k ≤ rank p j
+  pub e2b : (k v u j w : ℕ) → Edge p k v u → Awaits te ot v k → Edge p j v w → mark v j ≡ BASIC → rank p k ≤ rank p j
   -- it is not Rejected; if joined, it is neither the in-branch nor the test edge of the other end
-  pub e2r : (k v u : ℕ) → Edge p k v u → Awaits te ot v k → mark v k ≢ 2
+  pub e2r : (k v u : ℕ) → Edge p k v u → Awaits te ot v k → mark v k ≢ REJECTED
   pub e2i : (k v u : ℕ) → Edge p k v u → Awaits te ot v k → Both mark k v u → (ib v ≢ k) × (te u ≢ k)
   -- Rejected at v and Basic at u: u waits for the answer
-  pub m6 : (k v u : ℕ) → Edge p k v u → mark v k ≡ 2 → mark u k ≡ 0 → Awaits te ot u k
+  pub m6 : (k v u : ℕ) → Edge p k v u → mark v k ≡ REJECTED → mark u k ≡ BASIC → Awaits te ot u k
 
 -- the best weight of an informed node v
 pub record Weights (p : Network) (lev fr gl bw be side : ℕ → ℕ) : Type 0 where

@@ -1,4 +1,5 @@
 -- v, which is Find, weighs w, which came over its own edge k, against its best: the clauses on best weights and best edges (`inv-weighed`).
+use Rattle.base.specs.Names.{FOUND}
 use Rattle.protocol.specs.Prelude.{ℕ, _≤_, _<_, arith, _≡_, sym, ap, subst, _∙_, _≢_, _⊎_, inl, ⊎-elim, by-eq}
 use Rattle.protocol.specs.Prelude.{List, upd, upd-elim, upd-same, upd-other, sumL, Msg, none}
 use Rattle.protocol.specs.Prelude.{Network, Edge, key, joins-lt, edge-some, key-none, key-edge, rank-lt, ProtocolState, Better, set-bw, set-be, set-te, set-fc, set-owe, set-op, set-ch, isR}
@@ -14,7 +15,7 @@ LeavesFragment p s v w = (x : ℕ) × (y : ℕ) × Edge p w x y × (s.fr x ≡ s
 
 -- x's best edge j leads to a child with best weight n whose Report has been consumed; c′ are the channels
 abbrev pub Kid : Network → ProtocolState → (ℕ → ℕ) → (ℕ → ℕ → List Msg) → ℕ → ℕ → ℕ → Type 0
-Kid p s bw c′ x j n = (c : ℕ) × Edge p j x c × Jn s j x c × (s.ib x ≢ j) × Inf s c × (s.ib c ≡ j) × (bw c ≡ n) × (s.st c ≡ 2) × (sumL isR (c′ c j) ≡ 0)
+Kid p s bw c′ x j n = (c : ℕ) × Edge p j x c × Jn s j x c × (s.ib x ≢ j) × Inf s c × (s.ib c ≡ j) × (bw c ≡ n) × (s.st c ≡ FOUND) × (sumL isR (c′ c j) ≡ 0)
 
 module _ {p : Network} {s : ProtocolState} (i : Inv p s) {u v w k b e : ℕ} (calm : s.oo ≡ 0) (find : s.st v ≡ 1) (ends : Edge p k v u)
     (better : Better p s v w k b e) (leaves : w ≢ none → LeavesFragment p s v w) where
