@@ -26,12 +26,12 @@ module _ (p : Plan) (a : Accepted p) (s : State) (g : Good p a s) where
   halt-of : (v : ℕ) → v < modulesOf p → g.at.halt v ≡ nodeAt s v .halted
   halt-of v l = halt-is (node-shown p a s g v l)
 
-  -- EVERY BRANCH IS A TREE LINK (M5)
+  -- EVERY BRANCH IS A TREE LINK (m5)
   pub branch-tree : (v k : ℕ) → markAt p s v k ≡ BRANCH → TreeLink p k
   branch-tree v k m =
       let q : g.at.mark v k ≡ 1 = mark-of v k ∙ m in
-      let e = g.reach.inv.M1.own v k (λ z. omega arith) in
-      g.reach.inv.M1.m5 k v (e .0) (e .1) q
+      let e = g.reach.inv.marks.own v k (λ z. omega arith) in
+      g.reach.inv.marks.m5 k v (e .0) (e .1) q
 
   -- at rest, with module w awake: its part is finished
   module _ (w : ℕ) (k : Awake p s w) (z : s .words ≡ []) where

@@ -7,28 +7,9 @@ use lib.Dec.{eqb}
 use lib.ListN.{getD, set}
 use Rattle.base.specs.Cond.{bit, upd}
 use Rattle.base.specs.None.{beforeBy}
+pub use Rattle.base.specs.Names.{ASLEEP, FIND, FOUND, BASIC, BRANCH, REJECTED}
 use Rattle.format_message.specs.Msg.{Msg, none}
 use Rattle.node.specs.declared.Node.{Node}
-
--- "status (0 asleep, 1 Find, 2 Found)"
-abbrev pub ASLEEP : ℕ
-ASLEEP = 0
-
-abbrev pub FIND : ℕ
-FIND = 1
-
-abbrev pub FOUND : ℕ
-FOUND = 2
-
--- "a mark for each own link: 0 Basic, 1 Branch, 2 Rejected"
-abbrev pub BASIC : ℕ
-BASIC = 0
-
-abbrev pub BRANCH : ℕ
-BRANCH = 1
-
-abbrev pub REJECTED : ℕ
-REJECTED = 2
 
 -- the answer to a message
 abbrev pub TAKEN : ℕ

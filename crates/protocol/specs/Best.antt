@@ -43,12 +43,12 @@ module _ (p : Network) (s : ProtocolState) (bw be : ℕ → ℕ) where
 
     pub flow-best : Flow p s → Flow p rated
     flow-best o = record {
-      G6c = record { g6o = o.G6c.g6o; g6i = o.G6c.g6i };
-      Dc = tokens-best o.Dc;
-      C1 = record { c1m = o.C1.c1m; c1 = o.C1.c1 };
-      I1 = record { i1 = o.I1.i1 };
-      T4 = record { u2 = o.T4.u2; t2i = o.T4.t2i; t4 = o.T4.t4; t4n = o.T4.t4n };
-      R1 = reports-best o.R1;
-      F4c = record { f4y = o.F4c.f4y; f4n = o.F4c.f4n };
-      Q1 = record { q1 = o.Q1.q1 };
+      hush = record { g6o = o.hush.g6o; g6i = o.hush.g6i };
+      tokens = tokens-best o.tokens;
+      connects = record { c1m = o.connects.c1m; c1 = o.connects.c1 };
+      initiates = record { i1 = o.initiates.i1 };
+      telling = record { u2 = o.telling.u2; t2i = o.telling.t2i; t4 = o.telling.t4; t4n = o.telling.t4n };
+      reports = reports-best o.reports;
+      owing = record { f4y = o.owing.f4y; f4n = o.owing.f4n };
+      ordered = record { q1 = o.ordered.q1 };
     }

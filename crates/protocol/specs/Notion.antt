@@ -3,6 +3,7 @@ use Prim.Native.Nat.{ℕ, suc, _≤_, _<_}
 use mathlib.Core.Path.{_≡_}
 use mathlib.Core.Logic.{_≢_, _⊎_}
 use Rattle.base.specs.Pool.{sumL}
+use Rattle.base.specs.Names.{FIND, FOUND, BASIC, BRANCH}
 use Rattle.graph.specs.laws.Size.{partSize}
 use Rattle.format_message.specs.Msg.{Msg, none, initiate, report}
 use Rattle.protocol.specs.Network.{Network, Edge, key, rank}
@@ -16,7 +17,7 @@ Informed lev fr gl v = (1 ≤ gl (fr v)) × (lev v ≡ gl (fr v))
 
 -- edge k is Branch at both its ends a and b
 abbrev pub Both : (ℕ → ℕ → ℕ) → ℕ → ℕ → ℕ → Type 0
-Both mark k a b = (mark a k ≡ 1) × (mark b k ≡ 1)
+Both mark k a b = (mark a k ≡ BRANCH) × (mark b k ≡ BRANCH)
 
 -- the same of k alone
 abbrev pub JoinedEdge : Network → (ℕ → ℕ → ℕ) → ℕ → Type 0
@@ -24,7 +25,7 @@ JoinedEdge p mark k = Both mark k (p.g.lo k) (p.g.hi k)
 
 -- no edge that a node of a's fragment has marked Basic has a rank below n
 abbrev pub Bounding : Network → (ℕ → ℕ) → (ℕ → ℕ → ℕ) → ℕ → ℕ → Type 0
-Bounding p fr mark n a = (u j w : ℕ) → fr u ≡ fr a → Edge p j u w → mark u j ≡ 0 → n ≤ rank p j
+Bounding p fr mark n a = (u j w : ℕ) → fr u ≡ fr a → Edge p j u w → mark u j ≡ BASIC → n ≤ rank p j
 
 -- the decision of z's fragment is of kind d, with node z and edge k
 abbrev pub Decision : ℕ → (ℕ → ℕ) → (ℕ → ℕ) → (ℕ → ℕ) → (ℕ → ℕ) → ℕ → ℕ → Type 0
@@ -80,11 +81,11 @@ Waits s u k = Awaits s.te s.ot u k
 
 -- the Report of c, over k, is still to come
 abbrev pub Outst : ProtocolState → ℕ → ℕ → Type 0
-Outst s c k = (Inf s c × ((s.st c ≡ 1) ⊎ (1 ≤ sumL isR (s.ch c k)))) ⊎ ((s.lev c < GL s c) × (s.due c ≡ 1))
+Outst s c k = (Inf s c × ((s.st c ≡ FIND) ⊎ (1 ≤ sumL isR (s.ch c k)))) ⊎ ((s.lev c < GL s c) × (s.due c ≡ 1))
 
 -- the best weight of x still counts: x is Find, or a core end, or its Report is on its way
 abbrev pub Counting : ProtocolState → ℕ → Type 0
-Counting s x = (s.st x ≡ 1) ⊎ ((s.ib x ≡ GC s x) ⊎ (1 ≤ sumL isR (s.ch x (s.ib x))))
+Counting s x = (s.st x ≡ FIND) ⊎ ((s.ib x ≡ GC s x) ⊎ (1 ≤ sumL isR (s.ch x (s.ib x))))
 
 -- some live best weight in u's fragment has a rank of at most n
 abbrev pub Covered : Network → ProtocolState → ℕ → ℕ → Type 0
@@ -94,16 +95,16 @@ Covered p s u n = (x : ℕ) × (s.fr x ≡ s.fr u) × Inf s x × (s.bw x ≢ non
 -- a child's, to its parent that searches,
 abbrev pub Child : ProtocolState → ℕ → ℕ → ℕ → ℕ → Type 0
 Child s u v k w =
-    Inf s u × (s.ib u ≡ k) × (GC s u ≢ k) × (s.st u ≡ 2) × (s.bw u ≡ w) × Inf s v × (s.st v ≡ 1) × (sumL isCI (s.ch u k) ≡ 0)
+    Inf s u × (s.ib u ≡ k) × (GC s u ≢ k) × (s.st u ≡ FOUND) × (s.bw u ≡ w) × Inf s v × (s.st v ≡ FIND) × (sumL isCI (s.ch u k) ≡ 0)
 
 -- one between the core ends (no Connect or Initiate behind it; ahead of it none, or the receiver's Initiate),
 abbrev pub CoreEnds : ProtocolState → ℕ → ℕ → ℕ → ℕ → Type 0
 CoreEnds s u v k w =
-    (GC s u ≡ k) × (DK s u ≡ 0) × Inf s u × (s.st u ≡ 2) × (s.bw u ≡ w) × ((m : Msg) → Bef (report w) m (s.ch u k) → isCI m ≡ 0)
+    (GC s u ≡ k) × (DK s u ≡ 0) × Inf s u × (s.st u ≡ FOUND) × (s.bw u ≡ w) × ((m : Msg) → Bef (report w) m (s.ch u k) → isCI m ≡ 0)
     × ((Inf s v × (sumL isCI (s.ch u k) ≡ 0)) ⊎ ((s.lev v < GL s v) × In (initiate (GL s v) k 1) (s.ch u k)))
 
 -- or one that will do nothing (no Connect or Initiate ahead of it), but for none against none in a finished fragment
 abbrev pub Spent : Network → ProtocolState → ℕ → ℕ → ℕ → ℕ → Type 0
 Spent p s u v k w =
-    (s.ib v ≡ k) × (s.id v ≡ k) × (s.ub v ≡ k) × (s.st v ≡ 2) × ((m : Msg) → Bef m (report w) (s.ch u k) → isCI m ≡ 0)
+    (s.ib v ≡ k) × (s.id v ≡ k) × (s.ub v ≡ k) × (s.st v ≡ FOUND) × ((m : Msg) → Bef m (report w) (s.ch u k) → isCI m ≡ 0)
     × ((key p w < key p (s.bw v)) ⊎ ((w ≡ none) × (s.bw v ≡ none) × (DK s v ≡ 4) × (GC s v ≡ k)))

@@ -84,12 +84,12 @@ module _ (p : Network) (s : ProtocolState) (v k : ℕ) {m : Msg} (h : Plain m) w
   pub flow-post : s.st v ≢ 0 → ((u : ℕ) → Edge p k v u → s.st u ≡ 0 → Rouse m) → (Half s v k → Only (GL s v) m) → ((x : Msg) → In x (s.ch v k) → Fits x m)
       → Flow p s → Flow p (set-ch s posted)
   flow-post a b c d o = record {
-    G6c = post-hush a b o.G6c;
-    Dc = post-tokens c o.Dc;
-    C1 = connects-same p s posted (λ w j l n. post-before isC (omega (arith, h.no-call, call-parts m)) (omega arith) w j n) o.C1;
-    I1 = initiates-same p s posted (λ w j l f x n. post-before isI (omega (arith, h.no-call, call-parts m)) (omega arith) w j n) o.I1;
-    T4 = post-telling p s v k m (h.no-call) o.T4;
-    R1 = reports-same p s posted post-alike o.R1;
-    F4c = owing-same p s posted (snoc-sum s.ch v k m isR (h.no-rep)) o.F4c;
-    Q1 = post-ordered d o.Q1;
+    hush = post-hush a b o.hush;
+    tokens = post-tokens c o.tokens;
+    connects = connects-same p s posted (λ w j l n. post-before isC (omega (arith, h.no-call, call-parts m)) (omega arith) w j n) o.connects;
+    initiates = initiates-same p s posted (λ w j l f x n. post-before isI (omega (arith, h.no-call, call-parts m)) (omega arith) w j n) o.initiates;
+    telling = post-telling p s v k m (h.no-call) o.telling;
+    reports = reports-same p s posted post-alike o.reports;
+    owing = owing-same p s posted (snoc-sum s.ch v k m isR (h.no-rep)) o.owing;
+    ordered = post-ordered d o.ordered;
   }

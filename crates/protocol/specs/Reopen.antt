@@ -10,12 +10,12 @@ module _ (p : Network) (s : ProtocolState) (te be fc : ℕ → ℕ) (ot op oo : 
 
   pub flow-open : Flow p s → Flow p reopened
   flow-open o = record {
-    G6c = record { g6o = o.G6c.g6o; g6i = o.G6c.g6i };
-    Dc = record { d1c = o.Dc.d1c; d1a = o.Dc.d1a; d2c = o.Dc.d2c; k1 = o.Dc.k1; d3r = o.Dc.d3r; d4h = o.Dc.d4h; d4r = o.Dc.d4r; d7 = o.Dc.d7 };
-    C1 = record { c1m = o.C1.c1m; c1 = o.C1.c1 };
-    I1 = record { i1 = o.I1.i1 };
-    T4 = record { u2 = o.T4.u2; t2i = o.T4.t2i; t4 = o.T4.t4; t4n = o.T4.t4n };
-    R1 = record { r1r = o.R1.r1r; r1j = o.R1.r1j; r1 = o.R1.r1; r1c = o.R1.r1c };
-    F4c = record { f4y = o.F4c.f4y; f4n = o.F4c.f4n };
-    Q1 = record { q1 = o.Q1.q1 };
+    hush = record { g6o = o.hush.g6o; g6i = o.hush.g6i };
+    tokens = record { d1c = o.tokens.d1c; d1a = o.tokens.d1a; d2c = o.tokens.d2c; k1 = o.tokens.k1; d3r = o.tokens.d3r; d4h = o.tokens.d4h; d4r = o.tokens.d4r; d7 = o.tokens.d7 };
+    connects = record { c1m = o.connects.c1m; c1 = o.connects.c1 };
+    initiates = record { i1 = o.initiates.i1 };
+    telling = record { u2 = o.telling.u2; t2i = o.telling.t2i; t4 = o.telling.t4; t4n = o.telling.t4n };
+    reports = record { r1r = o.reports.r1r; r1j = o.reports.r1j; r1 = o.reports.r1; r1c = o.reports.r1c };
+    owing = record { f4y = o.owing.f4y; f4n = o.owing.f4n };
+    ordered = record { q1 = o.ordered.q1 };
   }

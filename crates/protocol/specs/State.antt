@@ -3,10 +3,11 @@
 -- An edge that may be missing is a number, 65535 (`none`) for none.
 use Prim.Native.Nat.{ℕ}
 use mathlib.Core.List.{List, []}
+use Rattle.base.specs.Names.{ASLEEP, BASIC}
 use Rattle.format_message.specs.Msg.{Msg, none}
 
 pub record ProtocolState : Type 0 where
-  -- status: 0 asleep, 1 Find, 2 Found
+  -- status: ASLEEP, FIND or FOUND
   pub st : ℕ → ℕ
   -- level
   pub lev : ℕ → ℕ
@@ -24,7 +25,7 @@ pub record ProtocolState : Type 0 where
   pub fc : ℕ → ℕ
   -- 1 for halted
   pub halt : ℕ → ℕ
-  -- mark of node v for edge k: 0 Basic, 1 Branch, 2 Rejected
+  -- mark of node v for edge k: BASIC, BRANCH or REJECTED
   pub mark : ℕ → ℕ → ℕ
   -- channel: what node v has sent over edge k and is not consumed, the oldest first
   pub ch : ℕ → ℕ → List Msg
@@ -137,4 +138,4 @@ set-oo s x = record { st = s.st; lev = s.lev; id = s.id; bw = s.bw; be = s.be; t
 
 -- everybody asleep, no message under way, each node a fragment of its own
 abbrev pub setupState : ProtocolState
-setupState = record { st = λ v. 0; lev = λ v. 0; id = λ v. none; bw = λ v. none; be = λ v. none; te = λ v. none; ib = λ v. none; fc = λ v. 0; halt = λ v. 0; mark = λ v k. 0; ch = λ v k. []; fr = λ v. v; gl = λ a. 0; gc = λ a. none; dk = λ a. 0; dn = λ a. 0; de = λ a. 0; due = λ v. 0; dep = λ v. 0; side = λ v. v; ub = λ v. none; owe = λ v k. 0; ot = 0; op = 0; oo = 0 }
+setupState = record { st = λ v. ASLEEP; lev = λ v. 0; id = λ v. none; bw = λ v. none; be = λ v. none; te = λ v. none; ib = λ v. none; fc = λ v. 0; halt = λ v. 0; mark = λ v k. BASIC; ch = λ v k. []; fr = λ v. v; gl = λ a. 0; gc = λ a. none; dk = λ a. 0; dn = λ a. 0; de = λ a. 0; due = λ v. 0; dep = λ v. 0; side = λ v. v; ub = λ v. none; owe = λ v k. 0; ot = 0; op = 0; oo = 0 }

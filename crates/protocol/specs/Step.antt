@@ -8,6 +8,7 @@ use mathlib.Core.List.{List, [], _∷_, _++_}
 use lib.Dec.{eqb}
 use Rattle.base.specs.Cond.{upd, upd2, bit}
 use Rattle.base.specs.Sum.{sum}
+use Rattle.base.specs.Names.{ASLEEP, FIND, FOUND, BASIC, BRANCH, REJECTED}
 use Rattle.format_message.specs.Msg.{Msg, none, connect, initiate, test, accept, reject, report, change}
 use Rattle.protocol.specs.Network.{Network, Edge, key, rank}
 use Rattle.protocol.specs.State.{ProtocolState, set-st, set-lev, set-id, set-bw, set-be, set-te, set-ib, set-fc, set-halt, set-mark, set-ch, set-fr, set-gl}
@@ -21,12 +22,12 @@ Idle s = (s.ot ≡ 0) × (s.op ≡ 0) × (s.oo ≡ 0)
 
 -- m, which came over k, is put back by v
 abbrev pub Blocked : ProtocolState → ℕ → ℕ → Msg → Type 0
-Blocked s v k (connect l) = (s.lev v ≤ l) × (s.mark v k ≡ 0)
+Blocked s v k (connect l) = (s.lev v ≤ l) × (s.mark v k ≡ BASIC)
 Blocked s v k (initiate l f x) = ⊥
 Blocked s v k (test l f) = s.lev v < l
 Blocked s v k accept = ⊥
 Blocked s v k reject = ⊥
-Blocked s v k (report w) = (s.ib v ≡ k) × (s.st v ≡ 1)
+Blocked s v k (report w) = (s.ib v ≡ k) × (s.st v ≡ FIND)
 Blocked s v k change = ⊥
 
 -- k is the earliest own edge of v
@@ -35,11 +36,11 @@ FirstOwn p v k = (j w : ℕ) → Edge p j v w → rank p k ≤ rank p j
 
 -- k is the earliest own edge of v with mark Basic
 abbrev pub FirstBasic : Network → ProtocolState → ℕ → ℕ → Type 0
-FirstBasic p s v k = (s.mark v k ≡ 0) × ((j w : ℕ) → Edge p j v w → s.mark v j ≡ 0 → rank p k ≤ rank p j)
+FirstBasic p s v k = (s.mark v k ≡ BASIC) × ((j w : ℕ) → Edge p j v w → s.mark v j ≡ BASIC → rank p k ≤ rank p j)
 
 -- x is v's Find bit
 abbrev pub Flag : ProtocolState → ℕ → ℕ → Type 0
-Flag s v x = ((s.st v ≡ 1) × (x ≡ 1)) ⊎ ((s.st v ≢ 1) × (x ≡ 0))
+Flag s v x = ((s.st v ≡ FIND) × (x ≡ 1)) ⊎ ((s.st v ≢ FIND) × (x ≡ 0))
 
 -- weight w, from edge k, against v's best: b and e are the new best weight and best edge
 abbrev pub Better : Network → ProtocolState → ℕ → ℕ → ℕ → ℕ → ℕ → Type 0
@@ -47,11 +48,11 @@ Better p s v w k b e = ((key p w < key p (s.bw v)) × (b ≡ w) × (e ≡ k)) �
 
 -- c is v's mark for k once Basic has become Rejected
 abbrev pub Strike : ProtocolState → ℕ → ℕ → ℕ → Type 0
-Strike s v k c = ((s.mark v k ≡ 0) × (c ≡ 2)) ⊎ ((s.mark v k ≢ 0) × (c ≡ s.mark v k))
+Strike s v k c = ((s.mark v k ≡ BASIC) × (c ≡ REJECTED)) ⊎ ((s.mark v k ≢ BASIC) × (c ≡ s.mark v k))
 
 -- an Initiate with Find bit x makes v's status a; b is the open test afterwards
 abbrev pub Mode : ℕ → ℕ → ℕ → ℕ → Type 0
-Mode v x a b = ((x ≡ 1) × (a ≡ 1) × (b ≡ suc v)) ⊎ ((x ≡ 0) × (a ≡ 2) × (b ≡ 0))
+Mode v x a b = ((x ≡ 1) × (a ≡ FIND) × (b ≡ suc v)) ⊎ ((x ≡ 0) × (a ≡ FOUND) × (b ≡ 0))
 
 -- depth d and side e of v, told by u over k
 abbrev pub Place : ProtocolState → ℕ → ℕ → ℕ → ℕ → ℕ → Type 0
@@ -80,7 +81,7 @@ wokenUp s v =
     (set-be
     (set-id
     (set-lev
-    (set-st s (upd s.st v 2))
+    (set-st s (upd s.st v FOUND))
     (upd s.lev v 0))
     (upd s.id v none))
     (upd s.be v none))
@@ -95,7 +96,7 @@ decided s v d n k = set-de (set-dn (set-dk s (upd s.dk (s.fr v) d)) (upd s.dn (s
 
 -- v sends Connect of level l over k and marks it Branch
 abbrev pub halved : ProtocolState → ℕ → ℕ → ℕ → ProtocolState
-halved s v k l = decided (set-ub (remarked (sendOver s v k (connect l)) v k 1) (upd s.ub v k)) v 3 v k
+halved s v k l = decided (set-ub (remarked (sendOver s v k (connect l)) v k BRANCH) (upd s.ub v k)) v 3 v k
 
 -- those of label a get x
 unfoldable pub bulk : {A : Type 0} → (ℕ → ℕ) → ℕ → A → (ℕ → A) → ℕ → A
@@ -121,7 +122,7 @@ absorbed s u v k x =
     (set-fc
     (set-due
     (set-fr
-    (remarked (sendOver s v k (initiate (s.lev v) (s.id v) x)) v k 1)
+    (remarked (sendOver s v k (initiate (s.lev v) (s.id v) x)) v k BRANCH)
     (bulk s.fr (s.fr u) (s.fr v) s.fr))
     (bulk s.fr (s.fr u) (s.due v) s.due))
     (upd s.fc v (s.fc v + x)))
@@ -129,7 +130,7 @@ absorbed s u v k x =
 
 -- (4) the edges over which v, told over k, sends a copy
 unfoldable pub copy : ProtocolState → ℕ → ℕ → ℕ → Bool
-copy s v k j = not (eqb j k) && eqb (s.mark v j) 1
+copy s v k j = not (eqb j k) && eqb (s.mark v j) BRANCH
 
 -- m goes to the end of the channel from v over each edge with f
 unfoldable pub fan : (ℕ → ℕ → List Msg) → ℕ → (ℕ → Bool) → Msg → ℕ → ℕ → List Msg
@@ -176,33 +177,33 @@ rooted s v = set-oo (set-dn (set-dk s (upd s.dk (s.fr v) 1)) (upd s.dn (s.fr v) 
 
 -- (9) v sends its Report over k
 abbrev pub reportSent : ProtocolState → ℕ → ℕ → ProtocolState
-reportSent s v k = set-op (set-due (set-st (sendOver s v k (report (s.bw v))) (upd s.st v 2)) (upd s.due v 0)) 0
+reportSent s v k = set-op (set-due (set-st (sendOver s v k (report (s.bw v))) (upd s.st v FOUND)) (upd s.due v 0)) 0
 
 -- ---- the steps
 
 pub data Step (p : Network) (s : ProtocolState) : ProtocolState → Type 0 where
   -- (2) wakeup of a node without edges, of one whose earliest edge k is no branch at the other end y, of one where it is
-  wake-lone : {v : ℕ} → Idle s → v < p.N → s.st v ≡ 0 → ((k u : ℕ) → Edge p k v u → ⊥)
+  wake-lone : {v : ℕ} → Idle s → v < p.N → s.st v ≡ ASLEEP → ((k u : ℕ) → Edge p k v u → ⊥)
       → Step p s (set-halt (set-dk (wokenUp s v) (upd s.dk (s.fr v) 4)) (upd s.halt v 1))
-  wake-half : {v k y : ℕ} → Idle s → Edge p k v y → s.st v ≡ 0 → FirstOwn p v k → s.mark y k ≢ 1 → Step p s (halved (wokenUp s v) v k 0)
-  wake-merge : {v k y : ℕ} → Idle s → Edge p k v y → s.st v ≡ 0 → FirstOwn p v k → s.mark y k ≡ 1 → Step p s (merged (halved (wokenUp s v) v k 0) v y k)
+  wake-half : {v k y : ℕ} → Idle s → Edge p k v y → s.st v ≡ ASLEEP → FirstOwn p v k → s.mark y k ≢ BRANCH → Step p s (halved (wokenUp s v) v k 0)
+  wake-merge : {v k y : ℕ} → Idle s → Edge p k v y → s.st v ≡ ASLEEP → FirstOwn p v k → s.mark y k ≡ BRANCH → Step p s (merged (halved (wokenUp s v) v k 0) v y k)
   -- a put-back: the message at the head goes to a later place
-  back : {u v k : ℕ} {m : Msg} (a b : List Msg) → Idle s → Edge p k u v → s.st v ≢ 0 → s.ch u k ≡ m ∷ (a ++ b) → Blocked s v k m
+  back : {u v k : ℕ} {m : Msg} (a b : List Msg) → Idle s → Edge p k u v → s.st v ≢ ASLEEP → s.ch u k ≡ m ∷ (a ++ b) → Blocked s v k m
       → Step p s (pop s u k (a ++ (m ∷ b)))
   -- (3) Connect: of a lower level; of the same level, on an edge that is not Basic
-  absorb : {u v k l x : ℕ} {r : List Msg} → Idle s → Edge p k u v → s.st v ≢ 0 → s.ch u k ≡ connect l ∷ r → l < s.lev v → Flag s v x
+  absorb : {u v k l x : ℕ} {r : List Msg} → Idle s → Edge p k u v → s.st v ≢ ASLEEP → s.ch u k ≡ connect l ∷ r → l < s.lev v → Flag s v x
       → Step p s (absorbed (pop s u k r) u v k x)
-  core-reply : {u v k l : ℕ} {r : List Msg} → Idle s → Edge p k u v → s.st v ≢ 0 → s.ch u k ≡ connect l ∷ r → s.lev v ≤ l → s.mark v k ≢ 0
+  core-reply : {u v k l : ℕ} {r : List Msg} → Idle s → Edge p k u v → s.st v ≢ ASLEEP → s.ch u k ≡ connect l ∷ r → s.lev v ≤ l → s.mark v k ≢ BASIC
       → Step p s (sendOver (pop s u k r) v k (initiate (s.lev v + 1) k 1))
   -- (4) Initiate
   tell : {u v k l f x a b d e : ℕ} {r : List Msg} → Idle s → Edge p k u v → s.ch u k ≡ initiate l f x ∷ r → Mode v x a b → Place s u v k d e
       → Step p s (initiated p (pop s u k r) v k l f x a d e b)
   -- (6) Test: of another fragment; of the same; of the same over v's own test edge
-  accept-test : {u v k l f : ℕ} {r : List Msg} → Idle s → Edge p k u v → s.st v ≢ 0 → s.ch u k ≡ test l f ∷ r → l ≤ s.lev v → s.id v ≢ f
+  accept-test : {u v k l f : ℕ} {r : List Msg} → Idle s → Edge p k u v → s.st v ≢ ASLEEP → s.ch u k ≡ test l f ∷ r → l ≤ s.lev v → s.id v ≢ f
       → Step p s (sendOver (pop s u k r) v k accept)
-  reject-test : {u v k l f c : ℕ} {r : List Msg} → Idle s → Edge p k u v → s.st v ≢ 0 → s.ch u k ≡ test l f ∷ r → l ≤ s.lev v → s.id v ≡ f → s.te v ≢ k
+  reject-test : {u v k l f c : ℕ} {r : List Msg} → Idle s → Edge p k u v → s.st v ≢ ASLEEP → s.ch u k ≡ test l f ∷ r → l ≤ s.lev v → s.id v ≡ f → s.te v ≢ k
       → Strike s v k c → Step p s (sendOver (remarked (pop s u k r) v k c) v k reject)
-  crossed-test : {u v k l f c : ℕ} {r : List Msg} → Idle s → Edge p k u v → s.st v ≢ 0 → s.ch u k ≡ test l f ∷ r → l ≤ s.lev v → s.id v ≡ f → s.te v ≡ k
+  crossed-test : {u v k l f c : ℕ} {r : List Msg} → Idle s → Edge p k u v → s.st v ≢ ASLEEP → s.ch u k ≡ test l f ∷ r → l ≤ s.lev v → s.id v ≡ f → s.te v ≡ k
       → Strike s v k c → Step p s (set-ot (remarked (pop s u k r) v k c) (suc v))
   -- (7) Accept, (8) Reject
   accepted : {u v k b e : ℕ} {r : List Msg} → Idle s → Edge p k u v → s.ch u k ≡ accept ∷ r → Better p s v k k b e
@@ -212,26 +213,26 @@ pub data Step (p : Network) (s : ProtocolState) : ProtocolState → Type 0 where
   -- (10) Report: of a child; between the ends of the core, where it does nothing, halts, or decides
   child-report : {u v k w b e : ℕ} {r : List Msg} → Idle s → Edge p k u v → s.ch u k ≡ report w ∷ r → s.ib v ≢ k → Better p s v w k b e
       → Step p s (set-op (set-owe (set-fc (bested (pop s u k r) v b e) (upd s.fc v (s.fc v - 1))) (upd2 s.owe v k 0)) (suc v))
-  core-nothing : {u v k w : ℕ} {r : List Msg} → Idle s → Edge p k u v → s.ch u k ≡ report w ∷ r → s.ib v ≡ k → s.st v ≢ 1 → key p w ≤ key p (s.bw v)
+  core-nothing : {u v k w : ℕ} {r : List Msg} → Idle s → Edge p k u v → s.ch u k ≡ report w ∷ r → s.ib v ≡ k → s.st v ≢ FIND → key p w ≤ key p (s.bw v)
       → (w ≢ none) ⊎ (s.bw v ≢ none) → Step p s (pop s u k r)
-  core-halt : {u v k w : ℕ} {r : List Msg} → Idle s → Edge p k u v → s.ch u k ≡ report w ∷ r → s.ib v ≡ k → s.st v ≢ 1 → w ≡ none → s.bw v ≡ none
+  core-halt : {u v k w : ℕ} {r : List Msg} → Idle s → Edge p k u v → s.ch u k ≡ report w ∷ r → s.ib v ≡ k → s.st v ≢ FIND → w ≡ none → s.bw v ≡ none
       → Step p s (set-halt (set-dk (pop s u k r) (upd s.dk (s.fr v) 4)) (upd s.halt v 1))
-  decide : {u v k w : ℕ} {r : List Msg} → Idle s → Edge p k u v → s.ch u k ≡ report w ∷ r → s.ib v ≡ k → s.st v ≢ 1 → key p (s.bw v) < key p w
+  decide : {u v k w : ℕ} {r : List Msg} → Idle s → Edge p k u v → s.ch u k ≡ report w ∷ r → s.ib v ≡ k → s.st v ≢ FIND → key p (s.bw v) < key p w
       → Step p s (rooted (pop s u k r) v)
   -- (12) Change-root
   change-root : {u v k : ℕ} {r : List Msg} → Idle s → Edge p k u v → s.ch u k ≡ change ∷ r → Step p s (rooted (pop s u k r) v)
   -- (5) procedure test
   test-next : {v k u : ℕ} → s.ot ≡ suc v → s.op ≡ 0 → s.oo ≡ 0 → Edge p k v u → FirstBasic p s v k
       → Step p s (set-ot (set-te (sendOver s v k (test (s.lev v) (s.id v))) (upd s.te v k)) 0)
-  test-none : {v : ℕ} → s.ot ≡ suc v → s.op ≡ 0 → s.oo ≡ 0 → ((k u : ℕ) → Edge p k v u → s.mark v k ≢ 0)
+  test-none : {v : ℕ} → s.ot ≡ suc v → s.op ≡ 0 → s.oo ≡ 0 → ((k u : ℕ) → Edge p k v u → s.mark v k ≢ BASIC)
       → Step p s (set-op (set-ot (set-te s (upd s.te v none)) 0) (suc v))
   -- (9) procedure report
   report-now : {v k u : ℕ} → s.ot ≡ 0 → s.op ≡ suc v → s.oo ≡ 0 → Edge p k v u → s.ib v ≡ k → s.fc v ≡ 0 → s.te v ≡ none → Step p s (reportSent s v k)
   report-later : {v : ℕ} → s.ot ≡ 0 → s.op ≡ suc v → s.oo ≡ 0 → (s.fc v ≢ 0) ⊎ (s.te v ≢ none) → Step p s (set-op s 0)
   -- (11) procedure change-root, for best edge k
-  root-branch : {v k c : ℕ} → s.ot ≡ 0 → s.op ≡ 0 → s.oo ≡ suc v → Edge p k v c → s.be v ≡ k → s.mark v k ≡ 1
+  root-branch : {v k c : ℕ} → s.ot ≡ 0 → s.op ≡ 0 → s.oo ≡ suc v → Edge p k v c → s.be v ≡ k → s.mark v k ≡ BRANCH
       → Step p s (set-oo (decided (set-ub (sendOver s v k change) (upd s.ub v k)) v 2 v k) 0)
-  root-half : {v k y : ℕ} → s.ot ≡ 0 → s.op ≡ 0 → s.oo ≡ suc v → Edge p k v y → s.be v ≡ k → s.mark v k ≢ 1 → s.mark y k ≢ 1
+  root-half : {v k y : ℕ} → s.ot ≡ 0 → s.op ≡ 0 → s.oo ≡ suc v → Edge p k v y → s.be v ≡ k → s.mark v k ≢ BRANCH → s.mark y k ≢ BRANCH
       → Step p s (set-oo (halved s v k (s.lev v)) 0)
-  root-merge : {v k y : ℕ} → s.ot ≡ 0 → s.op ≡ 0 → s.oo ≡ suc v → Edge p k v y → s.be v ≡ k → s.mark v k ≢ 1 → s.mark y k ≡ 1
+  root-merge : {v k y : ℕ} → s.ot ≡ 0 → s.op ≡ 0 → s.oo ≡ suc v → Edge p k v y → s.be v ≡ k → s.mark v k ≢ BRANCH → s.mark y k ≡ BRANCH
       → Step p s (set-oo (merged (halved s v k (s.lev v)) v y k) 0)

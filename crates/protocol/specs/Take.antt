@@ -103,12 +103,12 @@ module _ (p : Network) (s : ProtocolState) (u k : ℕ) {m : Msg} {r : List Msg} 
 
   pub flow-take : Flow p s → Flow p (set-ch s c′)
   flow-take o = record {
-    G6c = take-hush p s u k q o.G6c;
-    Dc = take-tokens o.Dc;
-    C1 = take-connects p s u k q o.C1;
-    I1 = take-initiates p s u k q o.I1;
-    T4 = take-telling p s u k q (h.no-call) o.T4;
-    R1 = reports-same p s c′ (take-alike p s u k q (h.no-call)) o.R1;
-    F4c = owing-same p s c′ (pop-sum s.ch u k q isR (h.no-rep)) o.F4c;
-    Q1 = take-ordered p s u k q o.Q1;
+    hush = take-hush p s u k q o.hush;
+    tokens = take-tokens o.tokens;
+    connects = take-connects p s u k q o.connects;
+    initiates = take-initiates p s u k q o.initiates;
+    telling = take-telling p s u k q (h.no-call) o.telling;
+    reports = reports-same p s c′ (take-alike p s u k q (h.no-call)) o.reports;
+    owing = owing-same p s c′ (pop-sum s.ch u k q isR (h.no-rep)) o.owing;
+    ordered = take-ordered p s u k q o.ordered;
   }

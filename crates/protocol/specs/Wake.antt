@@ -22,8 +22,8 @@ pub woken-same : {p : Network} {s : ProtocolState} → Inv p s → (v : ℕ) →
 woken-same {s} i v z =
     ap (λ f. found s v f (upd s.id v none) (upd s.be v none) (upd s.te v none) (upd s.bw v none) (upd s.ib v none) (upd s.fc v 0)) (upd-id s.lev v 0 (sleep-lev i v z))
     ∙ ap (λ f. found s v s.lev f (upd s.be v none) (upd s.te v none) (upd s.bw v none) (upd s.ib v none) (upd s.fc v 0)) (upd-id s.id v none (sleep-id i v z))
-    ∙ ap (λ f. found s v s.lev s.id f (upd s.te v none) (upd s.bw v none) (upd s.ib v none) (upd s.fc v 0)) (upd-id s.be v none (i.G6.g6 v z .g6e))
+    ∙ ap (λ f. found s v s.lev s.id f (upd s.te v none) (upd s.bw v none) (upd s.ib v none) (upd s.fc v 0)) (upd-id s.be v none (i.sleepers.g6 v z .g6e))
     ∙ ap (λ f. found s v s.lev s.id s.be f (upd s.bw v none) (upd s.ib v none) (upd s.fc v 0)) (upd-id s.te v none (sleep-te i v z))
-    ∙ ap (λ f. found s v s.lev s.id s.be s.te f (upd s.ib v none) (upd s.fc v 0)) (upd-id s.bw v none (i.G6.g6 v z .g6w))
+    ∙ ap (λ f. found s v s.lev s.id s.be s.te f (upd s.ib v none) (upd s.fc v 0)) (upd-id s.bw v none (i.sleepers.g6 v z .g6w))
     ∙ ap (λ f. found s v s.lev s.id s.be s.te s.bw f (upd s.fc v 0)) (upd-id s.ib v none (sleep-ib i v z))
     ∙ ap (λ f. found s v s.lev s.id s.be s.te s.bw s.ib f) (upd-id s.fc v 0 (sleep-fc i v z))

@@ -1,4 +1,5 @@
 -- v, which is Find, weighs w, which came over its own edge k, against its best: the clauses on best weights and best edges (`inv-weighed`).
+use Rattle.base.specs.Names.{FOUND}
 use Rattle.protocol.specs.Prelude.{ℕ, _≤_, _<_, arith, _≡_, sym, ap, subst, _∙_, _≢_, _⊎_, inl, ⊎-elim, by-eq}
 use Rattle.protocol.specs.Prelude.{List, upd, upd-elim, upd-same, upd-other, sumL, Msg, none}
 use Rattle.protocol.specs.Prelude.{Network, Edge, key, joins-lt, edge-some, key-none, key-edge, rank-lt, ProtocolState, Better, set-bw, set-be, set-te, set-fc, set-owe, set-op, set-ch, isR}
@@ -14,7 +15,7 @@ LeavesFragment p s v w = (x : ℕ) × (y : ℕ) × Edge p w x y × (s.fr x ≡ s
 
 -- x's best edge j leads to a child with best weight n whose Report has been consumed; c′ are the channels
 abbrev pub Kid : Network → ProtocolState → (ℕ → ℕ) → (ℕ → ℕ → List Msg) → ℕ → ℕ → ℕ → Type 0
-Kid p s bw c′ x j n = (c : ℕ) × Edge p j x c × Jn s j x c × (s.ib x ≢ j) × Inf s c × (s.ib c ≡ j) × (bw c ≡ n) × (s.st c ≡ 2) × (sumL isR (c′ c j) ≡ 0)
+Kid p s bw c′ x j n = (c : ℕ) × Edge p j x c × Jn s j x c × (s.ib x ≢ j) × Inf s c × (s.ib c ≡ j) × (bw c ≡ n) × (s.st c ≡ FOUND) × (sumL isR (c′ c j) ≡ 0)
 
 module _ {p : Network} {s : ProtocolState} (i : Inv p s) {u v w k b e : ℕ} (calm : s.oo ≡ 0) (find : s.st v ≡ 1) (ends : Edge p k v u)
     (better : Better p s v w k b e) (leaves : w ≢ none → LeavesFragment p s v w) where
@@ -25,7 +26,7 @@ module _ {p : Network} {s : ProtocolState} (i : Inv p s) {u v w k b e : ℕ} (ca
   be′ = upd s.be v e
 
   inf : Inf s v
-  inf = i.F1.f1 v find .f1i
+  inf = i.finds.f1 v find .f1i
 
   -- a Found node, and one of a decided fragment, keeps its best weight
   pub bw-found : (x : ℕ) → s.st x ≡ 2 → bw′ x ≡ s.bw x
@@ -49,34 +50,34 @@ module _ {p : Network} {s : ProtocolState} (i : Inv p s) {u v w k b e : ℕ} (ca
 
   -- the new best is w over k, or the old one
   pub cases {κ} : {C : Type κ} → (w ≢ none → b ≡ w → e ≡ k → C) → (b ≡ s.bw v → e ≡ s.be v → C) → C
-  cases y n = ⊎-elim (λ t. y (early-some w (s.bw v) (i.W1.w1w v) (t .0)) (t .1) (t .2)) (λ t. n (t .1) (t .2)) better
+  cases y n = ⊎-elim (λ t. y (early-some w (s.bw v) (i.values.w1w v) (t .0)) (t .1) (t .2)) (λ t. n (t .1) (t .2)) better
 
-  W1′ : Values p bw′ be′
-  W1′ = record {
+  values′ : Values p bw′ be′
+  values′ = record {
     w1w = λ x. upd-elim (λ a. a ≢ none → a < p.g.L) s.bw v b x
-        (λ z n. cases (λ o a c. omega (arith, joins-lt (leaves o .2))) (λ a c. omega (arith, i.W1.w1w v (λ y. n (a ∙ y))))) (λ d n. i.W1.w1w x n);
+        (λ z n. cases (λ o a c. omega (arith, joins-lt (leaves o .2))) (λ a c. omega (arith, i.values.w1w v (λ y. n (a ∙ y))))) (λ d n. i.values.w1w x n);
     w1e = λ x. upd-elim (λ a. a ≢ none → (y : ℕ) × Edge p a x y) s.be v e x
         (λ z n. subst (λ a. (y : ℕ) × Edge p e a y) z
-        (cases (λ o a c. (u, subst (λ a. Edge p a v u) (sym c) ends)) (λ a c. subst (λ a. (y : ℕ) × Edge p a v y) (sym c) (i.W1.w1e v (λ y. n (c ∙ y))))))
-        (λ d n. i.W1.w1e x n);
+        (cases (λ o a c. (u, subst (λ a. Edge p a v u) (sym c) ends)) (λ a c. subst (λ a. (y : ℕ) × Edge p a v y) (sym c) (i.values.w1e v (λ y. n (c ∙ y))))))
+        (λ d n. i.values.w1e x n);
   }
 
-  G6′ : Sleepers p s.st s.fr s.gl s.dk s.due bw′ be′ s.ub s.halt s.mark
-  G6′ = record {
-    g6 = λ x h. let t = i.G6.g6 x h in let n : v ≢ x = λ z. omega (arith, find, ap s.st z) in
+  sleepers′ : Sleepers p s.st s.fr s.gl s.dk s.due bw′ be′ s.ub s.halt s.mark
+  sleepers′ = record {
+    g6 = λ x h. let t = i.sleepers.g6 x h in let n : v ≢ x = λ z. omega (arith, find, ap s.st z) in
         record { g6g = t.g6g; g6d = t.g6d; g6u = t.g6u; g6w = upd-other s.bw v b x n ∙ t.g6w; g6e = upd-other s.be v e x n ∙ t.g6e };
-    g6m = i.G6.g6m;
-    u1a = i.G6.u1a;
-    g7 = i.G6.g7;
-    g7n = i.G6.g7n;
+    g6m = i.sleepers.g6m;
+    u1a = i.sleepers.u1a;
+    g7 = i.sleepers.g7;
+    g7n = i.sleepers.g7n;
   }
 
-  D2′ : ChangeRoots p s.dk s.dn s.de s.fr s.gl s.gc s.lev s.ib s.ub bw′ s.mark
-  D2′ = record {
-    d2f = i.D2.d2f;
-    d2e = i.D2.d2e;
-    d2 = λ j a x f h. let t = i.D2.d2 j a x f h in
-        let z = bw-decided x (λ y. omega (arith, h .0, ap s.dk (i.M1.m3 j a x f (t.d2j)))) in
+  changeRoots′ : ChangeRoots p s.dk s.dn s.de s.fr s.gl s.gc s.lev s.ib s.ub bw′ s.mark
+  changeRoots′ = record {
+    d2f = i.changeRoots.d2f;
+    d2e = i.changeRoots.d2e;
+    d2 = λ j a x f h. let t = i.changeRoots.d2 j a x f h in
+        let z = bw-decided x (λ y. omega (arith, h .0, ap s.dk (i.marks.m3 j a x f (t.d2j)))) in
         record {
           d2j = t.d2j;
           d2g = t.d2g;
@@ -90,31 +91,31 @@ module _ {p : Network} {s : ProtocolState} (i : Inv p s) {u v w k b e : ℕ} (ca
         };
   }
 
-  D3′ : Rootings p s.dk s.dn s.fr s.gl s.lev s.ib s.ub bw′ s.mark s.oo
-  D3′ = record { d3f = i.D3.d3f; d3o = i.D3.d3o; f5r = i.D3.f5r; d3 = λ x h. absurd (no-root i x calm (h .0)) }
+  rootings′ : Rootings p s.dk s.dn s.fr s.gl s.lev s.ib s.ub bw′ s.mark s.oo
+  rootings′ = record { d3f = i.rootings.d3f; d3o = i.rootings.d3o; f5r = i.rootings.f5r; d3 = λ x h. absurd (no-root i x calm (h .0)) }
 
-  D4′ : Finishes p s.dk s.fr s.gl s.gc s.lev bw′ s.halt s.due s.mark
-  D4′ = record {
-    d4 = i.D4.d4;
-    d4i = λ j x y f g d l. let t = i.D4.d4i j x y f g d l in (t .0, bw-decided x (λ z. omega arith) ∙ t .1);
-    d5 = i.D4.d5;
-    d6 = i.D4.d6;
-    d6c = i.D4.d6c;
+  finishes′ : Finishes p s.dk s.fr s.gl s.gc s.lev bw′ s.halt s.due s.mark
+  finishes′ = record {
+    d4 = i.finishes.d4;
+    d4i = λ j x y f g d l. let t = i.finishes.d4i j x y f g d l in (t .0, bw-decided x (λ z. omega arith) ∙ t .1);
+    d5 = i.finishes.d5;
+    d6 = i.finishes.d6;
+    d6c = i.finishes.d6c;
   }
 
-  B1′ : Weights p s.lev s.fr s.gl bw′ be′ s.side
-  B1′ = record {
+  weights′ : Weights p s.lev s.fr s.gl bw′ be′ s.side
+  weights′ = record {
     b1n = λ x h. by-eq v x
         (λ z y. let o = sym (upd-same s.bw v b) ∙ ap bw′ z ∙ y in
-        sym (ap be′ z) ∙ upd-same s.be v e ∙ cases (λ n a c. absurd (n (sym a ∙ o))) (λ a c. c ∙ i.B1.b1n v inf (sym a ∙ o)))
-        (λ n y. upd-other s.be v e x n ∙ i.B1.b1n x h (sym (upd-other s.bw v b x n) ∙ y));
+        sym (ap be′ z) ∙ upd-same s.be v e ∙ cases (λ n a c. absurd (n (sym a ∙ o))) (λ a c. c ∙ i.weights.b1n v inf (sym a ∙ o)))
+        (λ n y. upd-other s.be v e x n ∙ i.weights.b1n x h (sym (upd-other s.bw v b x n) ∙ y));
     b1m = λ x h. by-eq v x
         (λ z y. let o = sym (upd-same s.be v e) ∙ ap be′ z ∙ y in
-        sym (ap bw′ z) ∙ upd-same s.bw v b ∙ cases (λ n a c. absurd (edge-some p ends (sym c ∙ o))) (λ a c. a ∙ i.B1.b1m v inf (sym c ∙ o)))
-        (λ n y. upd-other s.bw v b x n ∙ i.B1.b1m x h (sym (upd-other s.be v e x n) ∙ y));
+        sym (ap bw′ z) ∙ upd-same s.bw v b ∙ cases (λ n a c. absurd (edge-some p ends (sym c ∙ o))) (λ a c. a ∙ i.weights.b1m v inf (sym c ∙ o)))
+        (λ n y. upd-other s.bw v b x n ∙ i.weights.b1m x h (sym (upd-other s.be v e x n) ∙ y));
     b1 = λ x h. upd-elim (λ a. a ≢ none → LeavesFragment p s x a) s.bw v b x
-        (λ z n. subst (λ x. LeavesFragment p s x b) z (cases (λ o a c. subst (LeavesFragment p s v) (sym a) (leaves o)) (λ a c. subst (LeavesFragment p s v) (sym a) (i.B1.b1 v inf (λ y. n (a ∙ y))))))
-        (λ d n. i.B1.b1 x h n);
+        (λ z n. subst (λ x. LeavesFragment p s x b) z (cases (λ o a c. subst (LeavesFragment p s v) (sym a) (leaves o)) (λ a c. subst (LeavesFragment p s v) (sym a) (i.weights.b1 v inf (λ y. n (a ∙ y))))))
+        (λ d n. i.weights.b1 x h n);
   }
 
   -- the whole, where besides test edges, find-counts, what is owed or open, and channels change
@@ -125,36 +126,36 @@ module _ {p : Network} {s : ProtocolState} (i : Inv p s) {u v w k b e : ℕ} (ca
     pub inv-weighed : Pending s.st te fc s.ot op → FindCounts p fc owe → Tests p te s.ib s.mark s.ot
         → Flow p weighed → Testing p weighed → Answers p weighed → Bests p weighed → Inv p weighed
     inv-weighed f2 f4 e2 f e1 a1 b2 = record {
-      W0 = i.W0;
-      W1 = W1′;
-      G2 = i.G2;
-      G4 = i.G4;
-      G5 = i.G5;
-      G6 = G6′;
-      M1 = i.M1;
-      U1 = i.U1;
-      D1 = i.D1;
-      D2 = D2′;
-      D3 = D3′;
-      D4 = D4′;
-      T1 = i.T1;
-      T2 = i.T2;
-      F1 = i.F1;
-      F2 = f2;
-      F4 = f4;
-      E2 = e2;
-      B1 = B1′;
-      G6c = f.G6c;
-      Dc = f.Dc;
-      C1 = f.C1;
-      I1 = f.I1;
-      T4 = f.T4;
-      E1 = e1;
-      A1 = a1;
-      R1 = f.R1;
-      F4c = f.F4c;
-      B2 = b2;
-      Q1 = f.Q1;
+      ranges = i.ranges;
+      values = values′;
+      levels = i.levels;
+      sizes = i.sizes;
+      cores = i.cores;
+      sleepers = sleepers′;
+      marks = i.marks;
+      inbounds = i.inbounds;
+      halves = i.halves;
+      changeRoots = changeRoots′;
+      rootings = rootings′;
+      finishes = finishes′;
+      parents = i.parents;
+      kids = i.kids;
+      finds = i.finds;
+      pending = f2;
+      findCounts = f4;
+      tests = e2;
+      weights = weights′;
+      hush = f.hush;
+      tokens = f.tokens;
+      connects = f.connects;
+      initiates = f.initiates;
+      telling = f.telling;
+      testing = e1;
+      answers = a1;
+      reports = f.reports;
+      owing = f.owing;
+      bests = b2;
+      ordered = f.ordered;
     }
 
   -- the channels c′ have no more Reports
@@ -167,7 +168,7 @@ module _ {p : Network} {s : ProtocolState} (i : Inv p s) {u v w k b e : ℕ} (ca
       where
         same-kid : (x : ℕ) → Inf s x → bw′ x ≢ none → be′ x ≢ bw′ x → be′ x ≡ s.be x → bw′ x ≡ s.bw x → Kid p s bw′ c′ x (be′ x) (bw′ x)
         same-kid x h n m y z =
-            let t = i.B2.b1e x h (λ a. n (z ∙ a)) (λ a. m (y ∙ a ∙ sym z)) in (
+            let t = i.bests.b1e x h (λ a. n (z ∙ a)) (λ a. m (y ∙ a ∙ sym z)) in (
               t .0,
               subst (λ a. Edge p a x (t .0)) (sym y) (t .1),
               subst (λ a. Jn s a x (t .0)) (sym y) (t .2),
@@ -198,5 +199,5 @@ module _ {p : Network} {s : ProtocolState} (i : Inv p s) {u v w k b e : ℕ} (ca
       where
         own : s.fr v ≡ s.fr x → key p b ≤ key p (s.bw (t .0)) → Covered p (set-bw (set-ch s c′) bw′) x n
         own z l =
-            let a = i.W1.w1w (t .0) (t .3) in
+            let a = i.values.w1w (t .0) (t .3) in
             mine x n z (λ y. omega (arith, ap (key p) y, key-none p, key-edge p (s.bw (t .0)) a, rank-lt p (s.bw (t .0)) a)) (omega (arith, t .5))

@@ -28,7 +28,7 @@ module _ {p : Network} (keeps : Keeps p) {s : ProtocolState} {r : Real} {u v k l
   abbrev limit : ℕ
   limit = log2 p.N
 
-  -- L < LN: the other fragment is absorbed. After it the find-count is at most the number of own edges (F4).
+  -- L < LN: the other fragment is absorbed. After it the find-count is at most the number of own edges (f4).
   absorb-find-fin : l < s.lev v → s.st v ≡ 1 → Fin p r v 0 (length (w .sends)) (N.absorb o k w) s
   absorb-find-fin lt f =
       let step : Step p s (absorbed (pop s u k rest) u v k 1) = absorb sv.idle sv.ends sv.awake sv.head lt (inl (f, refl)) in

@@ -39,7 +39,7 @@ module _ {p : Network} (keeps : Keeps p) {s : ProtocolState} {r : Real} {u v k l
 
   -- they are own edges: only these are marked
   mine : (j : ℕ) → copy s₀ v k j ≡ true → o.own j ≡ true
-  mine j h = ends-own p v (sv.inv.M1.own v j (marked j h) .1)
+  mine j h = ends-own p v (sv.inv.marks.own v j (marked j h) .1)
     where
       marked : (j : ℕ) → copy s₀ v k j ≡ true → s.mark v j ≢ 0
       marked j h e = omega (arith, copy-yes s₀ v k j h .1)
@@ -79,7 +79,7 @@ module _ {p : Network} (keeps : Keeps p) {s : ProtocolState} {r : Real} {u v k l
   placed : (d : ℕ) × (e : ℕ) × Place s u v k d e
   placed = by-eq k (GC s v) (λ h. (0, v, inl (h, refl, refl))) (λ h. (suc (s.dep u), s.side u, inr (h, refl, refl)))
 
-  -- Find: the find-count that results is at most the number of own edges (F4)
+  -- Find: the find-count that results is at most the number of own edges (f4)
   find-fin : x ≡ 1 → Fin p r v 0 (length (w .sends)) (onInitiate o l f x k w) s
   find-fin h =
       let d = placed .0 in

@@ -24,9 +24,9 @@ use Rattle.protocol_bridge.specs.Finish.{report-fin, root-fin}
 
 -- a weight x that came over k against v's best
 module _ {p : Network} {s : ProtocolState} {r : Real} {u v k : ℕ} {m : Msg} {rest : List Msg} {w : Work} (sv : Serving p s r u v k m rest w) where
-  -- v's best weight is an edge or none (W1)
+  -- v's best weight is an edge or none (w1w)
   weight : w .node .weight ≢ none → w .node .weight < p.g.L
-  weight n = omega (arith, bw-is sv.at, sv.inv.W1.w1w v (λ e. n (sym (bw-is sv.at) ∙ e)))
+  weight n = omega (arith, bw-is sv.at, sv.inv.values.w1w v (λ e. n (sym (bw-is sv.at) ∙ e)))
 
   module _ (x : ℕ) where
     abbrev wins : Bool
@@ -70,9 +70,9 @@ module _ {p : Network} (keeps : Keeps p) {s : ProtocolState} {r : Real} {u v k x
   here : In (report x) (s.ch u k)
   here = pop-head s.ch u k sv.head
 
-  -- it carries an edge or none (R1)
+  -- it carries an edge or none (r1r)
   edge : x ≢ none → x < p.g.L
-  edge n = sv.inv.R1.r1r k u v x sv.ends here n
+  edge n = sv.inv.reports.r1r k u v x sv.ends here n
 
   -- not over the in-branch: it is a child's, and counted
   child-fin : s.ib v ≢ k → Fin p r v 0 (length (w .sends)) (onReport o x k w) s

@@ -19,26 +19,26 @@ module _ {p : Network} {z n : ℕ} {s : ProtocolState} (i : Inv p s) (h : Paid p
   -- k is half at u: joined, v would be of the Connect's level
   basic : s.mark v k ≡ 0
   basic = by-eq (s.mark v k) 0 (λ e. e)
-      (λ d. by-eq (s.mark v k) 1 (λ e. absurd (omega (arith, i.C1.c1 k u v l ends head e .2)))
-      (λ e. absurd (i.M1.m1 k v u (flip ends) (omega (arith, i.W0.mark-le v k)) .1 (i.C1.c1m k u v l ends head))))
+      (λ d. by-eq (s.mark v k) 1 (λ e. absurd (omega (arith, i.connects.c1 k u v l ends head e .2)))
+      (λ e. absurd (i.marks.m1 k v u (flip ends) (omega (arith, i.ranges.mark-le v k)) .1 (i.connects.c1m k u v l ends head))))
 
   half : Half s u k
-  half = half-at i k u v ends (i.C1.c1m k u v l ends head) basic
+  half = half-at i k u v ends (i.connects.c1m k u v l ends head) basic
 
   level : GL s u ≡ l
-  level = sym (all-in (i.Dc.d1a k u v ends half) head)
+  level = sym (all-in (i.tokens.d1a k u v ends half) head)
 
   -- no Initiate is on its way to u
   tb-u : h.tb u ≡ s.lev u
-  tb-u = tb-none i (h.H) u (λ a b d f g w e o. not-joined a b d f g w (sym (i.D1.d1 k u v ends half .d1u) ∙ e) o)
+  tb-u = tb-none i (h.H) u (λ a b d f g w e o. not-joined a b d f g w (sym (i.halves.d1 k u v ends half .d1u) ∙ e) o)
     where
       not-joined : (a b d f g : ℕ) → Edge p a b u → k ≡ a → In (initiate d f g) (s.ch b a) → ⊥
       not-joined a b d f g w e o =
           let t = ends-same ends (subst (λ c. Edge p c u b) (sym e) (flip w)) in
-          omega (arith, i.I1.i1 a b u d f g w o .i1j .0, ap (λ c. s.mark c a) t, ap (s.mark v) e, basic)
+          omega (arith, i.initiates.i1 a b u d f g w o .i1j .0, ap (λ c. s.mark c a) t, ap (s.mark v) e, basic)
 
   raised : Raised p z (sendOver (pop s u k r) v k (initiate (s.lev v) (s.id v) x)) (n + 1) u (h.tb)
-  raised = raise i h (s.lev v) (s.id v) x ends q (i.D1.d1 k u v ends half .d1u) (omega (arith, tb-u, i.D1.d1 k u v ends half .d1l, level))
+  raised = raise i h (s.lev v) (s.id v) x ends q (i.halves.d1 k u v ends half .d1u) (omega (arith, tb-u, i.halves.d1 k u v ends half .d1l, level))
 
   abbrev h′ : Paid p z (sendOver (pop s u k r) v k (initiate (s.lev v) (s.id v) x)) (n + 1)
   h′ = raised .paid
@@ -47,7 +47,7 @@ module _ {p : Network} {z n : ℕ} {s : ProtocolState} (i : Inv p s) (h : Paid p
   cases : {C : Type 0} (w : ℕ) → h′ .tb w ≡ GL S′ w → (u ≡ w → C) → ((S′.fr w ≡ s.fr w) → (S′.due w ≡ s.due w) → C) → C
   cases w e y f = by-eq u w y
       (λ d. by-eq (s.fr w) (s.fr u)
-      (λ a. absurd (omega (arith, e, raised .else-tb w d, tb-le i (h.H) w, ap s.gl a, level, low, i.G2.g2 v, ap s.gl (bulk-in s.fr (s.fr u) (s.fr v) s.fr w a))))
+      (λ a. absurd (omega (arith, e, raised .else-tb w d, tb-le i (h.H) w, ap s.gl a, level, low, i.levels.g2 v, ap s.gl (bulk-in s.fr (s.fr u) (s.fr v) s.fr w a))))
       (λ a. f (bulk-out s.fr (s.fr u) (s.fr v) s.fr w a) (bulk-out s.fr (s.fr u) (s.due v) s.due w a)))
 
   to : (w : ℕ) → h′ .tb w ≡ GL S′ w → S′.fr w ≡ s.fr w → h′ .tb w ≡ GL s w
@@ -63,7 +63,7 @@ module _ {p : Network} {z n : ℕ} {s : ProtocolState} (i : Inv p s) (h : Paid p
   }
     where
       due : (w : ℕ) → S′.due w ≤ 1
-      due w = by-eq (s.fr w) (s.fr u) (λ a. omega (arith, bulk-in s.fr (s.fr u) (s.due v) s.due w a, i.W0.due-le v)) (λ a. omega (arith, bulk-out s.fr (s.fr u) (s.due v) s.due w a, i.W0.due-le w))
+      due w = by-eq (s.fr w) (s.fr u) (λ a. omega (arith, bulk-in s.fr (s.fr u) (s.due v) s.due w a, i.ranges.due-le v)) (λ a. omega (arith, bulk-out s.fr (s.fr u) (s.due v) s.due w a, i.ranges.due-le w))
 
   T′ : Tries z s.lev S′.fr s.gl S′.due (h′ .tb) (h′ .ts) s.ot
   T′ = record {

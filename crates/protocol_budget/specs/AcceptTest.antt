@@ -27,12 +27,12 @@ module _ {p : Network} {z n : ℕ} (last : log2 p.N ≤ z) {s : ProtocolState} (
   -- of two fragments the lower level is not the last
   below : s.lev u ≢ z
   below e =
-      let a = i.E1.e1 k u v l f ends (pop-head s.ch u k q) .0 in
+      let a = i.testing.e1 k u v l f ends (pop-head s.ch u k q) .0 in
       omega (
         arith,
         inf .1,
-        level-two p.N s.fr (s.fr u) (s.fr v) (GL s u) (GL s v) (A.tester-apart i idle ends awake q low differ) (i.G4.g4 u (end-lt p ends)) (i.G4.g4 v (end-lt p (flip ends)))
-            (omega (arith, inf .1, i.G2.g2 v, a)),
+        level-two p.N s.fr (s.fr u) (s.fr v) (GL s u) (GL s v) (A.tester-apart i idle ends awake q low differ) (i.sizes.g4 u (end-lt p ends)) (i.sizes.g4 v (end-lt p (flip ends)))
+            (omega (arith, inf .1, i.levels.g2 v, a)),
       )
 
   unanswered : sumL isA (s.ch v k) ≡ 0
@@ -40,8 +40,8 @@ module _ {p : Network} {z n : ℕ} (last : log2 p.N ≤ z) {s : ProtocolState} (
 
   only : sumL isT (s.ch u k) ≤ 1
   only = by-eq (s.te v) k
-      (λ e. omega (arith, i.E1.e2w k u v ends waits (e, λ o. omega (arith, idle .0))))
-      (λ e. omega (arith, i.E1.e2c k u v ends waits (inl e)))
+      (λ e. omega (arith, i.testing.e2w k u v ends waits (e, λ o. omega (arith, idle .0))))
+      (λ e. omega (arith, i.testing.e2c k u v ends waits (inl e)))
 
   spare : 1 ≤ h.ts u
   spare = omega (arith, h.L .ts3 k u v ends waits below, only, yes-le (s.ch v k), unanswered)

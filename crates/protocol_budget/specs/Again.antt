@@ -138,7 +138,7 @@ module _ {p : Network} {z n : ℕ} {s : ProtocolState} (i : Inv p s) (h : Paid p
   paid-rejected q strike =
       let said = reject-ok i idle ends q strike in
       let a = alone i idle ends q strike in
-      let f = i.F1.f1 v (waits-find i k v u (flip ends) (said .j1w)) .f1i in
+      let f = i.finds.f1 v (waits-find i k v u (flip ends) (said .j1w)) .f1i in
       paid-kept i h idle ends q refl refl (said .j1w) strike
       (two-of i h (flip ends) f (said .j1w) (omega (arith, a, ap (sumL isA) q)) (omega (arith, a, ap (sumL isA) q, ap (sumL isY) q, yes-le r)))
       (inl (pop-sum s.ch u k q isT refl u k))
@@ -147,8 +147,8 @@ module _ {p : Network} {z n : ℕ} {s : ProtocolState} (i : Inv p s) (h : Paid p
       → Paid p z (set-ot (remarked (pop s u k r) v k c) (suc v)) n
   paid-crossed-test {l} {f} awake q low same edge strike = ⊎-elim
       (λ t.
-      let a = i.E1.e2w k u v ends (t .0) wait in
-      let b = i.E1.e2w k v u (flip ends) wait (t .0) in
+      let a = i.testing.e2w k u v ends (t .0) wait in
+      let b = i.testing.e2w k v u (flip ends) wait (t .0) in
       let y = h.L .lk1 k v u (flip ends) basic (t .1) in
       let d : s.lev u ≡ s.lev v = fu .1 ∙ ap s.gl (tester-inside i ends head low same) ∙ sym (fv .1) in
       paid-both i h idle ends q refl refl wait strike (t .0) basic (omega (arith, ap (sumL isT) q, a))
@@ -169,7 +169,7 @@ module _ {p : Network} {z n : ℕ} {s : ProtocolState} (i : Inv p s) (h : Paid p
         unanswered,
       ))))
       (λ t. paid-kept i h idle ends q refl refl wait strike
-      (two-of i h (flip ends) fv wait (i.E1.m6t k u v ends (t .1) basic) (omega (arith, yes-le (s.ch u k), unanswered)))
+      (two-of i h (flip ends) fv wait (i.testing.m6t k u v ends (t .1) basic) (omega (arith, yes-le (s.ch u k), unanswered)))
       (inr (t .0, λ o. omega (arith, t .1))))
       (C.crossed-meets i idle ends awake q low same edge strike)
     where

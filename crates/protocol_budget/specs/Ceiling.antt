@@ -15,16 +15,16 @@ use Rattle.protocol_budget.specs.Steps.{paid-step, lone-step}
 module _ {p : Network} {s : ProtocolState} (i : Inv p s) where
   -- no level is above the logarithm; two fragments: the lower is below it
   pub level-log : (v : ℕ) → v < p.N → GL s v ≤ log2 p.N
-  level-log v l = level-one p.N s.fr (s.fr v) (GL s v) (i.G4.g4 v l)
+  level-log v l = level-one p.N s.fr (s.fr v) (GL s v) (i.sizes.g4 v l)
 
   two : (x y : ℕ) → x < p.N → y < p.N → s.fr x ≢ s.fr y → GL s x ≤ GL s y → suc (GL s x) ≤ log2 p.N
-  two x y a b n l = level-two p.N s.fr (s.fr x) (s.fr y) (GL s x) (GL s y) n (i.G4.g4 x a) (i.G4.g4 y b) l
+  two x y a b n l = level-two p.N s.fr (s.fr x) (s.fr y) (GL s x) (GL s y) n (i.sizes.g4 x a) (i.sizes.g4 y b) l
 
   -- who knows a way out is below the last level
   way-out : (x : ℕ) → Inf s x → s.bw x ≢ none → suc (GL s x) ≤ log2 p.N
   way-out x f n =
-      let t = i.B1.b1 x f n in
-      omega (arith, two (t .0) (t .1) (end-lt p (t .2)) (end-lt p (flip (t .2))) (λ e. t .4 (sym e ∙ t .3)) (omega (arith, t .5, i.G2.g2 (t .1), ap s.gl (t .3))), ap s.gl (t .3))
+      let t = i.weights.b1 x f n in
+      omega (arith, two (t .0) (t .1) (end-lt p (t .2)) (end-lt p (flip (t .2))) (λ e. t .4 (sym e ∙ t .3)) (omega (arith, t .5, i.levels.g2 (t .1), ap s.gl (t .3))), ap s.gl (t .3))
 
   -- at the last level nobody is decided but finished
   last : (v : ℕ) → GL s v ≡ log2 p.N → (DK s v ≡ 0) ⊎ (DK s v ≡ 4)
@@ -33,23 +33,23 @@ module _ {p : Network} {s : ProtocolState} (i : Inv p s) where
       half : DK s v ≢ 3
       half d =
           let h = half-of i v d in
-          let o = i.D1.d1 (h .1) (h .0) (h .2) (h .3) (h .4) in
-          omega (arith, two (h .0) (h .2) (end-lt p (h .3)) (end-lt p (flip (h .3))) (λ q. o.d1o (sym q)) (omega (arith, o.d1g, i.G2.g2 (h .2))), ap s.gl (h .5), e)
+          let o = i.halves.d1 (h .1) (h .0) (h .2) (h .3) (h .4) in
+          omega (arith, two (h .0) (h .2) (end-lt p (h .3)) (end-lt p (flip (h .3))) (λ q. o.d1o (sym q)) (omega (arith, o.d1g, i.levels.g2 (h .2))), ap s.gl (h .5), e)
 
       changing : DK s v ≢ 2
       changing d =
           let h = changing-of i v d in
-          let o = i.D2.d2 (h .1) (h .0) (h .2) (h .3) (h .4) in
-          omega (arith, way-out (h .2) (o.d2x) (o.d2w), ap s.gl (i.M1.m3 (h .1) (h .0) (h .2) (h .3) (o.d2j)), ap s.gl (h .5), e)
+          let o = i.changeRoots.d2 (h .1) (h .0) (h .2) (h .3) (h .4) in
+          omega (arith, way-out (h .2) (o.d2x) (o.d2w), ap s.gl (i.marks.m3 (h .1) (h .0) (h .2) (h .3) (o.d2j)), ap s.gl (h .5), e)
 
       root : DK s v ≢ 1
       root d =
           let h = root-of i v d in
-          let o = i.D3.d3 (h .0) (h .1) in
+          let o = i.rootings.d3 (h .0) (h .1) in
           omega (arith, way-out (h .0) (o.d3i) (o.d3w), ap s.gl (h .2), e)
 
       rest : DK s v ≢ 0 → DK s v ≢ 4 → ⊥
-      rest n0 n4 = five (DK s v) (i.W0.dk-le (s.fr v)) n0 root changing half n4
+      rest n0 n4 = five (DK s v) (i.ranges.dk-le (s.fr v)) n0 root changing half n4
         where
           five : (x : ℕ) → x ≤ 4 → x ≢ 0 → x ≢ 1 → x ≢ 2 → x ≢ 3 → x ≢ 4 → ⊥
           five x l a b c d f = omega arith

@@ -113,15 +113,15 @@ module _ {p : Network} {z n : ℕ} {s : ProtocolState} (h : Paid p z s n) {v y :
 
 module _ {p : Network} {z n : ℕ} {s : ProtocolState} (i : Inv p s) (h : Paid p z s n) {v k y : ℕ} (ends : Edge p k v y) (asleep : s.st v ≡ 0) where
   level : GL s v ≡ 0
-  level = i.G6.g6 v asleep .g6g
+  level = i.sleepers.g6 v asleep .g6g
 
   here : h.tb v ≡ s.lev v
   here = h.H .tb0 v (sleep-ub i v asleep)
 
   woken-half : Paid p z (halved s v k 0) (n + 1)
   woken-half = paid-half i h 0 ends
-      (h.D .rt0 v (omega (arith, here, sleep-lev i v asleep, level)) (inl (i.G6.g6 v asleep .g6d))) here
-      (λ a f x m. all-in (i.G6c.g6i k y v (flip ends) asleep) m) (λ o. omega (arith, i.G6.g6m v k asleep))
+      (h.D .rt0 v (omega (arith, here, sleep-lev i v asleep, level)) (inl (i.sleepers.g6 v asleep .g6d))) here
+      (λ a f x m. all-in (i.hush.g6i k y v (flip ends) asleep) m) (λ o. omega (arith, i.sleepers.g6m v k asleep))
 
   pub paid-wake-half : Paid p z (halved (wokenUp s v) v k 0) (n + 1)
   paid-wake-half = subst (λ x. Paid p z (halved x v k 0) (n + 1)) (sym (woken-same i v asleep))
@@ -135,13 +135,13 @@ module _ {p : Network} {z n : ℕ} {s : ProtocolState} (i : Inv p s) (h : Paid p
       paid-keep h′ (merged (halved (set-st s (upd s.st v 2)) v k 0) v y k) (h′.H) (h′.D) (h′.T) (h′.L))
     where
       o : HalfOk p s.fr s.gl s.lev s.ub s.mark k y v
-      o = i.D1.d1 k y v (flip ends) (i.D1.m2 k y v (flip ends) m (λ a. omega (arith, i.G6.g6m v k asleep)))
+      o = i.halves.d1 k y v (flip ends) (i.halves.m2 k y v (flip ends) m (λ a. omega (arith, i.sleepers.g6m v k asleep)))
 
 -- ---- procedure change-root, over a best edge that is no branch
 
 module _ {p : Network} {z n : ℕ} {s : ProtocolState} (i : Inv p s) (h : Paid p z s n) {v k y : ℕ} (oo : s.oo ≡ suc v) (ends : Edge p k v y) (best : s.be v ≡ k) (branch : s.mark v k ≢ 1) where
   rooting : RootOk p s.fr s.gl s.lev s.ib s.ub s.bw s.mark v
-  rooting = i.D3.d3 v (i.D3.f5r v oo)
+  rooting = i.rootings.d3 v (i.rootings.f5r v oo)
 
   inf : Inf s v
   inf = rooting .d3i
@@ -149,19 +149,19 @@ module _ {p : Network} {z n : ℕ} {s : ProtocolState} (i : Inv p s) (h : Paid p
   -- the best edge is the best weight, and leaves the fragment to a node of no lower level
   weight : s.bw v ≡ k
   weight = by-eq (s.be v) (s.bw v) (λ e. sym e ∙ best)
-      (λ d. let t = i.B2.b1e v inf (rooting .d3w) d in absurd (branch (ap (s.mark v) (sym best) ∙ t .2 .0)))
+      (λ d. let t = i.bests.b1e v inf (rooting .d3w) d in absurd (branch (ap (s.mark v) (sym best) ∙ t .2 .0)))
 
   outer : (s.fr y ≢ s.fr v) × (GL s v ≤ s.lev y)
   outer =
-      let t = i.B1.b1 v inf (rooting .d3w) in
+      let t = i.weights.b1 v inf (rooting .d3w) in
       ⊎-elim (λ o. ((λ e. t .4 (ap s.fr (sym (o .1)) ∙ e)), omega (arith, t .5, ap s.lev (o .1))))
       (λ o. absurd (t .4 (ap s.fr (sym (o .0))))) (ends-two ends (subst (λ x. Edge p x (t .0) (t .1)) weight (t .2)))
 
   root-sends : Paid p z (halved s v k (s.lev v)) (n + 1)
   root-sends =
-      let r = i.D3.f5r v oo in
+      let r = i.rootings.f5r v oo in
       paid-half i h (s.lev v) ends (h.D .rt2 v (tb-inf i (h.H) v inf) (r .0) (omega (arith, ap s.dep (r .1)))) (tb-inf i (h.H) v inf ∙ sym (inf .1))
-      (λ a f x m. no-initiate i k y v a f x (flip ends) inf m) (λ o. outer .0 (sym (i.M1.m1 k v y ends o .0)))
+      (λ a f x m. no-initiate i k y v a f x (flip ends) inf m) (λ o. outer .0 (sym (i.marks.m1 k v y ends o .0)))
 
   pub paid-root-half : Paid p z (set-oo (halved s v k (s.lev v)) 0) (n + 1)
   paid-root-half = let h′ = root-sends in paid-keep h′ (set-oo (halved s v k (s.lev v)) 0) (h′.H) (h′.D) (h′.T) (h′.L)
@@ -169,7 +169,7 @@ module _ {p : Network} {z n : ℕ} {s : ProtocolState} (i : Inv p s) (h : Paid p
   pub paid-root-merge : s.mark y k ≡ 1 → Paid p z (set-oo (merged (halved s v k (s.lev v)) v y k) 0) (n + 1)
   unfolding root-sends paid-half
   paid-root-merge m =
-      let o = i.D1.d1 k y v (flip ends) (i.D1.m2 k y v (flip ends) m branch) in
+      let o = i.halves.d1 k y v (flip ends) (i.halves.m2 k y v (flip ends) m branch) in
       let a : GL s y ≡ GL s v = omega (arith, o.d1g, o.d1l, inf .1, outer .1) in
       let h′ = paid-merge {s = halved s v k (s.lev v)} root-sends {v = v} {y = y} k (tb-le i (h.H)) a in
       paid-keep h′ (set-oo (merged (halved s v k (s.lev v)) v y k) 0) (h′.H) (h′.D) (h′.T) (h′.L)

@@ -39,19 +39,19 @@ module _ {p : Network} {s : ProtocolState} (i : Inv p s) {tb : ℕ → ℕ} (h :
   -- with no Initiate on its way: the level that it has
   pub tb-none : (v : ℕ) → ((k u l f x : ℕ) → Edge p k u v → s.ub v ≡ k → ¬ In (initiate l f x) (s.ch u k)) → tb v ≡ s.lev v
   tb-none v n = by-eq (s.ub v) none (λ z. h.tb0 v z)
-      (λ d. let e = i.U1.u1o v d in h.tb1 (s.ub v) (e .0) v (flip (e .1)) refl ∙ top-none (s.lev v) (s.ch (e .0) (s.ub v)) (λ l f x. n (s.ub v) (e .0) l f x (flip (e .1)) refl))
+      (λ d. let e = i.inbounds.u1o v d in h.tb1 (s.ub v) (e .0) v (flip (e .1)) refl ∙ top-none (s.lev v) (s.ch (e .0) (s.ub v)) (λ l f x. n (s.ub v) (e .0) l f x (flip (e .1)) refl))
 
   pub tb-inf : (v : ℕ) → Inf s v → tb v ≡ GL s v
   tb-inf v f = tb-none v (λ k u l a x e q. no-initiate i k u v l a x e f) ∙ f .1
 
   -- between its level and its fragment's
   bounds : (v : ℕ) → (s.lev v ≤ tb v) × (tb v ≤ GL s v)
-  bounds v = by-eq (s.ub v) none (λ z. (omega (arith, h.tb0 v z), omega (arith, h.tb0 v z, i.G2.g2 v)))
+  bounds v = by-eq (s.ub v) none (λ z. (omega (arith, h.tb0 v z), omega (arith, h.tb0 v z, i.levels.g2 v)))
       (λ d.
-      let e = i.U1.u1o v d in
+      let e = i.inbounds.u1o v d in
       let q = h.tb1 (s.ub v) (e .0) v (flip (e .1)) refl in
-      ⊎-elim (λ z. (omega (arith, q, z), omega (arith, q, z, i.G2.g2 v)))
-      (λ z. let o = i.I1.i1 (s.ub v) (e .0) v (top (s.lev v) (s.ch (e .0) (s.ub v))) (z .0) (z .1) (flip (e .1)) (z .2) in
+      ⊎-elim (λ z. (omega (arith, q, z), omega (arith, q, z, i.levels.g2 v)))
+      (λ z. let o = i.initiates.i1 (s.ub v) (e .0) v (top (s.lev v) (s.ch (e .0) (s.ub v))) (z .0) (z .1) (flip (e .1)) (z .2) in
       (omega (arith, q, o.i1l), omega (arith, q, o.i1g)))
       (top-in (s.lev v) (s.ch (e .0) (s.ub v))))
 
@@ -61,7 +61,7 @@ module _ {p : Network} {s : ProtocolState} (i : Inv p s) {tb : ℕ → ℕ} (h :
   -- an Initiate on its way
   pub tb-init : (k u v l f x : ℕ) → Edge p k u v → In (initiate l f x) (s.ch u k) → l ≤ tb v
   tb-init k u v l f x e n =
-      omega (arith, h.tb1 k u v e (i.I1.i1 k u v l f x e n .i1u), top-max (s.lev v) (s.ch u k) (λ a b o. i.Q1.q1 k u v a b e o) l f x n)
+      omega (arith, h.tb1 k u v e (i.initiates.i1 k u v l f x e n .i1u), top-max (s.lev v) (s.ch u k) (λ a b o. i.ordered.q1 k u v a b e o) l f x n)
 
 -- ---- a decision: the fragment of label a gets decision d, with node x
 

@@ -61,7 +61,7 @@ module _ {p : Network} {z n : ℕ} {s : ProtocolState} (i : Inv p s) (h : Paid p
       lk = h.lk;
       H = H′;
       D = record {
-        rp1 = λ w a. upd-elim (λ y. s.due w ≤ y) (h.rp) u 1 w (λ e. i.W0.due-le w) (λ d. h.D .rp1 w (old w d a));
+        rp1 = λ w a. upd-elim (λ y. s.due w ≤ y) (h.rp) u 1 w (λ e. i.ranges.due-le w) (λ d. h.D .rp1 w (old w d a));
         rt0 = λ w a o. at-least (h.rt) 1 1 w (omega arith) (λ d. h.D .rt0 w (old w d a) o);
         rt1 = λ w a o c. at-least (h.rt) 1 1 w (omega arith) (λ d. h.D .rt1 w (old w d a) o c);
         rt2 = λ w a o c. at-least (h.rt) 1 1 w (omega arith) (λ d. h.D .rt2 w (old w d a) o c);
@@ -98,18 +98,18 @@ module _ {p : Network} {z n : ℕ} {s : ProtocolState} (i : Inv p s) (h : Paid p
   head = pop-head s.ch u k q
 
   branch : s.mark u k ≡ 1
-  branch = i.C1.c1m k u v l ends head
+  branch = i.connects.c1m k u v l ends head
 
   counts : 1 ≤ sumL isC (s.ch u k)
   counts = in-sum isC head
 
   pub paid-core-reply : s.mark v k ≢ 0 → Paid p z (sendOver (pop s u k r) v k (initiate (s.lev v + 1) k 1)) (n + 1)
   paid-core-reply m =
-      let o : s.mark v k ≡ 1 = omega (arith, i.W0.mark-le v k, no2) in
+      let o : s.mark v k ≡ 1 = omega (arith, i.ranges.mark-le v k, no2) in
       let j : Jn s k u v = (branch, o) in
-      let c = i.C1.c1 k u v l ends head o in
-      let t = i.T4.t4n k u v ends j (c .0) counts in
-      let y = i.T2.t4u k u v ends j (c .0) (t .0) in
+      let c = i.connects.c1 k u v l ends head o in
+      let t = i.telling.t4n k u v ends j (c .0) counts in
+      let y = i.kids.t4u k u v ends j (c .0) (t .0) in
       let none-up : (a d e : ℕ) → ¬ In (initiate a d e) (s.ch v k) = λ a d e g. no-up j (c .0) (t .0) (t .1) (y.t4l) (y.t4d) a d e g in
       let e : h.tb u ≡ s.lev u = tb-none i (h.H) u (λ a b d f g w x o₁. none-up d f g (moved a b d f g w (sym (y.t4b) ∙ x) o₁)) in
       raise i h (s.lev v + 1) k 1 ends q (y.t4b) (omega (arith, e, y.t4l, c .1, c .2)) .paid
@@ -119,12 +119,12 @@ module _ {p : Network} {z n : ℕ} {s : ProtocolState} (i : Inv p s) (h : Paid p
       moved a b d f g w e o = subst (λ c. In (initiate d f g) c) (sym (at2 s.ch (ends-same ends (subst (λ c. Edge p c u b) (sym e) (flip w))) e)) o
 
       no2 : s.mark v k ≢ 2
-      no2 e = i.M1.m1 k v u (flip ends) e .1 branch
+      no2 e = i.marks.m1 k v u (flip ends) e .1 branch
 
       -- an Initiate to u would be that of the core
       no-up : Jn s k u v → GC s u ≡ k → s.lev u < GL s u → ¬ In (initiate (GL s u) k 1) (s.ch v k) → s.lev u + 1 ≡ GL s u → s.due u ≡ 1 → (a d e : ℕ) → ¬ In (initiate a d e) (s.ch v k)
       no-up j g low n lev due a d e o =
-          let t = i.I1.i1 k v u a d e (flip ends) o in
+          let t = i.initiates.i1 k v u a d e (flip ends) o in
           let b : a ≡ GL s u = omega (arith, t.i1l, t.i1g) in
           n (subst (λ x. In (initiate x k 1) (s.ch v k)) b
           (subst (λ x. In (initiate a x 1) (s.ch v k)) (t.i1c b ∙ g) (subst (λ x. In (initiate a d x) (s.ch v k)) (t.i1d b ∙ due) o)))

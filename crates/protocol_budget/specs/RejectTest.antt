@@ -71,7 +71,7 @@ module _ {p : Network} {z n : ℕ} {s : ProtocolState} (i : Inv p s) (h : Paid p
     where
       basic : s.mark u k ≡ 0 → c ≡ 2
       basic o = ⊎-elim (λ t. t .1)
-          (λ t. absurd (omega (arith, branch-v i ends head low same (omega (arith, i.W0.mark-le v k, R.open-v i idle ends awake q low same other strike, t .0))))) strike
+          (λ t. absurd (omega (arith, branch-v i ends head low same (omega (arith, i.ranges.mark-le v k, R.open-v i idle ends awake q low same other strike, t .0))))) strike
 
   lt : (w j : ℕ) → k ≢ j → LT z s.lev c′ w j ≡ LT z s.lev s.ch w j
   lt w j d = lt-same z s.lev s.ch w j c′ (tests-answer p s ends q reject refl refl w j (inr d))

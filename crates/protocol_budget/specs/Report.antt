@@ -10,7 +10,7 @@ use Rattle.protocol.specs.Prelude.{set-ub, set-oo, sendOver, decided, reportSen
 module _ {p : Network} {z n : ℕ} {s : ProtocolState} (i : Inv p s) (h : Paid p z s n) where
   pub paid-report-now : {v k u : ℕ} → s.op ≡ suc v → Edge p k v u → Paid p z (reportSent s v k) (n + 1)
   paid-report-now {v} {k} {u} op ends =
-      let f = i.F1.f1 v (i.F2.f5p v op) in
+      let f = i.finds.f1 v (i.pending.f5p v op) in
       let one = h.D .rp1 v (tb-inf i (h.H) v (f.f1i)) in
       record {
         tb = h.tb;
@@ -42,8 +42,8 @@ module _ {p : Network} {z n : ℕ} {s : ProtocolState} (i : Inv p s) (h : Paid p
   -- the token goes from v to a child: those below keep theirs
   pub paid-root-branch : {v k c : ℕ} → s.oo ≡ suc v → Edge p k v c → Paid p z (set-oo (decided (set-ub (sendOver s v k change) (upd s.ub v k)) v 2 v k) 0) (n + 1)
   paid-root-branch {v} {k} {c} oo ends =
-      let t = i.D3.f5r v oo in
-      let o = i.D3.d3 v t in
+      let t = i.rootings.f5r v oo in
+      let o = i.rootings.d3 v t in
       let f = o.d3i in
       let one = h.D .rt2 v (tb-inf i (h.H) v f) (t .0) (omega (arith, ap s.dep (t .1))) in
       record {

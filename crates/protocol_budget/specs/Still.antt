@@ -36,9 +36,9 @@ module _ {p : Network} {z n : ℕ} {s : ProtocolState} (i : Inv p s) (h : Paid p
   was {u} {v} {k} {w} e q f l =
       let o = pop-head s.ch u k q in
       ⊎-elim (λ t. absurd (f (t .6)))
-      (⊎-elim (λ t. inl (sym (ap s.dk (i.M1.m3 k u v e (i.R1.r1j k u v w e o))) ∙ t .1))
+      (⊎-elim (λ t. inl (sym (ap s.dk (i.marks.m3 k u v e (i.reports.r1j k u v w e o))) ∙ t .1))
       (λ t. ⊎-elim (λ y. absurd (omega arith)) (λ y. inr (y .2, y .0, y .1)) (t .5)))
-      (i.R1.r1 k u v w e o)
+      (i.reports.r1 k u v w e o)
 
   pub paid-core-halt : {u v k w : ℕ} {r : List Msg} → Edge p k u v → s.ch u k ≡ report w ∷ r → s.st v ≢ 1 → w ≡ none → s.bw v ≡ none
       → Paid p z (set-halt (set-dk (pop s u k r) (upd s.dk (s.fr v) 4)) (upd s.halt v 1)) n
@@ -57,10 +57,10 @@ module _ {p : Network} {z n : ℕ} {s : ProtocolState} (i : Inv p s) (h : Paid p
 
   pub paid-change-root : {u v k : ℕ} {r : List Msg} → Edge p k u v → s.ch u k ≡ change ∷ r → Paid p z (rooted (pop s u k r) v) n
   paid-change-root {u} {v} {k} {r} e q =
-      let changing = i.Dc.k1 k u v e (pop-head s.ch u k q) in
-      let o = i.D2.d2 k u v e changing in
-      let same = i.M1.m3 k u v e (o.d2j) in
-      let deep = i.T1.t1p k v u (flip e) (o.d2x) (o.d2b) (λ y. o.d2g (ap s.gc same ∙ y)) .1 in
+      let changing = i.tokens.k1 k u v e (pop-head s.ch u k q) in
+      let o = i.changeRoots.d2 k u v e changing in
+      let same = i.marks.m3 k u v e (o.d2j) in
+      let deep = i.parents.t1p k v u (flip e) (o.d2x) (o.d2b) (λ y. o.d2g (ap s.gc same ∙ y)) .1 in
       let d : DK s v ≡ 2 = ap s.dk (sym same) ∙ changing .0 in
       let dn : s.dn (s.fr v) ≡ u = ap s.dn (sym same) ∙ changing .1 in
       paid-keep h (rooted (pop s u k r) v) (heights-pop s.ch u k q refl (h.H))
@@ -116,4 +116,4 @@ module _ {p : Network} {z n : ℕ} {s : ProtocolState} (i : Inv p s) (h : Paid p
 
   pub paid-wake-lone : {v : ℕ} → s.st v ≡ 0 → Paid p z (set-halt (set-dk (wokenUp s v) (upd s.dk (s.fr v) 4)) (upd s.halt v 1)) n
   paid-wake-lone {v} asleep = subst (λ x. Paid p z (set-halt (set-dk x (upd s.dk (s.fr v) 4)) (upd s.halt v 1)) n) (sym (woken-same i v asleep))
-      (paid-keep h (set-halt (set-dk (set-st s (upd s.st v 2)) (upd s.dk (s.fr v) 4)) (upd s.halt v 1)) (h.H) (dues-finish (s.fr v) (inl (i.G6.g6 v asleep .g6d)) (h.D)) (h.T) (h.L))
+      (paid-keep h (set-halt (set-dk (set-st s (upd s.st v 2)) (upd s.dk (s.fr v) 4)) (upd s.halt v 1)) (h.H) (dues-finish (s.fr v) (inl (i.sleepers.g6 v asleep .g6d)) (h.D)) (h.T) (h.L))

@@ -26,17 +26,17 @@ module _ {p : Network} {z n : ℕ} {s : ProtocolState} (i : Inv p s) (h : Paid p
   head = pop-head s.ch u k q
 
   said : InitOk p s.lev s.fr s.gl s.gc s.ub s.due s.mark k u v l f x
-  said = i.I1.i1 k u v l f x ends head
+  said = i.initiates.i1 k u v l f x ends head
 
   -- v was below its fragment's level, so it is not Find, and has sent no Test
   below : s.lev v < GL s v
   below = omega (arith, said .i1l, said .i1g)
 
   no-test : (j y : ℕ) → Edge p j v y → sumL isT (s.ch v j) ≡ 0
-  no-test j y g = no-tests (s.ch v j) (λ c w o. omega (arith, below, i.E1.e1 j v y c w g o .2 .1))
+  no-test j y g = no-tests (s.ch v j) (λ c w o. omega (arith, below, i.testing.e1 j v y c w g o .2 .1))
 
   not-waiting : (j y : ℕ) → Edge p j v y → s.te v ≢ j
-  not-waiting j y g o = edge-some p g (sym o ∙ i.F2.f3t v (low-find i v below))
+  not-waiting j y g o = edge-some p g (sym o ∙ i.pending.f3t v (low-find i v below))
 
   -- ---- who gets a copy: its inbound edge is one of those
 
@@ -47,17 +47,17 @@ module _ {p : Network} {z n : ℕ} {s : ProtocolState} (i : Inv p s) (h : Paid p
   child : (j y : ℕ) → Edge p j v y → copy s₁ v k j ≡ true → (s.ub y ≡ j) × (h.tb y ≡ s.lev v)
   child j y g c =
       let t = copy-yes s₁ v k j c in
-      let o : s.mark y j ≡ 1 = by-eq (s.mark y j) 1 (λ w. w) (λ w. absurd (omega (arith, below, i.D1.d1 j v y g (i.D1.m2 j v y g (t .1) w) .d1l))) in
+      let o : s.mark y j ≡ 1 = by-eq (s.mark y j) 1 (λ w. w) (λ w. absurd (omega (arith, below, i.halves.d1 j v y g (i.halves.m2 j v y g (t .1) w) .d1l))) in
       let far : s.ub v ≢ j = λ w. t .0 (sym w ∙ said .i1u) in
-      let up = ⊎-elim (λ w. absurd (far w)) (λ w. w) (i.U1.m3u j v y g (t .1, o)) in
-      (up, h.H .tb1 j v y g up ∙ sym (i.T4.u2 j v y g (t .1, o) far))
+      let up = ⊎-elim (λ w. absurd (far w)) (λ w. w) (i.inbounds.m3u j v y g (t .1, o)) in
+      (up, h.H .tb1 j v y g up ∙ sym (i.telling.u2 j v y g (t .1, o) far))
 
   -- a kid is the other end of its inbound edge
   kid-of : (w : ℕ) → kid w ≡ true → Edge p (s.ub w) v w
   kid-of w c =
       let t = copy-yes s₁ v k (s.ub w) c in
-      let y = i.M1.own v (s.ub w) (λ o. omega (arith, t .1)) in
-      let g = i.U1.u1o w (λ o. edge-some p (y .1) o) in
+      let y = i.marks.own v (s.ub w) (λ o. omega (arith, t .1)) in
+      let g = i.inbounds.u1o w (λ o. edge-some p (y .1) o) in
       ⊎-elim (λ o. absurd (t .0 (ap s.ub (sym (o .0)) ∙ said .i1u))) (λ o. subst (λ c. Edge p (s.ub w) v c) (o .1) (y .1)) (ends-two (y .1) (g .1))
 
   kid-v : kid v ≡ false
@@ -161,7 +161,7 @@ module _ {p : Network} {z n : ℕ} {s : ProtocolState} (i : Inv p s) (h : Paid p
   D′ : Dues S′.lev s.fr s.gl s.due s.dk s.dn S′.dep tb′ rp′ rt′
   unfolding rt′ rp′
   D′ = record {
-    rp1 = λ w o. needs w o (λ c. omega (arith, more (h.rp) 1 w c, i.W0.due-le w)) (λ g. omega (arith, h.D .rp1 w g));
+    rp1 = λ w o. needs w o (λ c. omega (arith, more (h.rp) 1 w c, i.ranges.due-le w)) (λ g. omega (arith, h.D .rp1 w g));
     rt0 = λ w o c. needs w o (λ g. more (h.rt) 1 w g) (λ g. omega (arith, h.D .rt0 w g c));
     rt1 = λ w o c y. needs w o (λ g. more (h.rt) 1 w g) (λ g. omega (arith, h.D .rt1 w g c (was-low w y)));
     rt2 = λ w o c y. absurd (no-root i w (idle .2) c);
@@ -175,7 +175,7 @@ module _ {p : Network} {z n : ℕ} {s : ProtocolState} (i : Inv p s) (h : Paid p
       teller : (w : ℕ) → DK s w ≡ 2 → v ≢ s.dn (s.fr w)
       teller w c t =
           let o = changing-of i w c in
-          let g = i.D2.d2 (o .1) (o .0) (o .2) (o .3) (o .4) .d2i in
+          let g = i.changeRoots.d2 (o .1) (o .0) (o .2) (o .3) (o .4) .d2i in
           omega (arith, below, g .1, ap s.lev (t ∙ ap s.dn (sym (o .5)) ∙ o .4 .1), ap (GL s) (t ∙ ap s.dn (sym (o .5)) ∙ o .4 .1))
 
   T′ : Tries z S′.lev s.fr s.gl s.due tb′ ts′ b
@@ -216,7 +216,7 @@ module _ {p : Network} {z n : ℕ} {s : ProtocolState} (i : Inv p s) (h : Paid p
   copies = sum-map p.g.L p.N (λ j. bit (copy s₁ v k j)) s.ub (λ j o c. bool-cases (copy s₁ v k j) (λ t. hit j t) (λ t. absurd (c (ap bit t))))
     where
       hit : (j : ℕ) → copy s₁ v k j ≡ true → (w : ℕ) × (w < p.N) × (s.ub w ≡ j)
-      hit j t = let y = i.M1.own v j (λ o. omega (arith, copy-yes s₁ v k j t .1)) in (y .0, end-lt p (flip (y .1)), child j (y .0) (y .1) t .0)
+      hit j t = let y = i.marks.own v j (λ o. omega (arith, copy-yes s₁ v k j t .1)) in (y .0, end-lt p (flip (y .1)), child j (y .0) (y .1) t .0)
 
   pub paid-tell : Paid p z S′ (n + sum p.g.L (λ j. bit (copy s₁ v k j)))
   unfolding ts′ rt′ rp′

@@ -19,7 +19,7 @@ module _ {p : Network} {z n : ℕ} {s : ProtocolState} (i : Inv p s) (h : Paid p
   S′ = set-ot (set-te (sendOver s v k m) (upd s.te v k)) 0
 
   inf : Inf s v
-  inf = i.F1.f1 v (find i ot op oo ends first) .f1i
+  inf = i.finds.f1 v (find i ot op oo ends first) .f1i
 
   own : sumL isT (s.ch v k) ≡ 0
   own = own-test i ot op oo ends first
@@ -29,7 +29,7 @@ module _ {p : Network} {z n : ℕ} {s : ProtocolState} (i : Inv p s) (h : Paid p
 
   -- the other end is not Rejected
   fair : s.mark u k ≢ 2
-  fair e = i.E2.m6 k u v (flip ends) e (first .0) .1 ot
+  fair e = i.tests.m6 k u v (flip ends) e (first .0) .1 ot
 
   -- what the edge has
   have : 2 ≤ h.lk k + LT z s.lev s.ch v k + LT z s.lev s.ch u k
@@ -106,7 +106,7 @@ module _ {p : Network} {z n : ℕ} {s : ProtocolState} (i : Inv p s) (h : Paid p
       -- at most one Test comes from u
       theirs : LT z s.lev s.ch u k ≤ 1
       theirs = by-eq (s.te u) k
-          (λ e. omega (arith, lt-le z s.lev s.ch u k, i.E1.e2c k u v (flip ends) (e, λ o. v≢u (omega arith)) (inr ot)))
+          (λ e. omega (arith, lt-le z s.lev s.ch u k, i.testing.e2c k u v (flip ends) (e, λ o. v≢u (omega arith)) (inr ot)))
           (λ e. omega (arith, lt-le z s.lev s.ch u k, their-test i ot op oo ends first e))
         where
           v≢u : v ≢ u

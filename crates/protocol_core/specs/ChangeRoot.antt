@@ -10,13 +10,13 @@ use Rattle.protocol_core.specs.Rooted.{RootReady, inv-rooted}
 module _ {p : Network} {s : ProtocolState} (i : Inv p s) {u v k : ℕ} {r : List Msg} (idle : Idle s) (ends : Edge p k u v) (q : s.ch u k ≡ change ∷ r) where
   -- it is the fragment's decision
   pub changing : Changing s u k
-  changing = i.Dc.k1 k u v ends (pop-head s.ch u k q)
+  changing = i.tokens.k1 k u v ends (pop-head s.ch u k q)
 
   pub changing-ok : ChangingOk p s.fr s.gl s.gc s.lev s.ib s.ub s.bw s.mark k u v
-  changing-ok = i.D2.d2 k u v ends changing
+  changing-ok = i.changeRoots.d2 k u v ends changing
 
   inside : s.fr u ≡ s.fr v
-  inside = i.M1.m3 k u v ends (changing-ok .d2j)
+  inside = i.marks.m3 k u v ends (changing-ok .d2j)
 
   pub dk : DK s v ≡ 2
   dk = sym (ap s.dk inside) ∙ changing .0
@@ -27,12 +27,12 @@ module _ {p : Network} {s : ProtocolState} (i : Inv p s) {u v k : ℕ} {r : List
   -- no Report is on its way to v over k: it would be spent, so k the core
   silent : sumL isR (s.ch u k) ≡ 0
   silent = no-reports (s.ch u k) (λ w o. let t = decided-report i k u v w ends (dk-of v refl) o in
-      changing-ok .d2g (ap s.gc inside ∙ sym (i.G2.g2i v (changing-ok .d2x)) ∙ t .1))
+      changing-ok .d2g (ap s.gc inside ∙ sym (i.levels.g2i v (changing-ok .d2x)) ∙ t .1))
 
   -- it was the only Change-root of the fragment
   no-token : (j x y : ℕ) → Edge p j x y → s.fr x ≡ s.fr v → ¬ In change (upd2 s.ch u k r x j)
   no-token j x y e f o =
-      let t = i.Dc.k1 j x y e (pop-in s.ch u k q x j o) in
+      let t = i.tokens.k1 j x y e (pop-in s.ch u k q x j o) in
       let a : x ≡ u = sym (t .1) ∙ ap s.dn (f ∙ sym inside) ∙ changing .1 in
       let b : j ≡ k = sym (t .2) ∙ ap s.de (f ∙ sym inside) ∙ changing .2 in
       omega (arith, none-in isK (rest-none i isK ends q (λ n z. z)) (subst (λ l. In change l) (at2 (upd2 s.ch u k r) a b ∙ here-new s.ch u k r) o))
@@ -50,10 +50,10 @@ module _ {p : Network} {s : ProtocolState} (i : Inv p s) {u v k : ℕ} {r : List
     fresh = λ z. omega (arith, dk);
     unfinished = λ z. omega (arith, dk);
     no-find = λ x e. decided-find i x (dk-of x e);
-    no-due = λ x e. i.D4.d5 x (dk-of x e);
+    no-due = λ x e. i.finishes.d5 x (dk-of x e);
     silent = omega (arith, pop-le s.ch u k q isR u k, silent);
     no-token = no-token;
-    spent = λ j a b n e f o. let l = pop-in s.ch u k q a j o in decided-report i j a b n e (dk-of b (sym (i.M1.m3 j a b e (i.R1.r1j j a b n e l)) ∙ f)) l;
+    spent = λ j a b n e f o. let l = pop-in s.ch u k q a j o in decided-report i j a b n e (dk-of b (sym (i.marks.m3 j a b e (i.reports.r1j j a b n e l)) ∙ f)) l;
   }
 
   pub inv-change-root : Inv p (rooted (pop s u k r) v)

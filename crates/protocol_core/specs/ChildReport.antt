@@ -51,7 +51,7 @@ module _ {p : Network} {s : ProtocolState} (i : Inv p s) {u v k w b e : ℕ} {r 
   -- w leaves the fragment, from u's side, which is v's
   leaves : w ≢ none → LeavesFragment p s v w
   leaves n =
-      let t = i.B1.b1 u inf-u (λ z. n (sym best-u ∙ z)) in
+      let t = i.weights.b1 u inf-u (λ z. n (sym best-u ∙ z)) in
       let f = C.report-inside i ends q in (
         t .0,
         t .1,
@@ -60,38 +60,38 @@ module _ {p : Network} {s : ProtocolState} (i : Inv p s) {u v k w b e : ℕ} {r 
         λ z. t .4 (z ∙ sym f),
         omega (arith, t .5, ap s.gl f),
         t .6,
-        t .7 ∙ i.T1.t1p k u v ends inf-u (child .1) (child .2) .2,
+        t .7 ∙ i.parents.t1p k u v ends inf-u (child .1) (child .2) .2,
       )
 
-  F2′ : Pending s.st s.te S′.fc s.ot (suc v)
-  F2′ = record {
+  pending′ : Pending s.st s.te S′.fc s.ot (suc v)
+  pending′ = record {
     f2 = λ x h. by-eq v x (λ z. inr (inr (inr (ap suc z))))
         (λ n. ⊎-elim (λ c. inl (λ z. c (sym (upd-other s.fc v (s.fc v - 1) x n) ∙ z)))
-        (⊎-elim (λ c. inr (inl c)) (⊎-elim (λ c. inr (inr (inl c))) (λ c. absurd (omega (arith, idle .1))))) (i.F2.f2 x h));
-    f3t = i.F2.f3t;
-    f3c = λ x n. upd-elim (λ a. a ≡ 0) s.fc v (s.fc v - 1) x (λ z. absurd (n (ap s.st (sym z) ∙ find))) (λ d. i.F2.f3c x n);
-    f5t = i.F2.f5t;
+        (⊎-elim (λ c. inr (inl c)) (⊎-elim (λ c. inr (inr (inl c))) (λ c. absurd (omega (arith, idle .1))))) (i.pending.f2 x h));
+    f3t = i.pending.f3t;
+    f3c = λ x n. upd-elim (λ a. a ≡ 0) s.fc v (s.fc v - 1) x (λ z. absurd (n (ap s.st (sym z) ∙ find))) (λ d. i.pending.f3c x n);
+    f5t = i.pending.f5t;
     f5p = λ x h. subst (λ a. s.st a ≡ 1) (omega arith) find;
   }
 
-  F4′ : FindCounts p S′.fc S′.owe
-  F4′ = record {
+  findCounts′ : FindCounts p S′.fc S′.owe
+  findCounts′ = record {
     f4 = λ x. upd-elim (λ a. a ≡ sum p.g.L (S′.owe x)) s.fc v (s.fc v - 1) x
-        (λ z. subst (λ a. s.fc v - 1 ≡ sum p.g.L (S′.owe a)) z (omega (arith, sum-row p.g.L v k 0 s.owe (joins-lt ends), i.F4.f4 v, owed)))
-        (λ n. subst (λ a. s.fc x ≡ sum p.g.L a) (sym (row-else v k 0 s.owe x n)) (i.F4.f4 x));
-    f4l = λ x j. upd2-elim (λ a. a ≤ 1) s.owe v k 0 x j (λ a c. omega arith) (λ n. i.F4.f4l x j);
-    f4o = λ x j. upd2-elim (λ a. a ≢ 0 → (c : ℕ) × Edge p j x c) s.owe v k 0 x j (λ a c n. absurd (n refl)) (λ d n. i.F4.f4o x j n);
+        (λ z. subst (λ a. s.fc v - 1 ≡ sum p.g.L (S′.owe a)) z (omega (arith, sum-row p.g.L v k 0 s.owe (joins-lt ends), i.findCounts.f4 v, owed)))
+        (λ n. subst (λ a. s.fc x ≡ sum p.g.L a) (sym (row-else v k 0 s.owe x n)) (i.findCounts.f4 x));
+    f4l = λ x j. upd2-elim (λ a. a ≤ 1) s.owe v k 0 x j (λ a c. omega arith) (λ n. i.findCounts.f4l x j);
+    f4o = λ x j. upd2-elim (λ a. a ≢ 0 → (c : ℕ) × Edge p j x c) s.owe v k 0 x j (λ a c n. absurd (n refl)) (λ d n. i.findCounts.f4o x j n);
   }
 
-  Dc′ : Tokens p S′
-  Dc′ = record {
-    d1c = λ j z y f t. in-pop s.ch u k q z j (kinds (λ a. omega arith)) (i.Dc.d1c j z y f t);
-    d1a = λ j z y f t. pop-all s.ch u k q z j (i.Dc.d1a j z y f t);
-    d2c = λ j a x f t. in-pop s.ch u k q a j (kinds (λ z. omega arith)) (i.Dc.d2c j a x f t);
-    k1 = λ j a x f n. i.Dc.k1 j a x f (pop-in s.ch u k q a j n);
+  tokens′ : Tokens p S′
+  tokens′ = record {
+    d1c = λ j z y f t. in-pop s.ch u k q z j (kinds (λ a. omega arith)) (i.tokens.d1c j z y f t);
+    d1a = λ j z y f t. pop-all s.ch u k q z j (i.tokens.d1a j z y f t);
+    d2c = λ j a x f t. in-pop s.ch u k q a j (kinds (λ z. omega arith)) (i.tokens.d2c j a x f t);
+    k1 = λ j a x f n. i.tokens.k1 j a x f (pop-in s.ch u k q a j n);
     d3r = λ j x y f t. absurd (no-root i x (idle .2) (t .0));
-    d4h = λ j x y f g d l t n. i.Dc.d4h j x y f g d l t (pop-in s.ch u k q y j n);
-    d4r = λ j x y f g d l t. subst (λ a. In (report none) a) (sym (core-off j y x (flip f) (core-other j x y f g l))) (i.Dc.d4r j x y f g d l t);
+    d4h = λ j x y f g d l t n. i.tokens.d4h j x y f g d l t (pop-in s.ch u k q y j n);
+    d4r = λ j x y f g d l t. subst (λ a. In (report none) a) (sym (core-off j y x (flip f) (core-other j x y f g l))) (i.tokens.d4r j x y f g d l t);
     d7 = λ j x y f g d h o. ⊎-elim
         (λ t. inl (subst (λ a. 1 ≤ sumL isR a) (sym (core-off j x y f g)) t))
         (λ t. inr (
@@ -100,30 +100,30 @@ module _ {p : Network} {s : ProtocolState} (i : Inv p s) {u v k w b e : ℕ} {r 
           omega (arith, ap (key p) (W.bw-found i (idle .2) find (flip ends) better leaves x o), ap (key p) (W.bw-found i (idle .2) find (flip ends) better leaves y (t .1)), t .2),
           subst (λ a. 1 ≤ sumL isR a) (sym (core-off j y x (flip f) (core-other j x y f g (h .0)))) (t .3),
         ))
-        (i.Dc.d7 j x y f g d h o);
+        (i.tokens.d7 j x y f g d h o);
   }
     where
       -- the other end of the core is in the fragment
       core-other : (j x y : ℕ) → Edge p j x y → GC s x ≡ j → 1 ≤ GL s x → GC s y ≡ j
-      core-other j x y f g l = ap s.gc (i.G5.g5 x y x l (subst (λ a. Edge p a y x) (sym g) (flip f)) .1) ∙ g
+      core-other j x y f g l = ap s.gc (i.cores.g5 x y x l (subst (λ a. Edge p a y x) (sym g) (flip f)) .1) ∙ g
 
       -- k is no core
       core-off : (j x y : ℕ) → Edge p j x y → GC s x ≡ j → c′ x j ≡ s.ch x j
       core-off j x y f g = else-same s.ch u k r x j (by-eq k j (λ z. inl (λ a. child .2 (ap (λ a. GC s a) a ∙ g ∙ sym z))) (λ n. inr n))
 
-  R1′ : Reports p S′
-  R1′ =
-      let o = reports-best p (set-ch s c′) S′.bw S′.be (W.bw-found i (idle .2) find (flip ends) better leaves) (reports-same p s c′ (take-alike p s u k q refl) i.R1) in
+  reports′ : Reports p S′
+  reports′ =
+      let o = reports-best p (set-ch s c′) S′.bw S′.be (W.bw-found i (idle .2) find (flip ends) better leaves) (reports-same p s c′ (take-alike p s u k q refl) i.reports) in
       record { r1r = o.r1r; r1j = o.r1j; r1 = o.r1; r1c = o.r1c }
 
-  F4c′ : Owing p S′
-  F4c′ = record {
+  owing′ : Owing p S′
+  owing′ = record {
     f4y = λ j x c f. upd2-elim (λ a. a ≢ 0 → Inf s x × Jn s j x c × (s.ib x ≢ j) × Outst S′ c j) s.owe v k 0 x j
         (λ a d n. absurd (n refl))
-        (λ d n. let t = i.F4c.f4y j x c f n in (t .0, t .1, t .2, outst-to j x c f d (t .3)));
+        (λ d n. let t = i.owing.f4y j x c f n in (t .0, t .1, t .2, outst-to j x c f d (t .3)));
     f4n = λ j x c f h m n o. upd2-elim (λ a. a ≡ 1) s.owe v k 0 x j
         (λ a d. absurd (settled (subst (λ y. Outst S′ y k) (sym (other-end (flip ends) f a d)) (subst (λ y. Outst S′ c y) (sym d) o))))
-        (λ d. i.F4c.f4n j x c f h m n (outst-from c j o));
+        (λ d. i.owing.f4n j x c f h m n (outst-from c j o));
   }
     where
       -- u's is no longer to come
@@ -140,11 +140,11 @@ module _ {p : Network} {s : ProtocolState} (i : Inv p s) {u v k w b e : ℕ} {r 
           (λ z. inl (λ a. ⊎-elim (λ n. n (other-end ends (flip f) a z)) (λ n. n z) d)) (λ n. inr n)) in
           outst-ch s c′ c j (λ l. subst (λ a. 1 ≤ sumL isR a) (sym y) l) o
 
-  B2′ : Bests p S′
-  B2′ = record {
+  bests′ : Bests p S′
+  bests′ = record {
     b1e = W.best-edge i (idle .2) find (flip ends) better leaves c′ (pop-le s.ch u k q isR)
         (λ n d. (u, flip ends, joined, away, inf-u, child .1, W.bw-found i (idle .2) find (flip ends) better leaves u found-u ∙ best-u, found-u, C.silent i ends q));
-    b2 = λ j x y f m d g. last-case (cover x (rank p j)) (i.B2.b2 j x y f m d g);
+    b2 = λ j x y f m d g. last-case (cover x (rank p j)) (i.bests.b2 j x y f m d g);
   }
     where
       live : (x : ℕ) → u ≢ x → Counting s x → Counting S′ x
@@ -157,13 +157,13 @@ module _ {p : Network} {s : ProtocolState} (i : Inv p s) {u v k w b e : ℕ} {r 
           (λ a. inr (live (t .0) a (t .4))))
 
   pub inv-child-report : Inv p S′
-  inv-child-report = W.inv-weighed i (idle .2) find (flip ends) better leaves s.te S′.fc S′.owe (suc v) c′ F2′ F4′ i.E2 (record {
-    G6c = others.G6c;
-    Dc = Dc′;
-    C1 = others.C1;
-    I1 = others.I1;
-    T4 = others.T4;
-    R1 = R1′;
-    F4c = F4c′;
-    Q1 = others.Q1;
-  }) others.E1 others.A1 B2′
+  inv-child-report = W.inv-weighed i (idle .2) find (flip ends) better leaves s.te S′.fc S′.owe (suc v) c′ pending′ findCounts′ i.tests (record {
+    hush = others.hush;
+    tokens = tokens′;
+    connects = others.connects;
+    initiates = others.initiates;
+    telling = others.telling;
+    reports = reports′;
+    owing = owing′;
+    ordered = others.ordered;
+  }) others.testing others.answers bests′

@@ -11,10 +11,10 @@ module _ {p : Network} {s : ProtocolState} (i : Inv p s) {u v k w : ℕ} {r : Li
   report-in = pop-head s.ch u k q
 
   pub report-joined : Jn s k u v
-  report-joined = i.R1.r1j k u v w ends report-in
+  report-joined = i.reports.r1j k u v w ends report-in
 
   pub report-inside : s.fr u ≡ s.fr v
-  report-inside = i.M1.m3 k u v ends report-joined
+  report-inside = i.marks.m3 k u v ends report-joined
 
   -- the receiver of a core end's Report is informed: its Initiate would stand ahead
   core-inf : CoreEnds s u v k w → Inf s v
@@ -31,27 +31,27 @@ module _ {p : Network} {s : ProtocolState} (i : Inv p s) {u v k w : ℕ} {r : Li
 
   -- v is not Find: it is no child's
   pub core-or-spent : s.st v ≢ 1 → CoreEnds s u v k w ⊎ Spent p s u v k w
-  core-or-spent n = ⊎-elim (λ t. absurd (n (t .6))) (λ t. t) (i.R1.r1 k u v w ends report-in)
+  core-or-spent n = ⊎-elim (λ t. absurd (n (t .6))) (λ t. t) (i.reports.r1 k u v w ends report-in)
 
   -- over another edge than v's in-branch it is a child's, and is counted
   module _ (away : s.ib v ≢ k) where
     pub child : Child s u v k w
     child = ⊎-elim (λ t. t)
         (⊎-elim
-        (λ t. absurd (away (i.T1.t1e k v u (flip ends) (core-inf t) (sym (ap s.gc report-inside) ∙ t .0))))
+        (λ t. absurd (away (i.parents.t1e k v u (flip ends) (core-inf t) (sym (ap s.gc report-inside) ∙ t .0))))
         (λ t. absurd (away (t .0))))
-        (i.R1.r1 k u v w ends report-in)
+        (i.reports.r1 k u v w ends report-in)
 
     pub owed : s.owe v k ≡ 1
-    owed = i.F4c.f4n k v u (flip ends) (child .5) (report-joined .1, report-joined .0) away (inl (child .0, inr (in-sum isR report-in)))
+    owed = i.owing.f4n k v u (flip ends) (child .5) (report-joined .1, report-joined .0) away (inl (child .0, inr (in-sum isR report-in)))
 
     pub count : 1 ≤ s.fc v
-    count = omega (arith, owed, i.F4.f4 v, le-sum p.g.L k (s.owe v) (joins-lt ends))
+    count = omega (arith, owed, i.findCounts.f4 v, le-sum p.g.L k (s.owe v) (joins-lt ends))
 
   -- a weight that is no edge is the latest
   pub weight-le : key p w ≤ p.g.L
   weight-le = by-eq w none (λ z. omega (arith, ap (key p) z, key-none p))
-      (λ n. let l = i.R1.r1r k u v w ends report-in n in omega (arith, key-edge p w l, rank-lt p w l))
+      (λ n. let l = i.reports.r1r k u v w ends report-in n in omega (arith, key-edge p w l, rank-lt p w l))
 
   module _ (idle : Idle s) (found : s.st v ≢ 1) (core : CoreEnds s u v k w) where
     pub inf-u : Inf s u
@@ -79,33 +79,33 @@ module _ {p : Network} {s : ProtocolState} (i : Inv p s) {u v k w : ℕ} {r : Li
     undec = sym (ap s.dk report-inside) ∙ core .1
 
     pub ib-u : s.ib u ≡ k
-    ib-u = i.T1.t1e k u v ends inf-u core-u
+    ib-u = i.parents.t1e k u v ends inf-u core-u
 
     pub ib-v : s.ib v ≡ k
-    ib-v = i.T1.t1e k v u (flip ends) inf-v core-v
+    ib-v = i.parents.t1e k v u (flip ends) inf-v core-v
 
     pub ub-u : s.ub u ≡ k
-    ub-u = i.T1.t1u u inf-u (core .1) ∙ ib-u
+    ub-u = i.parents.t1u u inf-u (core .1) ∙ ib-u
 
     pub ub-v : s.ub v ≡ k
-    ub-v = i.T1.t1u v inf-v undec ∙ ib-v
+    ub-v = i.parents.t1u v inf-v undec ∙ ib-v
 
     -- quiet: nobody is Find or due
     pub none-find : (x : ℕ) → s.fr x ≡ s.fr v → s.st x ≢ 1
     none-find = no-find i (flip ends) core-v inf-v inf-u found (λ z. omega (arith, found-u))
 
     pub none-due : (x : ℕ) → s.fr x ≡ s.fr v → s.due x ≡ 0
-    none-due x e = let n = no-due i (flip ends) core-v inf-v inf-u found (λ z. omega (arith, found-u)) x e in omega (arith, i.W0.due-le x)
+    none-due x e = let n = no-due i (flip ends) core-v inf-v inf-u found (λ z. omega (arith, found-u)) x e in omega (arith, i.ranges.due-le x)
 
     -- a Report within the fragment: between the two ends, or spent
     report-core : (j a b n : ℕ) → Edge p j a b → s.fr a ≡ s.fr v → In (report n) (s.ch a j)
         → ((((a ≡ u) × (b ≡ v)) ⊎ ((a ≡ v) × (b ≡ u))) × (j ≡ k) × (s.bw a ≡ n)) ⊎ Spent p s a b j n
     report-core j a b n e f o = ⊎-elim
-        (λ t. absurd (none-find b (sym (i.M1.m3 j a b e (i.R1.r1j j a b n e o)) ∙ f) (t .6)))
+        (λ t. absurd (none-find b (sym (i.marks.m3 j a b e (i.reports.r1j j a b n e o)) ∙ f) (t .6)))
         (⊎-elim
         (λ t. let z : j ≡ k = sym (t .0) ∙ ap s.gc f ∙ core-v in inl (same-edge e ends z, z, t .4))
         (λ t. inr t))
-        (i.R1.r1 j a b n e o)
+        (i.reports.r1 j a b n e o)
 
     -- once this one is taken: v's own, or spent
     pub report-left : (j a b n : ℕ) → Edge p j a b → s.fr a ≡ s.fr v → In (report n) (upd2 s.ch u k r a j)
@@ -120,7 +120,7 @@ module _ {p : Network} {s : ProtocolState} (i : Inv p s) {u v k w : ℕ} {r : Li
 
     -- v's own is spent once the fragment is decided, if u's best is later, or the fragment is finished: dk are the new decisions
     pub own-spent : (dk : ℕ → ℕ) (n : ℕ) → (key p n < key p (s.bw u)) ⊎ ((n ≡ none) × (s.bw u ≡ none) × (dk (s.fr u) ≡ 4) × (GC s u ≡ k)) → Spent p (set-dk s dk) v u k n
-    own-spent dk n l = (ib-u, i.G2.g2i u inf-u ∙ core-u, ub-u, found-u, λ m b. none-in isCI calls (bef-before b), l)
+    own-spent dk n l = (ib-u, i.levels.g2i u inf-u ∙ core-u, ub-u, found-u, λ m b. none-in isCI calls (bef-before b), l)
       where
         calls : sumL isCI (s.ch v k) ≡ 0
         calls = no-calls (s.ch v k) (λ l. no-connect i k v u l (flip ends) (report-joined .1, report-joined .0) inf-v) (λ l f x. no-initiate i k v u l f x (flip ends) inf-u)
@@ -131,7 +131,7 @@ module _ {p : Network} {s : ProtocolState} (i : Inv p s) {u v k w : ℕ} {r : Li
     live-end x f h (inr t) = at-core (by-eq (s.ib x) (GC s x) (λ z. z) (λ n. absurd (⊎-elim n (sent n) t)))
       where
         up-edge : (y : ℕ) × Edge p (s.ib x) x y
-        up-edge = i.U1.u1r x (i.T1.t1 x h)
+        up-edge = i.inbounds.u1r x (i.parents.t1 x h)
 
         at-core : s.ib x ≡ GC s x → (x ≡ u) ⊎ (x ≡ v)
         at-core z = ⊎-elim (λ t. inl (t .0)) (λ t. inr (t .0))
@@ -155,4 +155,4 @@ module _ {p : Network} {s : ProtocolState} (i : Inv p s) {u v k w : ℕ} {r : Li
         (⊎-elim
         (λ t. absurd (none-find a f (te-find i a (t .0))))
         (λ t. (t .0, live-end (t .0) (t .1 ∙ f) (t .2) (t .4), t .3, t .5))))
-        (i.B2.b2 j a b e m (ap s.dk f ∙ undec) (omega (arith, ap s.gl f, inf-v .0)))
+        (i.bests.b2 j a b e m (ap s.dk f ∙ undec) (omega (arith, ap s.gl f, inf-v .0)))

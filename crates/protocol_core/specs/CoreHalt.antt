@@ -47,7 +47,7 @@ module _ {p : Network} {s : ProtocolState} (i : Inv p s) {u v k w : ℕ} {r : Li
     t .2,
     t .3,
     λ m z. t .4 m (pop-bef s.ch u k q a j z),
-    ⊎-elim (λ l. inl l) (λ l. inr (l .0, l .1, dk-in b (sym (i.M1.m3 j a b e (i.R1.r1j j a b n e (pop-in s.ch u k q a j o))) ∙ f), l .3)) (t .5),
+    ⊎-elim (λ l. inl l) (λ l. inr (l .0, l .1, dk-in b (sym (i.marks.m3 j a b e (i.reports.r1j j a b n e (pop-in s.ch u k q a j o))) ∙ f), l .3)) (t .5),
   )
 
   -- the fragment is undecided: v's own Report waits, and says none
@@ -61,7 +61,7 @@ module _ {p : Network} {s : ProtocolState} (i : Inv p s) {u v k w : ℕ} {r : Li
     tight = λ j x y e f m. let t = C.bound i ends q idle found c x j y f e m in t .2 (⊎-elim (λ z. ap s.bw z ∙ bu) (λ z. ap s.bw z ∙ bn) (t .1));
     end-u = (C.inf-u i ends q idle found c, bu);
     end-v = (C.inf-v i ends q idle found c, bn);
-    halt-no = λ n. absurd (omega (arith, i.D4.d6 u n, c .1));
+    halt-no = λ n. absurd (omega (arith, i.finishes.d6 u n, c .1));
     halt-yes = λ z. own;
     spent = λ j a b n e f o. ⊎-elim
         (λ t. subst (λ x. Spent p S′ x b j n) (sym (t .0)) (subst (λ x. Spent p S′ v x j n) (sym (t .1)) (subst (λ x. Spent p S′ v u x n) (sym (t .2)) (own-spent n (t .3)))))
@@ -75,9 +75,9 @@ module _ {p : Network} {s : ProtocolState} (i : Inv p s) {u v k w : ℕ} {r : Li
       own : In (report none) (s.ch v k)
       own =
           let l = ⊎-elim (λ t. t) (λ t. absurd (omega (arith, t .2, ap (key p) bu, ap (key p) bn)))
-          (i.Dc.d7 k v u (flip ends) (C.core-v i ends q idle found c) (C.undec i ends q idle found c) (C.inf-v i ends q idle found c) (C.found-v i ends q idle found c)) in
+          (i.tokens.d7 k v u (flip ends) (C.core-v i ends q idle found c) (C.undec i ends q idle found c) (C.inf-v i ends q idle found c) (C.found-v i ends q idle found c)) in
           let o = some-report (s.ch v k) l in
-          let b = i.R1.r1c k v u (o .0) (flip ends) (o .1) (C.inf-u i ends q idle found c) (c .1) (C.core-u i ends q idle found c) .4 in
+          let b = i.reports.r1c k v u (o .0) (flip ends) (o .1) (C.inf-u i ends q idle found c) (c .1) (C.core-u i ends q idle found c) .4 in
           subst (λ n. In (report n) (s.ch v k)) (sym b ∙ bn) (o .1)
 
       own-spent : (n : ℕ) → s.bw v ≡ n → Spent p S′ v u k n
@@ -92,15 +92,15 @@ module _ {p : Network} {s : ProtocolState} (i : Inv p s) {u v k w : ℕ} {r : Li
     fresh = λ z. omega (arith, over .0);
     changing = λ z. omega (arith, over .0);
     no-find = λ x e. decided-find i x (dk-of x e);
-    no-due = λ x e. i.D4.d5 x (dk-of x e);
-    tight = λ j x y e f. i.D4.d4 j x y e (ap s.dk f ∙ over .0);
-    end-u = i.D4.d4i k u v ends (ap s.gc inside ∙ over .1) (ap s.dk inside ∙ over .0) level-u;
-    end-v = i.D4.d4i k v u (flip ends) (over .1) (over .0) (omega (arith, ap s.gl inside, level-u));
-    halt-no = i.Dc.d4h k u v ends (ap s.gc inside ∙ over .1) (ap s.dk inside ∙ over .0) level-u;
-    halt-yes = i.Dc.d4r k u v ends (ap s.gc inside ∙ over .1) (ap s.dk inside ∙ over .0) level-u;
+    no-due = λ x e. i.finishes.d5 x (dk-of x e);
+    tight = λ j x y e f. i.finishes.d4 j x y e (ap s.dk f ∙ over .0);
+    end-u = i.finishes.d4i k u v ends (ap s.gc inside ∙ over .1) (ap s.dk inside ∙ over .0) level-u;
+    end-v = i.finishes.d4i k v u (flip ends) (over .1) (over .0) (omega (arith, ap s.gl inside, level-u));
+    halt-no = i.tokens.d4h k u v ends (ap s.gc inside ∙ over .1) (ap s.dk inside ∙ over .0) level-u;
+    halt-yes = i.tokens.d4r k u v ends (ap s.gc inside ∙ over .1) (ap s.dk inside ∙ over .0) level-u;
     spent = λ j a b n e f o.
         let l = pop-in s.ch u k q a j o in
-        still j a b n e f o (decided-report i j a b n e (dk-of b (sym (i.M1.m3 j a b e (i.R1.r1j j a b n e l)) ∙ f)) l);
+        still j a b n e f o (decided-report i j a b n e (dk-of b (sym (i.marks.m3 j a b e (i.reports.r1j j a b n e l)) ∙ f)) l);
   }
     where
       over : (DK s v ≡ 4) × (GC s v ≡ k)
@@ -140,7 +140,7 @@ module _ {p : Network} {s : ProtocolState} (i : Inv p s) {u v k w : ℕ} {r : Li
     nothing = λ j x y e f g. at-end (λ j x y. Inf s x × (s.bw x ≡ none)) j x y e f g (ending .end-u) (ending .end-v);
     halted = λ j x y e f. upd-elim (λ a. a ≢ 0 → (z : ℕ) × Edge p (GC s x) x z) s.halt v 1 x
         (λ z n. (u, subst (λ a. Edge p (GC s a) a u) z (subst (λ a. Edge p a v u) (sym (ending .core)) (flip ends))))
-        (λ d n. i.D4.d6c j x y e n);
+        (λ d n. i.finishes.d6c j x y e n);
     halt-no = λ j x y e f g. at-end (λ j x y. S′.halt x ≢ 0 → ¬ In (report none) (c′ y j)) j x y e f g
         (λ n o. ending .halt-no (λ z. n (halt-off u v≢u ∙ z)) (subst (λ l. In (report none) l) own-off o))
         (λ n o. omega (arith, none-in isR (C.silent i ends q) o));
@@ -163,7 +163,7 @@ module _ {p : Network} {s : ProtocolState} (i : Inv p s) {u v k w : ℕ} {r : Li
     no-due = ending .no-due;
     dn-off = λ x n. refl;
     halt-off = λ x n. halt-off x (λ z. n (ap s.fr z));
-    halt-le = λ x. upd-elim (λ a. a ≤ 1) s.halt v 1 x (λ z. omega arith) (λ n. i.W0.halt-le x);
+    halt-le = λ x. upd-elim (λ a. a ≤ 1) s.halt v 1 x (λ z. omega arith) (λ n. i.ranges.halt-le x);
     verdict = inr (refl, done);
     rootings = record {
       d3f = λ x z. absurd (no-root-left x z);
@@ -172,7 +172,7 @@ module _ {p : Network} {s : ProtocolState} (i : Inv p s) {u v k w : ℕ} {r : Li
       d3 = λ x t. absurd (no-root-left x (t .0));
     };
     no-report = λ j x y e t z. absurd (no-root-left x (t .0));
-    no-token = λ j x y e f o. ending .changing (sym (ap s.dk f) ∙ i.Dc.k1 j x y e (pop-in s.ch u k q x j o) .0);
+    no-token = λ j x y e f o. ending .changing (sym (ap s.dk f) ∙ i.tokens.k1 j x y e (pop-in s.ch u k q x j o) .0);
     spent = ending .spent;
   }
 

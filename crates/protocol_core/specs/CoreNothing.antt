@@ -21,7 +21,7 @@ module _ {p : Network} {s : ProtocolState} (i : Inv p s) {u v k w : ℕ} {r : Li
 
   -- w is an edge
   pub w-some : w ≢ none
-  w-some z = ⊎-elim (λ n. n z) (λ n. let l = i.W1.w1w v n in omega (arith, key-none p, ap (key p) z, key-edge p (s.bw v) l, rank-lt p (s.bw v) l)) some
+  w-some z = ⊎-elim (λ n. n z) (λ n. let l = i.values.w1w v n in omega (arith, key-none p, ap (key p) z, key-edge p (s.bw v) l, rank-lt p (s.bw v) l)) some
 
   -- the ends of the core never have the same best weight: its inner end has one side
   pub later : CoreEnds s u v k w → key p w < key p (s.bw v)
@@ -38,15 +38,15 @@ module _ {p : Network} {s : ProtocolState} (i : Inv p s) {u v k w : ℕ} {r : Li
 
       equal : key p w ≡ key p (s.bw v) → ⊥
       equal z =
-          let lw = i.R1.r1r k u v w ends (C.report-in i ends q) w-some in
+          let lw = i.reports.r1r k u v w ends (C.report-in i ends q) w-some in
           let n : s.bw v ≢ none = λ o. omega (arith, ap (key p) o, key-none p, key-edge p w lw, rank-lt p w lw) in
-          let lv = i.W1.w1w v n in
+          let lv = i.values.w1w v n in
           let e : w ≡ s.bw v = rank-inj p w (s.bw v) lw lv (omega (arith, key-edge p w lw, key-edge p (s.bw v) lv)) in
-          let a = i.B1.b1 u iu (λ o. w-some (sym bu ∙ o)) in
-          let b = i.B1.b1 v iv n in
+          let a = i.weights.b1 u iu (λ o. w-some (sym bu ∙ o)) in
+          let b = i.weights.b1 v iv n in
           let x : a .0 ≡ b .0 = inner (s.bw u) (a .0) (a .1) (b .0) (b .1) (a .2) (subst (λ j. Edge p j (b .0) (b .1)) (sym (bu ∙ e)) (b .2)) (a .3) (b .4) in
-          ends-irr p ends (sym (i.T1.t1d u iu (C.ib-u i ends q idle found c ∙ sym (C.core-u i ends q idle found c)) .1)
-          ∙ sym (a .7) ∙ ap s.side x ∙ b .7 ∙ i.T1.t1d v iv (C.ib-v i ends q idle found c ∙ sym (C.core-v i ends q idle found c)) .1)
+          ends-irr p ends (sym (i.parents.t1d u iu (C.ib-u i ends q idle found c ∙ sym (C.core-u i ends q idle found c)) .1)
+          ∙ sym (a .7) ∙ ap s.side x ∙ b .7 ∙ i.parents.t1d v iv (C.ib-v i ends q idle found c ∙ sym (C.core-v i ends q idle found c)) .1)
         where
           inner : (j x y x′ y′ : ℕ) → Edge p j x y → Edge p j x′ y′ → s.fr x ≡ s.fr u → s.fr y′ ≢ s.fr v → x ≡ x′
           inner j x y x′ y′ e f g h = ⊎-elim (λ t. t .0) (λ t. absurd (h (ap s.fr (sym (t .0)) ∙ g ∙ C.report-inside i ends q))) (ends-two e f)
@@ -54,8 +54,8 @@ module _ {p : Network} {s : ProtocolState} (i : Inv p s) {u v k w : ℕ} {r : Li
   -- at an undecided core it is a core end's
   pub at-core : GC s v ≡ k → DK s v ≡ 0 → CoreEnds s u v k w
   at-core g d = inf-cases i v
-      (λ h. i.R1.r1c k u v w ends (C.report-in i ends q) h d g)
-      (λ l. absurd (i.T2.t4u k v u (flip ends) jn g l .t4i ib))
+      (λ h. i.reports.r1c k u v w ends (C.report-in i ends q) h d g)
+      (λ l. absurd (i.kids.t4u k v u (flip ends) jn g l .t4i ib))
       (λ z. absurd (omega (arith, joined-level i k v u (flip ends) jn)))
     where
       jn : Jn s k v u
@@ -64,7 +64,7 @@ module _ {p : Network} {s : ProtocolState} (i : Inv p s) {u v k w : ℕ} {r : Li
   -- v's own Report waits then
   pub own-waits : CoreEnds s u v k w → 1 ≤ sumL isR (s.ch v k)
   own-waits c = ⊎-elim (λ t. t) (λ t. absurd (omega (arith, t .2, le, ap (key p) (C.best-u i ends q idle found c))))
-      (i.Dc.d7 k v u (flip ends) (C.core-v i ends q idle found c) (C.undec i ends q idle found c) (C.inf-v i ends q idle found c) (C.found-v i ends q idle found c))
+      (i.tokens.d7 k v u (flip ends) (C.core-v i ends q idle found c) (C.undec i ends q idle found c) (C.inf-v i ends q idle found c) (C.found-v i ends q idle found c))
 
   -- the channels but that one are as they were
   off : (x j : ℕ) → (u ≢ x) ⊎ (k ≢ j) → c′ x j ≡ s.ch x j
@@ -76,20 +76,20 @@ module _ {p : Network} {s : ProtocolState} (i : Inv p s) {u v k w : ℕ} {r : Li
   not-head : {x : Msg} → x ≢ report w → (a j : ℕ) → In x (s.ch a j) → In x (c′ a j)
   not-head n a j o = in-pop s.ch u k q a j n o
 
-  Dc′ : Tokens p S′
-  Dc′ = record {
-    d1c = λ j z y e t. not-head (kinds (λ a. omega arith)) z j (i.Dc.d1c j z y e t);
-    d1a = λ j z y e t. pop-all s.ch u k q z j (i.Dc.d1a j z y e t);
-    d2c = λ j a x e t. not-head (kinds (λ z. omega arith)) a j (i.Dc.d2c j a x e t);
-    k1 = λ j a x e n. i.Dc.k1 j a x e (pop-in s.ch u k q a j n);
-    d3r = λ j x y e t b. omega (arith, pop-le s.ch u k q isR y j, i.Dc.d3r j x y e t b);
-    d4h = λ j x y e g d l t n. i.Dc.d4h j x y e g d l t (pop-in s.ch u k q y j n);
-    d4r = λ j x y e g d l t. not-head (λ z. w-some (sym (ap arg1 z))) y j (i.Dc.d4r j x y e g d l t);
+  tokens′ : Tokens p S′
+  tokens′ = record {
+    d1c = λ j z y e t. not-head (kinds (λ a. omega arith)) z j (i.tokens.d1c j z y e t);
+    d1a = λ j z y e t. pop-all s.ch u k q z j (i.tokens.d1a j z y e t);
+    d2c = λ j a x e t. not-head (kinds (λ z. omega arith)) a j (i.tokens.d2c j a x e t);
+    k1 = λ j a x e n. i.tokens.k1 j a x e (pop-in s.ch u k q a j n);
+    d3r = λ j x y e t b. omega (arith, pop-le s.ch u k q isR y j, i.tokens.d3r j x y e t b);
+    d4h = λ j x y e g d l t n. i.tokens.d4h j x y e g d l t (pop-in s.ch u k q y j n);
+    d4r = λ j x y e g d l t. not-head (λ z. w-some (sym (ap arg1 z))) y j (i.tokens.d4r j x y e g d l t);
     d7 = λ j x y e g d h f. split x j
         (λ a b. inr (from-u j x y e a b g d))
         (λ o. ⊎-elim (λ t. inl (subst (λ l. 1 ≤ sumL isR l) (sym o) t))
         (λ t. split y j (λ a b. absurd (to-v j x y e a b g d (t .2))) (λ z. inr (t .0, t .1, t .2, subst (λ l. 1 ≤ sumL isR l) (sym z) (t .3))))
-        (i.Dc.d7 j x y e g d h f));
+        (i.tokens.d7 j x y e g d h f));
   }
     where
       -- x is u: the other end's own Report waits
@@ -111,10 +111,10 @@ module _ {p : Network} {s : ProtocolState} (i : Inv p s) {u v k w : ℕ} {r : Li
           let c = at-core (ap (λ n. GC s n) z ∙ g ∙ sym b) (ap (λ n. DK s n) z ∙ d) in
           omega (arith, le, ap (λ n. key p (s.bw n)) z, ap (key p) (sym (ap s.bw a) ∙ C.best-u i ends q idle found c))
 
-  F4c′ : Owing p S′
-  F4c′ = record {
-    f4y = λ j a c e n. let t = i.F4c.f4y j a c e n in (t .0, t .1, t .2, outst j a c e (t .2) (t .3));
-    f4n = λ j a c e h b n o. i.F4c.f4n j a c e h b n (outst-ch S′ s.ch c j (λ l. omega (arith, pop-le s.ch u k q isR c j)) o);
+  owing′ : Owing p S′
+  owing′ = record {
+    f4y = λ j a c e n. let t = i.owing.f4y j a c e n in (t .0, t .1, t .2, outst j a c e (t .2) (t .3));
+    f4n = λ j a c e h b n o. i.owing.f4n j a c e h b n (outst-ch S′ s.ch c j (λ l. omega (arith, pop-le s.ch u k q isR c j)) o);
   }
     where
       -- nobody is counted over the in-branch
@@ -123,11 +123,11 @@ module _ {p : Network} {s : ProtocolState} (i : Inv p s) {u v k w : ℕ} {r : Li
           (λ x y. absurd (n (sym (ap s.ib (other-end ends (flip e) x y)) ∙ ib ∙ y)))
           (λ z. outst-ch s c′ c j (λ r. subst (λ l. 1 ≤ sumL isR l) (sym z) r) o)
 
-  B2′ : Bests p S′
-  B2′ = record {
-    b1e = λ a h n d. let t = i.B2.b1e a h n d in
+  bests′ : Bests p S′
+  bests′ = record {
+    b1e = λ a h n d. let t = i.bests.b1e a h n d in
         (t .0, t .1, t .2, t .3, t .4, t .5, t .6, t .7, omega (arith, pop-le s.ch u k q isR (t .0) (s.be a), t .8));
-    b2 = λ j a b e m d g. last-case (λ t. (t .0, t .1, t .2, t .3, live (t .0) (t .2) (t .4), t .5)) (i.B2.b2 j a b e m d g);
+    b2 = λ j a b e m d g. last-case (λ t. (t .0, t .1, t .2, t .3, live (t .0) (t .2) (t .4), t .5)) (i.bests.b2 j a b e m d g);
   }
     where
       -- a core end counts without its Report
@@ -139,12 +139,12 @@ module _ {p : Network} {s : ProtocolState} (i : Inv p s) {u v k w : ℕ} {r : Li
 
   pub inv-core-nothing : Inv p S′
   inv-core-nothing = inv-passing i c′ (record {
-    G6c = others.G6c;
-    Dc = Dc′;
-    C1 = others.C1;
-    I1 = others.I1;
-    T4 = others.T4;
-    R1 = reports-same p s c′ (take-alike p s u k q refl) i.R1;
-    F4c = F4c′;
-    Q1 = others.Q1;
-  }) others.E1 others.A1 B2′
+    hush = others.hush;
+    tokens = tokens′;
+    connects = others.connects;
+    initiates = others.initiates;
+    telling = others.telling;
+    reports = reports-same p s c′ (take-alike p s u k q refl) i.reports;
+    owing = owing′;
+    ordered = others.ordered;
+  }) others.testing others.answers bests′

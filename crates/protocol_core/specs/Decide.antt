@@ -52,7 +52,7 @@ module _ {p : Network} {s : ProtocolState} (i : Inv p s) {u v k w : ℕ} {r : Li
     no-find = C.none-find i ends q idle found core;
     no-due = C.none-due i ends q idle found core;
     silent = C.silent i ends q;
-    no-token = λ j x y e f o. omega (arith, i.Dc.k1 j x y e (pop-in s.ch u k q x j o) .0, ap s.dk f, C.undec i ends q idle found core);
+    no-token = λ j x y e f o. omega (arith, i.tokens.k1 j x y e (pop-in s.ch u k q x j o) .0, ap s.dk f, C.undec i ends q idle found core);
     spent = spent;
   }
 

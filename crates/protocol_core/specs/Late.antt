@@ -19,13 +19,13 @@ late-change = record { no-call = refl; no-test = refl; no-ans = refl }
 
 -- the clauses that read neither Reports nor Change-roots
 pub record Kept (p : Network) (s : ProtocolState) : Type 0 where
-  pub G6c : Hush p s
-  pub C1 : Connects p s
-  pub I1 : Initiates p s
-  pub T4 : Telling p s
-  pub E1 : Testing p s
-  pub A1 : Answers p s
-  pub Q1 : Ordered p s
+  pub hush : Hush p s
+  pub connects : Connects p s
+  pub initiates : Initiates p s
+  pub telling : Telling p s
+  pub testing : Testing p s
+  pub answers : Answers p s
+  pub ordered : Ordered p s
 
 module _ {p : Network} {s : ProtocolState} (i : Inv p s) {u k : ℕ} {m : Msg} {r : List Msg} (q : s.ch u k ≡ m ∷ r) (h : Late m) where
   -- the new values of the tables
@@ -35,18 +35,18 @@ module _ {p : Network} {s : ProtocolState} (i : Inv p s) {u k : ℕ} {m : Msg} {
 
     pub late-kept : Kept p after
     late-kept =
-        let g = take-hush p s u k q i.G6c in
-        let c = take-connects p s u k q i.C1 in
-        let n = take-initiates p s u k q i.I1 in
-        let t = take-telling p s u k q (h.no-call) i.T4 in
-        let e = testing-same p s (upd2 s.ch u k r) (λ w j l f o. pop-in s.ch u k q w j o) (pop-sum s.ch u k q isT (h.no-test)) (pop-sum s.ch u k q isA (h.no-ans)) i.E1 in
-        let o = take-ordered p s u k q i.Q1 in
+        let g = take-hush p s u k q i.hush in
+        let c = take-connects p s u k q i.connects in
+        let n = take-initiates p s u k q i.initiates in
+        let t = take-telling p s u k q (h.no-call) i.telling in
+        let e = testing-same p s (upd2 s.ch u k r) (λ w j l f o. pop-in s.ch u k q w j o) (pop-sum s.ch u k q isT (h.no-test)) (pop-sum s.ch u k q isA (h.no-ans)) i.testing in
+        let o = take-ordered p s u k q i.ordered in
         record {
-          G6c = record { g6o = g.g6o; g6i = g.g6i };
-          C1 = record { c1m = c.c1m; c1 = c.c1 };
-          I1 = record { i1 = n.i1 };
-          T4 = record { u2 = t.u2; t2i = t.t2i; t4 = t.t4; t4n = t.t4n };
-          E1 = record { e1 = e.e1; e1w = e.e1w; e2w = e.e2w; e2c = e.e2c; m6t = e.m6t };
-          A1 = record { a1 = λ j a b f y. i.A1.a1 j a b f (pop-in s.ch u k q a j y); j1 = λ j a b f y. i.A1.j1 j a b f (pop-in s.ch u k q a j y) };
-          Q1 = record { q1 = o.q1 };
+          hush = record { g6o = g.g6o; g6i = g.g6i };
+          connects = record { c1m = c.c1m; c1 = c.c1 };
+          initiates = record { i1 = n.i1 };
+          telling = record { u2 = t.u2; t2i = t.t2i; t4 = t.t4; t4n = t.t4n };
+          testing = record { e1 = e.e1; e1w = e.e1w; e2w = e.e2w; e2c = e.e2c; m6t = e.m6t };
+          answers = record { a1 = λ j a b f y. i.answers.a1 j a b f (pop-in s.ch u k q a j y); j1 = λ j a b f y. i.answers.j1 j a b f (pop-in s.ch u k q a j y) };
+          ordered = record { q1 = o.q1 };
         }

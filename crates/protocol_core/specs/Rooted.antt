@@ -64,7 +64,7 @@ module _ {p : Network} {s : ProtocolState} (i : Inv p s) {u v k : ℕ} {m : Msg}
 
   -- nobody in the fragment has halted
   awake : (x : ℕ) → s.fr x ≡ s.fr v → s.halt x ≡ 0
-  awake x e = by-eq (s.halt x) 0 (λ z. z) (λ n. absurd (h.unfinished (sym (ap s.dk e) ∙ i.D4.d6 x n)))
+  awake x e = by-eq (s.halt x) 0 (λ z. z) (λ n. absurd (h.unfinished (sym (ap s.dk e) ∙ i.finishes.d6 x n)))
 
   ruling : Ruling p s u v k r 1 dn′ s.halt (suc v)
   ruling = record {
@@ -75,7 +75,7 @@ module _ {p : Network} {s : ProtocolState} (i : Inv p s) {u v k : ℕ} {m : Msg}
     no-due = h.no-due;
     dn-off = λ x n. upd-other s.dn (s.fr v) v (s.fr x) n;
     halt-off = λ x n. refl;
-    halt-le = i.W0.halt-le;
+    halt-le = i.ranges.halt-le;
     verdict = inl (refl, awake);
     rootings = rootings;
     no-report = λ j x y e t z.
@@ -95,7 +95,7 @@ module _ {p : Network} {s : ProtocolState} (i : Inv p s) {u v k : ℕ} {m : Msg}
   }
     where
       within : (j a b n : ℕ) → Edge p j a b → s.fr a ≡ s.fr v → In (report n) (upd2 s.ch u k r a j) → s.fr v ≡ s.fr b
-      within j a b n e f o = sym f ∙ i.M1.m3 j a b e (i.R1.r1j j a b n e (pop-in s.ch u k q a j o))
+      within j a b n e f o = sym f ∙ i.marks.m3 j a b e (i.reports.r1j j a b n e (pop-in s.ch u k q a j o))
 
   pub inv-rooted : Inv p (rooted (pop s u k r) v)
   inv-rooted = inv-rule i q late ruling

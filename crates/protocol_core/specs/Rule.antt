@@ -95,41 +95,41 @@ module _ {p : Network} {s : ProtocolState} (i : Inv p s) {u v k d : ℕ} {m : Ms
 
   -- ---- tables
 
-  W0′ : Ranges s.st halt s.due S′.dk s.mark
-  W0′ = record {
-    st-le = i.W0.st-le;
+  ranges′ : Ranges s.st halt s.due S′.dk s.mark
+  ranges′ = record {
+    st-le = i.ranges.st-le;
     halt-le = h.halt-le;
-    due-le = i.W0.due-le;
-    dk-le = λ a. upd-elim (λ x. x ≤ 4) s.dk (s.fr v) d a (λ e. d-le) (λ n. i.W0.dk-le a);
-    mark-le = i.W0.mark-le;
+    due-le = i.ranges.due-le;
+    dk-le = λ a. upd-elim (λ x. x ≤ 4) s.dk (s.fr v) d a (λ e. d-le) (λ n. i.ranges.dk-le a);
+    mark-le = i.ranges.mark-le;
   }
 
   -- at level 0 it is another fragment
   low-off : (x : ℕ) → GL s x ≡ 0 → s.fr v ≢ s.fr x
   low-off x z e = omega (arith, h.level, ap s.gl e)
 
-  G6′ : Sleepers p s.st s.fr s.gl S′.dk s.due s.bw s.be s.ub halt s.mark
-  G6′ = record {
-    g6 = λ x z. let t = i.G6.g6 x z in record { g6g = t.g6g; g6d = dk-off x (low-off x (t.g6g)) ∙ t.g6d; g6u = t.g6u; g6w = t.g6w; g6e = t.g6e };
-    g6m = i.G6.g6m;
-    u1a = i.G6.u1a;
-    g7 = λ j x y e n z. dk-off x (low-off x z) ∙ i.G6.g7 j x y e n z;
-    g7n = λ x n z e. let t = i.G6.g7n x n z e in let o = low-off x z in (dk-off x o ∙ t .0, h.halt-off x o ∙ t .1);
+  sleepers′ : Sleepers p s.st s.fr s.gl S′.dk s.due s.bw s.be s.ub halt s.mark
+  sleepers′ = record {
+    g6 = λ x z. let t = i.sleepers.g6 x z in record { g6g = t.g6g; g6d = dk-off x (low-off x (t.g6g)) ∙ t.g6d; g6u = t.g6u; g6w = t.g6w; g6e = t.g6e };
+    g6m = i.sleepers.g6m;
+    u1a = i.sleepers.u1a;
+    g7 = λ j x y e n z. dk-off x (low-off x z) ∙ i.sleepers.g7 j x y e n z;
+    g7n = λ x n z e. let t = i.sleepers.g7n x n z e in let o = low-off x z in (dk-off x o ∙ t .0, h.halt-off x o ∙ t .1);
   }
 
-  D1′ : Halves p S′.dk dn s.de s.fr s.gl s.lev s.ub s.mark
-  D1′ = record {
-    m2 = λ j x y e a b. let t = i.D1.m2 j x y e a b in decision-new 3 x j (λ z. h.fresh (ap s.dk z ∙ t .0)) t;
-    d1f = λ x z. let o = dk-old 3 x not3 z in ap s.fr (h.dn-off x (o .0)) ∙ i.D1.d1f x (o .1);
-    d1e = λ x z. let o = dk-old 3 x not3 z in subst (λ n. (y : ℕ) × Edge p (s.de (s.fr x)) n y) (sym (h.dn-off x (o .0))) (i.D1.d1e x (o .1));
-    d1 = λ j z y e a. i.D1.d1 j z y e (decision-old 3 z j not3 a .1);
+  halves′ : Halves p S′.dk dn s.de s.fr s.gl s.lev s.ub s.mark
+  halves′ = record {
+    m2 = λ j x y e a b. let t = i.halves.m2 j x y e a b in decision-new 3 x j (λ z. h.fresh (ap s.dk z ∙ t .0)) t;
+    d1f = λ x z. let o = dk-old 3 x not3 z in ap s.fr (h.dn-off x (o .0)) ∙ i.halves.d1f x (o .1);
+    d1e = λ x z. let o = dk-old 3 x not3 z in subst (λ n. (y : ℕ) × Edge p (s.de (s.fr x)) n y) (sym (h.dn-off x (o .0))) (i.halves.d1e x (o .1));
+    d1 = λ j z y e a. i.halves.d1 j z y e (decision-old 3 z j not3 a .1);
   }
 
-  D2′ : ChangeRoots p S′.dk dn s.de s.fr s.gl s.gc s.lev s.ib s.ub s.bw s.mark
-  D2′ = record {
-    d2f = λ x z. let o = dk-old 2 x not2 z in ap s.fr (h.dn-off x (o .0)) ∙ i.D2.d2f x (o .1);
-    d2e = λ x z. let o = dk-old 2 x not2 z in subst (λ n. (y : ℕ) × Edge p (s.de (s.fr x)) n y) (sym (h.dn-off x (o .0))) (i.D2.d2e x (o .1));
-    d2 = λ j a x e t. i.D2.d2 j a x e (decision-old 2 a j not2 t .1);
+  changeRoots′ : ChangeRoots p S′.dk dn s.de s.fr s.gl s.gc s.lev s.ib s.ub s.bw s.mark
+  changeRoots′ = record {
+    d2f = λ x z. let o = dk-old 2 x not2 z in ap s.fr (h.dn-off x (o .0)) ∙ i.changeRoots.d2f x (o .1);
+    d2e = λ x z. let o = dk-old 2 x not2 z in subst (λ n. (y : ℕ) × Edge p (s.de (s.fr x)) n y) (sym (h.dn-off x (o .0))) (i.changeRoots.d2e x (o .1));
+    d2 = λ j a x e t. i.changeRoots.d2 j a x e (decision-old 2 a j not2 t .1);
   }
 
   -- what is finished: v's fragment, or one that was
@@ -144,58 +144,58 @@ module _ {p : Network} {s : ProtocolState} (i : Inv p s) {u v k d : ℕ} {m : Ms
       (λ e. ⊎-elim (λ t. absurd (z (t .1 x (sym e)))) (λ t. y e (t .0) (t .1)) (h.verdict))
       (λ e. n e (λ o. z (h.halt-off x e ∙ o)))
 
-  D4′ : Finishes p S′.dk s.fr s.gl s.gc s.lev s.bw halt s.due s.mark
-  D4′ = record {
-    d4 = λ j x y e z. finished x z (λ f t. t.tight j x y e f) (λ n f. i.D4.d4 j x y e f);
-    d4i = λ j x y e g z l. finished x z (λ f t. t.nothing j x y e f g) (λ n f. i.D4.d4i j x y e g f l);
-    d5 = λ x n. by-eq (s.fr v) (s.fr x) (λ e. h.no-due x (sym e)) (λ e. i.D4.d5 x (λ z. n (dk-off x e ∙ z)));
-    d6 = λ x n. halting x n (λ e z t. dk-in x e ∙ z) (λ e z. dk-off x e ∙ i.D4.d6 x z);
-    d6c = λ j x y e n. halting x n (λ f z t. t.halted j x y e (sym f) n) (λ f z. i.D4.d6c j x y e z);
+  finishes′ : Finishes p S′.dk s.fr s.gl s.gc s.lev s.bw halt s.due s.mark
+  finishes′ = record {
+    d4 = λ j x y e z. finished x z (λ f t. t.tight j x y e f) (λ n f. i.finishes.d4 j x y e f);
+    d4i = λ j x y e g z l. finished x z (λ f t. t.nothing j x y e f g) (λ n f. i.finishes.d4i j x y e g f l);
+    d5 = λ x n. by-eq (s.fr v) (s.fr x) (λ e. h.no-due x (sym e)) (λ e. i.finishes.d5 x (λ z. n (dk-off x e ∙ z)));
+    d6 = λ x n. halting x n (λ e z t. dk-in x e ∙ z) (λ e z. dk-off x e ∙ i.finishes.d6 x z);
+    d6c = λ j x y e n. halting x n (λ f z t. t.halted j x y e (sym f) n) (λ f z. i.finishes.d6c j x y e z);
   }
 
-  T1′ : Parents p s.lev s.fr s.gl s.gc s.ib s.ub s.dep s.side S′.dk
-  T1′ = record { t1 = i.T1.t1; t1d = i.T1.t1d; t1p = i.T1.t1p; t1e = i.T1.t1e; t1u = λ x f z. i.T1.t1u x f (dk-old 0 x not0 z .1) }
+  parents′ : Parents p s.lev s.fr s.gl s.gc s.ib s.ub s.dep s.side S′.dk
+  parents′ = record { t1 = i.parents.t1; t1d = i.parents.t1d; t1p = i.parents.t1p; t1e = i.parents.t1e; t1u = λ x f z. i.parents.t1u x f (dk-old 0 x not0 z .1) }
 
-  F1′ : Finds s.st s.lev s.fr s.gl S′.dk s.due
-  F1′ = record {
-    f1 = λ x z. let t = i.F1.f1 x z in record { f1i = t.f1i; f1k = dk-off x (λ e. h.no-find x (sym e) z) ∙ t.f1k; f1u = t.f1u };
-    f1d = i.F1.f1d;
+  finds′ : Finds s.st s.lev s.fr s.gl S′.dk s.due
+  finds′ = record {
+    f1 = λ x z. let t = i.finds.f1 x z in record { f1i = t.f1i; f1k = dk-off x (λ e. h.no-find x (sym e) z) ∙ t.f1k; f1u = t.f1u };
+    f1d = i.finds.f1d;
   }
 
   -- ---- channels
 
   -- the other end of a core is in its fragment
   core-off : (j x y : ℕ) → Edge p j x y → GC s x ≡ j → 1 ≤ GL s x → s.fr v ≢ s.fr x → c′ y j ≡ s.ch y j
-  core-off j x y e g l n = off y j (λ z. n (z ∙ i.G5.g5 x y x l (subst (λ a. Edge p a y x) (sym g) (flip e)) .1))
+  core-off j x y e g l n = off y j (λ z. n (z ∙ i.cores.g5 x y x l (subst (λ a. Edge p a y x) (sym g) (flip e)) .1))
 
-  Dc′ : Tokens p S′
-  Dc′ = record {
-    d1c = λ j z y e t. let o = decision-old 3 z j not3 t in subst (λ l. In (connect (GL s z)) l) (sym (off z j (o .0))) (i.Dc.d1c j z y e (o .1));
-    d1a = λ j z y e t. let o = decision-old 3 z j not3 t in subst (λ l. All (Only (GL s z)) l) (sym (off z j (o .0))) (i.Dc.d1a j z y e (o .1));
-    d2c = λ j a x e t. let o = decision-old 2 a j not2 t in subst (λ l. In change l) (sym (off a j (o .0))) (i.Dc.d2c j a x e (o .1));
-    k1 = λ j a x e n. decision-new 2 a j (λ z. h.no-token j a x e (sym z) n) (i.Dc.k1 j a x e (pop-in s.ch u k q a j n));
+  tokens′ : Tokens p S′
+  tokens′ = record {
+    d1c = λ j z y e t. let o = decision-old 3 z j not3 t in subst (λ l. In (connect (GL s z)) l) (sym (off z j (o .0))) (i.tokens.d1c j z y e (o .1));
+    d1a = λ j z y e t. let o = decision-old 3 z j not3 t in subst (λ l. All (Only (GL s z)) l) (sym (off z j (o .0))) (i.tokens.d1a j z y e (o .1));
+    d2c = λ j a x e t. let o = decision-old 2 a j not2 t in subst (λ l. In change l) (sym (off a j (o .0))) (i.tokens.d2c j a x e (o .1));
+    k1 = λ j a x e n. decision-new 2 a j (λ z. h.no-token j a x e (sym z) n) (i.tokens.k1 j a x e (pop-in s.ch u k q a j n));
     d3r = h.no-report;
     d4h = λ j x y e g z l f n. finished x z (λ o t. t.halt-no j x y e o g f n)
-        (λ o t. i.Dc.d4h j x y e g t l (λ a. f (h.halt-off x o ∙ a)) (pop-in s.ch u k q y j n));
+        (λ o t. i.tokens.d4h j x y e g t l (λ a. f (h.halt-off x o ∙ a)) (pop-in s.ch u k q y j n));
     d4r = λ j x y e g z l f. finished x z (λ o t. t.halt-yes j x y e o g f)
-        (λ o t. subst (λ a. In (report none) a) (sym (core-off j x y e g l o)) (i.Dc.d4r j x y e g t l (sym (h.halt-off x o) ∙ f)));
+        (λ o t. subst (λ a. In (report none) a) (sym (core-off j x y e g l o)) (i.tokens.d4r j x y e g t l (sym (h.halt-off x o) ∙ f)));
     d7 = λ j x y e g z f t. let o = dk-old 0 x not0 z in ⊎-elim
         (λ a. inl (subst (λ l. 1 ≤ sumL isR l) (sym (off x j (o .0))) a))
         (λ a. inr (a .0, a .1, a .2, subst (λ l. 1 ≤ sumL isR l) (sym (core-off j x y e g (f .0) (o .0))) (a .3)))
-        (i.Dc.d7 j x y e g (o .1) f t);
+        (i.tokens.d7 j x y e g (o .1) f t);
   }
 
-  R1′ : Reports p S′
-  R1′ = record {
+  reports′ : Reports p S′
+  reports′ = record {
     r1r = o.r1r;
     r1j = o.r1j;
     r1 = λ j a b n e m. by-eq (s.fr v) (s.fr a) (λ z. inr (inr (h.spent j a b n e (sym z) m))) (λ z. kind j a b n e z m);
-    r1c = λ j a b n e m f z g. let t = dk-old 0 b not0 z in core j a b n (λ x. t .0 (x ∙ i.M1.m3 j a b e (o.r1j j a b n e m))) (o.r1c j a b n e m f (t .1) g);
+    r1c = λ j a b n e m f z g. let t = dk-old 0 b not0 z in core j a b n (λ x. t .0 (x ∙ i.marks.m3 j a b e (o.r1j j a b n e m))) (o.r1c j a b n e m f (t .1) g);
   }
     where
       -- a Report of another fragment is what it was
       o : Reports p (set-ch s c′)
-      o = reports-same p s c′ (take-alike p s u k q (late.no-call)) i.R1
+      o = reports-same p s c′ (take-alike p s u k q (late.no-call)) i.reports
 
       core : (j a b n : ℕ) → s.fr v ≢ s.fr a → CoreEnds (set-ch s c′) a b j n → CoreEnds S′ a b j n
       core j a b n z t = (t .0, dk-off a z ∙ t .1, t .2, t .3, t .4, t .5, t .6)
@@ -203,27 +203,27 @@ module _ {p : Network} {s : ProtocolState} (i : Inv p s) {u v k d : ℕ} {m : Ms
       kind : (j a b n : ℕ) → Edge p j a b → s.fr v ≢ s.fr a → In (report n) (c′ a j) → Child S′ a b j n ⊎ (CoreEnds S′ a b j n ⊎ Spent p S′ a b j n)
       kind j a b n e z m = ⊎-elim (λ t. inl t)
           (⊎-elim (λ t. inr (inl (core j a b n z t)))
-          (λ t. inr (inr (t .0, t .1, t .2, t .3, t .4, ⊎-elim (λ l. inl l) (λ l. inr (l .0, l .1, dk-off b (λ x. z (x ∙ sym (i.M1.m3 j a b e (o.r1j j a b n e m)))) ∙ l .2, l .3)) (t .5)))))
+          (λ t. inr (inr (t .0, t .1, t .2, t .3, t .4, ⊎-elim (λ l. inl l) (λ l. inr (l .0, l .1, dk-off b (λ x. z (x ∙ sym (i.marks.m3 j a b e (o.r1j j a b n e m)))) ∙ l .2, l .3)) (t .5)))))
           (o.r1 j a b n e m)
 
-  F4c′ : Owing p S′
-  F4c′ = record {
-    f4y = λ j x c e n. let t = i.F4c.f4y j x c e n in (t .0, t .1, t .2, outst j x c (λ z. owing j x c e n (z ∙ sym (i.M1.m3 j x c e (t .1)))) (t .3));
-    f4n = λ j x c e f b n o. i.F4c.f4n j x c e f b n (outst-ch S′ s.ch c j (λ l. omega (arith, pop-le s.ch u k q isR c j)) o);
+  owing′ : Owing p S′
+  owing′ = record {
+    f4y = λ j x c e n. let t = i.owing.f4y j x c e n in (t .0, t .1, t .2, outst j x c (λ z. owing j x c e n (z ∙ sym (i.marks.m3 j x c e (t .1)))) (t .3));
+    f4n = λ j x c e f b n o. i.owing.f4n j x c e f b n (outst-ch S′ s.ch c j (λ l. omega (arith, pop-le s.ch u k q isR c j)) o);
   }
     where
       -- who waits for a Report is Find, so of another fragment
       owing : (j x c : ℕ) → Edge p j x c → s.owe x j ≢ 0 → s.fr v ≢ s.fr x
-      owing j x c e n z = h.no-find x (sym z) (fc-find i x (λ o. omega (arith, i.F4.f4 x, le-sum p.g.L j (s.owe x) (joins-lt e))))
+      owing j x c e n z = h.no-find x (sym z) (fc-find i x (λ o. omega (arith, i.findCounts.f4 x, le-sum p.g.L j (s.owe x) (joins-lt e))))
 
       outst : (j x c : ℕ) → s.fr v ≢ s.fr c → Outst s c j → Outst S′ c j
       outst j x c z = outst-ch s c′ c j (λ r. subst (λ l. 1 ≤ sumL isR l) (sym (off c j z)) r)
 
-  B2′ : Bests p S′
-  B2′ = record {
-    b1e = λ x f n m. let t = i.B2.b1e x f n m in (t .0, t .1, t .2, t .3, t .4, t .5, t .6, t .7, omega (arith, pop-le s.ch u k q isR (t .0) (s.be x), t .8));
+  bests′ : Bests p S′
+  bests′ = record {
+    b1e = λ x f n m. let t = i.bests.b1e x f n m in (t .0, t .1, t .2, t .3, t .4, t .5, t .6, t .7, omega (arith, pop-le s.ch u k q isR (t .0) (s.be x), t .8));
     b2 = λ j x y e m z l. let o = dk-old 0 x not0 z in
-        last-case (λ t. (t .0, t .1, t .2, t .3, live (t .0) (λ a. o .0 (a ∙ t .1)) (t .4), t .5)) (i.B2.b2 j x y e m (o .1) l);
+        last-case (λ t. (t .0, t .1, t .2, t .3, live (t .0) (λ a. o .0 (a ∙ t .1)) (t .4), t .5)) (i.bests.b2 j x y e m (o .1) l);
   }
     where
       live : (x : ℕ) → s.fr v ≢ s.fr x → Counting s x → Counting S′ x
@@ -231,34 +231,34 @@ module _ {p : Network} {s : ProtocolState} (i : Inv p s) {u v k d : ℕ} {m : Ms
 
   pub inv-rule : Inv p S′
   inv-rule = record {
-    W0 = W0′;
-    W1 = i.W1;
-    G2 = i.G2;
-    G4 = i.G4;
-    G5 = i.G5;
-    G6 = G6′;
-    M1 = i.M1;
-    U1 = i.U1;
-    D1 = D1′;
-    D2 = D2′;
-    D3 = h.rootings;
-    D4 = D4′;
-    T1 = T1′;
-    T2 = i.T2;
-    F1 = F1′;
-    F2 = i.F2;
-    F4 = i.F4;
-    E2 = i.E2;
-    B1 = i.B1;
-    G6c = others.G6c;
-    Dc = Dc′;
-    C1 = others.C1;
-    I1 = others.I1;
-    T4 = others.T4;
-    E1 = others.E1;
-    A1 = others.A1;
-    R1 = R1′;
-    F4c = F4c′;
-    B2 = B2′;
-    Q1 = others.Q1;
+    ranges = ranges′;
+    values = i.values;
+    levels = i.levels;
+    sizes = i.sizes;
+    cores = i.cores;
+    sleepers = sleepers′;
+    marks = i.marks;
+    inbounds = i.inbounds;
+    halves = halves′;
+    changeRoots = changeRoots′;
+    rootings = h.rootings;
+    finishes = finishes′;
+    parents = parents′;
+    kids = i.kids;
+    finds = finds′;
+    pending = i.pending;
+    findCounts = i.findCounts;
+    tests = i.tests;
+    weights = i.weights;
+    hush = others.hush;
+    tokens = tokens′;
+    connects = others.connects;
+    initiates = others.initiates;
+    telling = others.telling;
+    testing = others.testing;
+    answers = others.answers;
+    reports = reports′;
+    owing = owing′;
+    bests = bests′;
+    ordered = others.ordered;
   }

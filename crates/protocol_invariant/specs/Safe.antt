@@ -11,51 +11,51 @@ module _ {p : Network} {s : ProtocolState} (i : Inv p s) where
   -- ---- 31: levels are at most ⌊log2 N⌋
 
   pub lev-le : (v : ℕ) → v < p.N → s.lev v ≤ log2 p.N
-  lev-le v l = omega (arith, i.G2.g2 v, level-log i v l)
+  lev-le v l = omega (arith, i.levels.g2 v, level-log i v l)
 
   pub connect-le : (k u v l : ℕ) → Edge p k u v → In (connect l) (s.ch u k) → l ≤ log2 p.N
   connect-le k u v l e n =
       let b = level-log i u (end-lt p e) in
-      by-eq (s.mark v k) 1 (λ m. omega (arith, b, i.C1.c1 k u v l e n m .1))
-      (λ m. omega (arith, b, all-in (i.Dc.d1a k u v e (i.D1.m2 k u v e (i.C1.c1m k u v l e n) m)) n))
+      by-eq (s.mark v k) 1 (λ m. omega (arith, b, i.connects.c1 k u v l e n m .1))
+      (λ m. omega (arith, b, all-in (i.tokens.d1a k u v e (i.halves.m2 k u v e (i.connects.c1m k u v l e n) m)) n))
 
   pub initiate-ok : (k u v l f x : ℕ) → Edge p k u v → In (initiate l f x) (s.ch u k) → (1 ≤ l) × (l ≤ log2 p.N) × (f < p.g.L) × (x ≤ 1)
   initiate-ok k u v l f x e n =
-      let t = i.I1.i1 k u v l f x e n in (
+      let t = i.initiates.i1 k u v l f x e n in (
         omega (arith, t.i1l),
         omega (arith, t.i1g, level-log i v (end-lt p (flip e))),
         t.i1f,
-        by-eq l (GL s v) (λ q. omega (arith, t.i1d q, i.W0.due-le v)) (λ q. omega (arith, t.i1z (omega (arith, t.i1g)))),
+        by-eq l (GL s v) (λ q. omega (arith, t.i1d q, i.ranges.due-le v)) (λ q. omega (arith, t.i1z (omega (arith, t.i1g)))),
       )
 
   pub test-ok : (k u v l f : ℕ) → Edge p k u v → In (test l f) (s.ch u k) → (1 ≤ l) × (l ≤ log2 p.N) × (f < p.g.L)
   test-ok k u v l f e n =
-      let t = i.E1.e1 k u v l f e n in (
+      let t = i.testing.e1 k u v l f e n in (
         omega (arith, t .0, t .2 .0, t .2 .1),
         omega (arith, t .0, lev-le u (end-lt p e)),
-        omega (arith, t .1, i.G2.g3r u (λ z. omega (arith, t .2 .0, t .2 .1))),
+        omega (arith, t .1, i.levels.g3r u (λ z. omega (arith, t .2 .0, t .2 .1))),
       )
 
   -- a find-count is at most the number of own edges, for any test that finds them all
   pub count-le : (v : ℕ) (own : ℕ → Bool) → ((k u : ℕ) → Edge p k v u → own k ≡ true) → s.fc v ≤ sum p.g.L (λ k. bit (own k))
-  count-le v own h = omega (arith, i.F4.f4 v, sum-le p.g.L (s.owe v) (λ k. bit (own k)) each)
+  count-le v own h = omega (arith, i.findCounts.f4 v, sum-le p.g.L (s.owe v) (λ k. bit (own k)) each)
     where
       each : (k : ℕ) → k < p.g.L → s.owe v k ≤ bit (own k)
       each k l = by-eq (s.owe v k) 0 (λ z. omega arith)
-          (λ n. let e = i.F4.f4o v k n in omega (arith, i.F4.f4l v k, ap bit (h k (e .0) (e .1))))
+          (λ n. let e = i.findCounts.f4o v k n in omega (arith, i.findCounts.f4l v k, ap bit (h k (e .0) (e .1))))
 
   -- ---- 32
 
   -- only Connect and Test are on their way to a sleeper
   pub to-sleeper : (k u v : ℕ) (m : Msg) → Edge p k u v → In m (s.ch u k) → s.st v ≡ 0 → Rouse m
-  to-sleeper k u v m e n z = all-in (i.G6c.g6i k u v e z) n
+  to-sleeper k u v m e n z = all-in (i.hush.g6i k u v e z) n
 
   -- the Initiate that answers a Connect over the core
   pub reply-le : (k u v l : ℕ) → Edge p k u v → In (connect l) (s.ch u k) → s.mark v k ≢ 0 → s.lev v + 1 ≤ log2 p.N
   reply-le k u v l e n m =
-      let b = i.C1.c1m k u v l e n in
-      let o : s.mark v k ≡ 1 = by-eq (s.mark v k) 1 (λ q. q) (λ q. absurd (i.M1.m1 k v u (flip e) (omega (arith, i.W0.mark-le v k)) .1 b)) in
-      let t = i.C1.c1 k u v l e n o in
+      let b = i.connects.c1m k u v l e n in
+      let o : s.mark v k ≡ 1 = by-eq (s.mark v k) 1 (λ q. q) (λ q. absurd (i.marks.m1 k v u (flip e) (omega (arith, i.ranges.mark-le v k)) .1 b)) in
+      let t = i.connects.c1 k u v l e n o in
       omega (arith, t .1, t .2, level-log i u (end-lt p e))
 
   -- a Report of a child is counted
@@ -64,10 +64,10 @@ module _ {p : Network} {s : ProtocolState} (i : Inv p s) where
 
   -- procedures test, report and change-root find what they need
   pub test-level : (v : ℕ) → s.ot ≡ suc v → 1 ≤ s.lev v
-  test-level v o = let f = i.F1.f1 v (i.F2.f5t v o) .f1i in omega (arith, f .0, f .1)
+  test-level v o = let f = i.finds.f1 v (i.pending.f5t v o) .f1i in omega (arith, f .0, f .1)
 
   pub report-branch : (v : ℕ) → s.op ≡ suc v → (u : ℕ) × Edge p (s.ib v) v u
-  report-branch v o = i.U1.u1r v (i.T1.t1 v (i.F1.f1 v (i.F2.f5p v o) .f1i))
+  report-branch v o = i.inbounds.u1r v (i.parents.t1 v (i.finds.f1 v (i.pending.f5p v o) .f1i))
 
   pub root-edge : (v : ℕ) → s.oo ≡ suc v → (u : ℕ) × Edge p (s.be v) v u
-  root-edge v o = let t = i.D3.d3 v (i.D3.f5r v o) in i.W1.w1e v (λ z. t.d3w (i.B1.b1m v (t.d3i) z))
+  root-edge v o = let t = i.rootings.d3 v (i.rootings.f5r v o) in i.values.w1e v (λ z. t.d3w (i.weights.b1m v (t.d3i) z))

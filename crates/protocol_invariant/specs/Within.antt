@@ -84,22 +84,22 @@ tell-count {p} {s} i k u v l f d a idle e q h =
 module _ {p : Network} {s : ProtocolState} (i : Inv p s) where
   -- ONLY TREE EDGES
   pub only-tree : (v k : ℕ) → s.mark v k ≡ 1 → Tree p k
-  only-tree v k m = let t = i.M1.own v k (λ z. omega arith) in i.M1.m5 k v (t .0) (t .1) m
+  only-tree v k m = let t = i.marks.own v k (λ z. omega arith) in i.marks.m5 k v (t .0) (t .1) m
 
   pub inv-within : Within p s
   inv-within = record {
-    status = i.W0.st-le;
+    status = i.ranges.st-le;
     level = lev-le i;
-    no-identity = i.G2.g3z;
-    identity = i.G2.g3r;
-    weight = i.W1.w1w;
-    best = i.W1.w1e;
-    test = i.E2.e2o;
-    branch = i.U1.u1r;
+    no-identity = i.levels.g3z;
+    identity = i.levels.g3r;
+    weight = i.values.w1w;
+    best = i.values.w1e;
+    test = i.tests.e2o;
+    branch = i.inbounds.u1r;
     count = within-degree i;
-    halted = i.W0.halt-le;
-    mark = i.W0.mark-le;
-    marked = i.M1.own;
+    halted = i.ranges.halt-le;
+    mark = i.ranges.mark-le;
+    marked = i.marks.own;
   }
 
   pub carried : Carried p s
@@ -107,7 +107,7 @@ module _ {p : Network} {s : ProtocolState} (i : Inv p s) where
     connect-level = connect-le i;
     initiate-values = initiate-ok i;
     test-values = test-ok i;
-    report-edge = i.R1.r1r;
+    report-edge = i.reports.r1r;
   }
 
   pub unrefused : Unrefused p s

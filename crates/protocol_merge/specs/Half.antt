@@ -31,7 +31,7 @@ module _ {p : Network} {s : ProtocolState} (i : Inv p s) {v k y l : ℕ} (t : Tu
   }
     where
       basic : s.mark y k ≡ 0
-      basic = by-eq (s.mark y k) 2 (λ z. absurd (leave-move i t h l .mark-y z)) (λ z. omega (arith, i.W0.mark-le y k))
+      basic = by-eq (s.mark y k) 2 (λ z. absurd (leave-move i t h l .mark-y z)) (λ z. omega (arith, i.ranges.mark-le y k))
 
   pub inv-half : Inv p (set-oo (set-st (halved s v k l) (upd s.st v 2)) 0)
   inv-half = inv-pass i t (leave-move i t h l) half-own

@@ -135,7 +135,7 @@ module _ {p : Network} {s : ProtocolState} (i : Inv p s) {v y k : ℕ} {m : Msg}
 
   -- an edge that was joined is still inbound for an end
   pub joined-ub : (j w u : ℕ) → Edge p j w u → Jn s j w u → (ub′ w ≡ j) ⊎ (ub′ u ≡ j)
-  joined-ub j w u e b = ⊎-elim (λ q. side j w u e b q) (λ q. ⊎-elim (λ z. inr z) (λ z. inl z) (side j u w (flip e) (b .1, b .0) q)) (i.U1.m3u j w u e b)
+  joined-ub j w u e b = ⊎-elim (λ q. side j w u e b q) (λ q. ⊎-elim (λ z. inr z) (λ z. inl z) (side j u w (flip e) (b .1, b .0) q)) (i.inbounds.m3u j w u e b)
     where
       side : (j w u : ℕ) → Edge p j w u → Jn s j w u → s.ub w ≡ j → (ub′ w ≡ j) ⊎ (ub′ u ≡ j)
       side j w u e b q = by-eq v w
@@ -150,18 +150,18 @@ module _ {p : Network} {s : ProtocolState} (i : Inv p s) {v y k : ℕ} {m : Msg}
       (λ z. let f = subst (λ n. Edge p j n u) (sym z) e in
       ap s.lev (sym z) ∙ t.turns j u f (subst (λ n. s.mark n j ≡ 1) (sym z) (b .0), b .1) (ap s.ub z ∙ q) .1 ∙ ap (λ n. top (s.lev u) (s.ch n j)) z)
       (λ z. absurd (n (ub-off w z ∙ q))))
-      (λ q. i.T4.u2 j w u e b q)
+      (λ q. i.telling.u2 j w u e b q)
       ∙ sym (far (s.lev u) w j)
 
   -- ---- clauses
 
-  pub F2-move : Pending st′ s.te s.fc s.ot s.op
-  F2-move = record {
-    f2 = λ w e. i.F2.f2 w (st-old w e);
-    f3t = λ w n. i.F2.f3t w (λ e. n (st-new w e));
-    f3c = λ w n. i.F2.f3c w (λ e. n (st-new w e));
-    f5t = λ w e. st-new w (i.F2.f5t w e);
-    f5p = λ w e. st-new w (i.F2.f5p w e);
+  pub pending-move : Pending st′ s.te s.fc s.ot s.op
+  pending-move = record {
+    f2 = λ w e. i.pending.f2 w (st-old w e);
+    f3t = λ w n. i.pending.f3t w (λ e. n (st-new w e));
+    f3c = λ w n. i.pending.f3c w (λ e. n (st-new w e));
+    f5t = λ w e. st-new w (i.pending.f5t w e);
+    f5p = λ w e. st-new w (i.pending.f5p w e);
   }
 
   -- v waits for no answer
@@ -173,26 +173,26 @@ module _ {p : Network} {s : ProtocolState} (i : Inv p s) {v y k : ℕ} {m : Msg}
   mark-wait j w u e b = mark-off-move w j (λ q. v-waits j w u e q b)
 
   pub hush : (j w u : ℕ) → Edge p j w u → st′ w ≡ 0 → c′ w j ≡ []
-  hush j w u e z = let o = st-asleep w z in snoc-else s.ch v k m w j (inl (o .0)) ∙ i.G6c.g6o j w u e (o .1)
+  hush j w u e z = let o = st-asleep w z in snoc-else s.ch v k m w j (inl (o .0)) ∙ i.hush.g6o j w u e (o .1)
 
   pub hush-in : (j u w : ℕ) → Edge p j u w → st′ w ≡ 0 → All Rouse (c′ u j)
   hush-in j u w e z = let o = st-asleep w z in
-      snoc-all s.ch v k m u j (λ a b. h.rouse (ap s.st (far-end j u w e a b) ∙ o .1)) (i.G6c.g6i j u w e (o .1))
+      snoc-all s.ch v k m u j (λ a b. h.rouse (ap s.st (far-end j u w e a b) ∙ o .1)) (i.hush.g6i j u w e (o .1))
 
   pub order-move : (j w u : ℕ) (a b : Msg) → Edge p j w u → Bef a b (c′ w j) → Fits a b
-  order-move j w u a b e f = ⊎-elim (λ o. i.Q1.q1 j w u a b e o)
+  order-move j w u a b e f = ⊎-elim (λ o. i.ordered.q1 j w u a b e o)
       (λ o. subst (λ n. Fits a n) (sym (o .2)) (h.fits a (subst (λ l. In a l) (sym (at2 s.ch (o .0) (o .1))) (o .3)))) (snoc-bef s.ch v k m w j f)
 
   -- a sleeper has no mark, who is awake with an edge has an inbound edge
   pub sleep-mark : (w j : ℕ) → st′ w ≡ 0 → mark′ w j ≡ 0
-  sleep-mark w j z = let o = st-asleep w z in mark-off-move w j (o .0) ∙ i.G6.g6m w j (o .1)
+  sleep-mark w j z = let o = st-asleep w z in mark-off-move w j (o .0) ∙ i.sleepers.g6m w j (o .1)
 
   pub awake-ub : (j w u : ℕ) → Edge p j w u → st′ w ≢ 0 → ub′ w ≢ none
-  awake-ub j w u e n = by-eq v w (λ q z. edge-some p (h.ends) (sym ub-new ∙ ap ub′ q ∙ z)) (λ q z. i.G6.u1a j w u e (st-awake w q n) (sym (ub-off w q) ∙ z))
+  awake-ub j w u e n = by-eq v w (λ q z. edge-some p (h.ends) (sym ub-new ∙ ap ub′ q ∙ z)) (λ q z. i.sleepers.u1a j w u e (st-awake w q n) (sym (ub-off w q) ∙ z))
 
   -- ways of joined edges stay
   pub wide : (a b : ℕ) → s.fr a ≡ s.fr b → Way p.g (JoinedEdge p mark′) a b
-  wide a b q = wider (λ j l x. both-up j (p.g.lo j) (p.g.hi j) x) (i.M1.m4 a b q)
+  wide a b q = wider (λ j l x. both-up j (p.g.lo j) (p.g.hi j) x) (i.marks.m4 a b q)
 
   -- a Test: as e1w, with the new marks
   pub asks : (j w u l f : ℕ) → Edge p j w u → In (test l f) (s.ch w j)
@@ -201,50 +201,50 @@ module _ {p : Network} {s : ProtocolState} (i : Inv p s) {v y k : ℕ} {m : Msg}
   asks j w u l f e n = ⊎-elim
       (λ o. inl (o .0, λ z. o .1 (dn2-move w j z), λ z. up1-move u j (o .2 (sym (mark-wait j w u e (o .0)) ∙ z))))
       (λ o. inr (o .0, up2-move w j (o .1), o .2, o .3))
-      (i.E1.e1w j w u l f e n)
+      (i.testing.e1w j w u l f e n)
 
   -- what waits, waits for the same
   pub waits-two : (j w u : ℕ) → Edge p j w u → Waits s w j → Waits s u j → sumL isT (c′ w j) + sumL isA (c′ u j) ≡ 1
-  waits-two j w u e a b = omega (arith, i.E1.e2w j w u e a b, same-move isT (h.not-t) w j, same-move isA (h.not-a) u j)
+  waits-two j w u e a b = omega (arith, i.testing.e2w j w u e a b, same-move isT (h.not-t) w j, same-move isA (h.not-a) u j)
 
   pub waits-one : (j w u : ℕ) → Edge p j w u → Waits s w j → (s.te u ≢ j) ⊎ (s.ot ≡ suc u) → sumL isT (c′ w j) + sumL isA (c′ u j) + sumL isT (c′ u j) ≡ 1
-  waits-one j w u e a b = omega (arith, i.E1.e2c j w u e a b, same-move isT (h.not-t) w j, same-move isA (h.not-a) u j, same-move isT (h.not-t) u j)
+  waits-one j w u e a b = omega (arith, i.testing.e2c j w u e a b, same-move isT (h.not-t) w j, same-move isA (h.not-a) u j, same-move isT (h.not-t) u j)
 
   pub served-move : (j w u : ℕ) → Edge p j w u → mark′ w j ≡ 2 → mark′ u j ≡ 0 → sumL isT (c′ u j) ≡ 0
-  served-move j w u e a b = same-move isT (h.not-t) u j ∙ i.E1.m6t j w u e (dn2-move w j a) (dn0-move u j b)
+  served-move j w u e a b = same-move isT (h.not-t) u j ∙ i.testing.m6t j w u e (dn2-move w j a) (dn0-move u j b)
 
   -- test edges, if one that is waited for is joined only where it was
   pub tests-move : ((j w u : ℕ) → Edge p j w u → Waits s w j → Both mark′ j w u → Jn s j w u) → Tests p s.te s.ib mark′ s.ot
   tests-move f = record {
-    e2o = i.E2.e2o;
-    e2b = λ j w u l x e a g z. i.E2.e2b j w u l x e a g (dn0-move w l z);
-    e2r = λ j w u e a z. i.E2.e2r j w u e a (dn2-move w j z);
-    e2i = λ j w u e a b. i.E2.e2i j w u e a (f j w u e a b);
-    m6 = λ j w u e a b. i.E2.m6 j w u e (dn2-move w j a) (dn0-move u j b);
+    e2o = i.tests.e2o;
+    e2b = λ j w u l x e a g z. i.tests.e2b j w u l x e a g (dn0-move w l z);
+    e2r = λ j w u e a z. i.tests.e2r j w u e a (dn2-move w j z);
+    e2i = λ j w u e a b. i.tests.e2i j w u e a (f j w u e a b);
+    m6 = λ j w u e a b. i.tests.m6 j w u e (dn2-move w j a) (dn0-move u j b);
   }
 
   -- inbound edges, if a joined one is inbound for an end
   pub inbounds : ((j w u : ℕ) → Edge p j w u → Both mark′ j w u → (ub′ w ≡ j) ⊎ (ub′ u ≡ j)) → Inbounds p ub′ s.ib mark′
   inbounds f = record {
-    u1o = λ w. upd-elim (λ x. x ≢ none → (u : ℕ) × Edge p x w u) s.ub v k w (λ q n. (y, subst (λ x. Edge p k x y) q (h.ends))) (λ d n. i.U1.u1o w n);
-    u1 = λ j w u e. upd-elim (λ x. x ≡ j → mark′ w j ≡ 1) s.ub v k w (λ q r. sym (at2 mark′ q r) ∙ mark-new) (λ n r. up1-move w j (i.U1.u1 j w u e r));
-    u1r = i.U1.u1r;
-    u1i = λ j w u e r. both-up j w u (i.U1.u1i j w u e r);
+    u1o = λ w. upd-elim (λ x. x ≢ none → (u : ℕ) × Edge p x w u) s.ub v k w (λ q n. (y, subst (λ x. Edge p k x y) q (h.ends))) (λ d n. i.inbounds.u1o w n);
+    u1 = λ j w u e. upd-elim (λ x. x ≡ j → mark′ w j ≡ 1) s.ub v k w (λ q r. sym (at2 mark′ q r) ∙ mark-new) (λ n r. up1-move w j (i.inbounds.u1 j w u e r));
+    u1r = i.inbounds.u1r;
+    u1i = λ j w u e r. both-up j w u (i.inbounds.u1i j w u e r);
     m3u = f;
   }
 
   -- a mark belongs to an own edge; beyond a Rejected one, inside, there is no Branch
   pub own : (w j : ℕ) → mark′ w j ≢ 0 → (u : ℕ) × Edge p j w u
   own w j = upd2-elim (λ x. x ≢ 0 → (u : ℕ) × Edge p j w u) s.mark v k 1 w j
-      (λ a b n. (y, subst (λ x. Edge p x w y) b (subst (λ x. Edge p k x y) a (h.ends)))) (λ d n. i.M1.own w j n)
+      (λ a b n. (y, subst (λ x. Edge p x w y) b (subst (λ x. Edge p k x y) a (h.ends)))) (λ d n. i.marks.own w j n)
 
   pub beyond-move : (j w u : ℕ) → Edge p j w u → mark′ w j ≡ 2 → (s.fr w ≡ s.fr u) × (mark′ u j ≢ 1)
-  beyond-move j w u e z = let a = i.M1.m1 j w u e (dn2-move w j z) in
+  beyond-move j w u e z = let a = i.marks.m1 j w u e (dn2-move w j z) in
       (a .0, λ f. dn1-move u j f (λ q r. h.mark-y (at2 s.mark (far-end j u w (flip e) q r) r ∙ dn2-move w j z)) (a .1))
 
   -- a Connect: from a Branch
   pub caller : (j w u l : ℕ) → Edge p j w u → In (connect l) (c′ w j) → mark′ w j ≡ 1
-  caller j w u l e n = ⊎-elim (λ o. up1-move w j (i.C1.c1m j w u l e o)) (λ o. sym (at2 mark′ (o .0) (o .1)) ∙ mark-new) (snoc-in s.ch v k m w j n)
+  caller j w u l e n = ⊎-elim (λ o. up1-move w j (i.connects.c1m j w u l e o)) (λ o. sym (at2 mark′ (o .0) (o .1)) ∙ mark-new) (snoc-in s.ch v k m w j n)
 
   -- who gets a Report by its in-branch is another
   pub spent-off : (j w u n : ℕ) → Edge p j w u → In (report n) (s.ch w j) → s.ib u ≡ j → v ≢ u

@@ -6,7 +6,7 @@ use Rattle.protocol.specs.Prelude.{Msg, connect, report, change}
 use Rattle.protocol.specs.Prelude.{Network, Edge, Tree, flip, ProtocolState, set-st, set-oo, set-ub, sendOver, remarked, decided}
 use Rattle.protocol.specs.Prelude.{isC, isI, isT, isA, isR, isK, Only, In, snoc, snoc-in, snoc-all}
 use Rattle.protocol.specs.Prelude.{Both, Decision, GL, DK, Inf, Jn, Outst, Counting, CoreEnds, Spent, Inv, joined-level}
-use Rattle.protocol.specs.Fragments.{Ranges, Cores, Sleepers, MarksOk, Inbounds}
+use Rattle.protocol.specs.Fragments.{Ranges, Cores, Sleepers, Marks, Inbounds}
 use Rattle.protocol.specs.Decisions.{HalfOk, Halves, ChangingOk, ChangeRoots, Rootings, Finishes}
 use Rattle.protocol.specs.Search.{Parents, Kids, Finds, Tests}
 use Rattle.protocol.specs.Traffic.{Tokens, Connects, Initiates, Telling, Testing, Answers, Reports, Owing, Bests}
@@ -140,66 +140,66 @@ module _ {p : Network} {s : ProtocolState} (i : Inv p s) {v y k d : ℕ} {m : Ms
 
   -- ---- clauses
 
-  W0′ : Ranges S′.st s.halt s.due S′.dk S′.mark
-  W0′ = record {
-    st-le = λ w. upd-elim (λ x. x ≤ 2) s.st v 2 w (λ q. omega arith) (λ n. i.W0.st-le w);
-    halt-le = i.W0.halt-le;
-    due-le = i.W0.due-le;
-    dk-le = λ a. upd-elim (λ x. x ≤ 4) s.dk (s.fr v) d a (λ q. omega (arith, o.high)) (λ n. i.W0.dk-le a);
-    mark-le = λ w j. upd2-elim (λ x. x ≤ 2) s.mark v k 1 w j (λ a b. omega arith) (λ n. i.W0.mark-le w j);
+  ranges′ : Ranges S′.st s.halt s.due S′.dk S′.mark
+  ranges′ = record {
+    st-le = λ w. upd-elim (λ x. x ≤ 2) s.st v 2 w (λ q. omega arith) (λ n. i.ranges.st-le w);
+    halt-le = i.ranges.halt-le;
+    due-le = i.ranges.due-le;
+    dk-le = λ a. upd-elim (λ x. x ≤ 4) s.dk (s.fr v) d a (λ q. omega (arith, o.high)) (λ n. i.ranges.dk-le a);
+    mark-le = λ w j. upd2-elim (λ x. x ≤ 2) s.mark v k 1 w j (λ a b. omega arith) (λ n. i.ranges.mark-le w j);
   }
 
-  G5′ : Cores p s.fr s.gl s.gc S′.mark
-  G5′ = record {
-    g5r = i.G5.g5r;
-    g5 = λ w a b l e. let x = i.G5.g5 w a b l e in (M.both-up i t h (s.gc (s.fr w)) a b (x .0), x .1);
+  cores′ : Cores p s.fr s.gl s.gc S′.mark
+  cores′ = record {
+    g5r = i.cores.g5r;
+    g5 = λ w a b l e. let x = i.cores.g5 w a b l e in (M.both-up i t h (s.gc (s.fr w)) a b (x .0), x .1);
   }
 
-  G6′ : Sleepers p S′.st s.fr s.gl S′.dk s.due s.bw s.be S′.ub s.halt S′.mark
-  G6′ = record {
+  sleepers′ : Sleepers p S′.st s.fr s.gl S′.dk s.due s.bw s.be S′.ub s.halt S′.mark
+  sleepers′ = record {
     g6 = λ w z.
         let a = M.st-asleep i t h w z in
         let n : s.fr v ≢ s.fr w = λ q. a .0 (t.awake w (sym q) (a .1)) in
-        let b = i.G6.g6 w (a .1) in
+        let b = i.sleepers.g6 w (a .1) in
         record { g6g = b.g6g; g6d = dk-off w n ∙ b.g6d; g6u = b.g6u; g6w = b.g6w; g6e = b.g6e };
     g6m = M.sleep-mark i t h;
     u1a = M.awake-ub i t h;
     g7 = λ j w u e n g. by-eq (s.fr v) (s.fr w)
         (λ q. dk-in w q ∙ single (ap s.gl q ∙ g))
-        (λ q. dk-off w q ∙ i.G6.g7 j w u e (M.st-awake i t h w (away w q) n) g);
+        (λ q. dk-off w q ∙ i.sleepers.g7 j w u e (M.st-awake i t h w (away w q) n) g);
     g7n = λ w n g e. by-eq v w
         (λ q. absurd (e k y (subst (λ x. Edge p k x y) q (h.ends))))
-        (λ q. let b = i.G6.g7n w (M.st-awake i t h w q n) g e in (dk-off w (λ r. q (i.G4.g4s w v g r)) ∙ b .0, b .1));
+        (λ q. let b = i.sleepers.g7n w (M.st-awake i t h w q n) g e in (dk-off w (λ r. q (i.sizes.g4s w v g r)) ∙ b .0, b .1));
   }
     where
       -- at level 0 nothing is joined
       single : GL s v ≡ 0 → d ≡ 3
       single g = o.half (λ z. ⊎-elim (λ a. omega (arith, joined-level i k v y (h.ends) (a, z))) (λ n. n z) (o.joins))
 
-  M1′ : MarksOk p s.fr S′.mark
-  M1′ = record {
+  marks′ : Marks p s.fr S′.mark
+  marks′ = record {
     own = M.own i t h;
     m1 = M.beyond-move i t h;
-    m3 = λ j w u e b. i.M1.m3 j w u e (joined-was j w u e b);
+    m3 = λ j w u e b. i.marks.m3 j w u e (joined-was j w u e b);
     m4 = M.wide i t h;
-    m5 = λ j w u e z. M.dn1-move i t h w j z (λ q r. subst (λ n. Tree p n) r (o.tree)) (λ f. i.M1.m5 j w u e f);
+    m5 = λ j w u e z. M.dn1-move i t h w j z (λ q r. subst (λ n. Tree p n) r (o.tree)) (λ f. i.marks.m5 j w u e f);
   }
 
-  U1′ : Inbounds p S′.ub s.ib S′.mark
-  U1′ = M.inbounds i t h (λ j w u e b. M.joined-ub i t h j w u e (joined-was j w u e b))
+  inbounds′ : Inbounds p S′.ub s.ib S′.mark
+  inbounds′ = M.inbounds i t h (λ j w u e b. M.joined-ub i t h j w u e (joined-was j w u e b))
 
-  D1′ : Halves p S′.dk S′.dn S′.de s.fr s.gl s.lev S′.ub S′.mark
-  D1′ = record {
+  halves′ : Halves p S′.dk S′.dn S′.de s.fr s.gl s.lev S′.ub S′.mark
+  halves′ = record {
     m2 = λ j w u e a b. M.dn1-move i t h w j a
         (λ q r. let f = M.far-end i t h j w u e q r in
         let z = o.half (λ z. b (M.up1-move i t h u j (sym (at2 s.mark f r) ∙ z))) in
         (dk-in w (ap s.fr q) ∙ z, dn-in w (ap s.fr q) ∙ q, de-in w (ap s.fr q) ∙ r))
-        (λ z. new-decision 3 w j (omega arith) (i.D1.m2 j w u e z (λ f. b (M.up1-move i t h u j f))));
-    d1f = λ w z. decision-node w (λ q. i.D1.d1f w (q ∙ z));
-    d1e = λ w z. decision-edge w (λ q. i.D1.d1e w (q ∙ z));
+        (λ z. new-decision 3 w j (omega arith) (i.halves.m2 j w u e z (λ f. b (M.up1-move i t h u j f))));
+    d1f = λ w z. decision-node w (λ q. i.halves.d1f w (q ∙ z));
+    d1e = λ w z. decision-edge w (λ q. i.halves.d1e w (q ∙ z));
     d1 = λ j z x e a. by-eq (s.fr v) (s.fr z)
         (λ q. let b = own-decision 3 z j q a in at-own (λ j z x. HalfOk p s.fr s.gl s.lev S′.ub S′.mark j z x) j z x e (b .1) (b .2) (o.half-ok (b .0)))
-        (λ n. let b = i.D1.d1 j z x e (old-decision 3 z j n a) in
+        (λ n. let b = i.halves.d1 j z x e (old-decision 3 z j n a) in
         record {
           d1m = M.up1-move i t h z j (b.d1m);
           d1y = upd2-elim (λ r. r ≡ 0) s.mark v k 1 x j
@@ -213,13 +213,13 @@ module _ {p : Network} {s : ProtocolState} (i : Inv p s) {v y k d : ℕ} {m : Ms
         });
   }
 
-  D2′ : ChangeRoots p S′.dk S′.dn S′.de s.fr s.gl s.gc s.lev s.ib S′.ub s.bw S′.mark
-  D2′ = record {
-    d2f = λ w z. decision-node w (λ q. i.D2.d2f w (q ∙ z));
-    d2e = λ w z. decision-edge w (λ q. i.D2.d2e w (q ∙ z));
+  changeRoots′ : ChangeRoots p S′.dk S′.dn S′.de s.fr s.gl s.gc s.lev s.ib S′.ub s.bw S′.mark
+  changeRoots′ = record {
+    d2f = λ w z. decision-node w (λ q. i.changeRoots.d2f w (q ∙ z));
+    d2e = λ w z. decision-edge w (λ q. i.changeRoots.d2e w (q ∙ z));
     d2 = λ j u x e a. by-eq (s.fr v) (s.fr u)
         (λ q. let b = own-decision 2 u j q a in at-own (λ j u x. ChangingOk p s.fr s.gl s.gc s.lev s.ib S′.ub s.bw S′.mark j u x) j u x e (b .1) (b .2) (o.changing-ok (b .0)))
-        (λ n. let b = i.D2.d2 j u x e (old-decision 2 u j n a) in
+        (λ n. let b = i.changeRoots.d2 j u x e (old-decision 2 u j n a) in
         record {
           d2j = M.both-up i t h j u x (b.d2j);
           d2g = b.d2g;
@@ -227,14 +227,14 @@ module _ {p : Network} {s : ProtocolState} (i : Inv p s) {v y k d : ℕ} {m : Ms
           d2x = b.d2x;
           d2b = b.d2b;
           d2u = M.ub-off i t h u (away u n) ∙ b.d2u;
-          d2v = M.ub-off i t h x (away x (λ q. n (q ∙ sym (i.M1.m3 j u x e (b.d2j))))) ∙ b.d2v;
+          d2v = M.ub-off i t h x (away x (λ q. n (q ∙ sym (i.marks.m3 j u x e (b.d2j))))) ∙ b.d2v;
           d2w = b.d2w;
           d2n = λ w f c q g r. b.d2n w f c q g (M.dn0-move i t h w f r);
         });
   }
 
-  D3′ : Rootings p S′.dk S′.dn s.fr s.gl s.lev s.ib S′.ub s.bw S′.mark 0
-  D3′ = record {
+  rootings′ : Rootings p S′.dk S′.dn s.fr s.gl s.lev s.ib S′.ub s.bw S′.mark 0
+  rootings′ = record {
     d3f = λ w z. absurd (no-root w z);
     d3o = λ w z. absurd (no-root w z);
     f5r = λ w z. absurd (omega arith);
@@ -247,164 +247,164 @@ module _ {p : Network} {s : ProtocolState} (i : Inv p s) {v y k d : ℕ} {m : Ms
   undecided : (w : ℕ) → DK S′ w ≡ 0 → (s.fr v ≢ s.fr w) × (DK s w ≡ 0)
   undecided w z = dk-old 0 w (λ q. omega (arith, o.low)) z
 
-  D4′ : Finishes p S′.dk s.fr s.gl s.gc s.lev s.bw s.halt s.due S′.mark
-  D4′ = record {
-    d4 = λ j w u e z f. i.D4.d4 j w u e (finished w z) (M.dn0-move i t h w j f);
-    d4i = λ j a b e g z l. i.D4.d4i j a b e g (finished a z) l;
-    d5 = λ w n. by-eq (s.fr v) (s.fr w) (λ q. t.no-due w (sym q)) (λ f. i.D4.d5 w (λ z. n (dk-off w f ∙ z)));
-    d6 = λ w n. let x = i.D4.d6 w n in dk-off w (dk-other w (omega (arith, x))) ∙ x;
-    d6c = i.D4.d6c;
+  finishes′ : Finishes p S′.dk s.fr s.gl s.gc s.lev s.bw s.halt s.due S′.mark
+  finishes′ = record {
+    d4 = λ j w u e z f. i.finishes.d4 j w u e (finished w z) (M.dn0-move i t h w j f);
+    d4i = λ j a b e g z l. i.finishes.d4i j a b e g (finished a z) l;
+    d5 = λ w n. by-eq (s.fr v) (s.fr w) (λ q. t.no-due w (sym q)) (λ f. i.finishes.d5 w (λ z. n (dk-off w f ∙ z)));
+    d6 = λ w n. let x = i.finishes.d6 w n in dk-off w (dk-other w (omega (arith, x))) ∙ x;
+    d6c = i.finishes.d6c;
   }
 
-  T1′ : Parents p s.lev s.fr s.gl s.gc s.ib S′.ub s.dep s.side S′.dk
-  T1′ = record {
-    t1 = i.T1.t1;
-    t1d = i.T1.t1d;
-    t1p = i.T1.t1p;
-    t1e = i.T1.t1e;
-    t1u = λ w f z. let x = undecided w z in M.ub-off i t h w (away w (x .0)) ∙ i.T1.t1u w f (x .1);
+  parents′ : Parents p s.lev s.fr s.gl s.gc s.ib S′.ub s.dep s.side S′.dk
+  parents′ = record {
+    t1 = i.parents.t1;
+    t1d = i.parents.t1d;
+    t1p = i.parents.t1p;
+    t1e = i.parents.t1e;
+    t1u = λ w f z. let x = undecided w z in M.ub-off i t h w (away w (x .0)) ∙ i.parents.t1u w f (x .1);
   }
 
-  T2′ : Kids p s.lev s.fr s.gl s.gc s.ib S′.ub s.due S′.mark
-  T2′ = record {
-    t2 = λ j w c e b. i.T2.t2 j w c e (joined-was j w c e b);
-    t3 = λ j a c e b. i.T2.t3 j a c e (joined-was j a c e b);
-    t4u = λ j a c e b g l. let x = i.T2.t4u j a c e (joined-was j a c e b) g l in
+  kids′ : Kids p s.lev s.fr s.gl s.gc s.ib S′.ub s.due S′.mark
+  kids′ = record {
+    t2 = λ j w c e b. i.kids.t2 j w c e (joined-was j w c e b);
+    t3 = λ j a c e b. i.kids.t3 j a c e (joined-was j a c e b);
+    t4u = λ j a c e b g l. let x = i.kids.t4u j a c e (joined-was j a c e b) g l in
         record { t4d = x.t4d; t4l = x.t4l; t4b = M.ub-off i t h a (M.low-off i t h a l) ∙ x.t4b; t4i = x.t4i };
   }
 
-  F1′ : Finds S′.st s.lev s.fr s.gl S′.dk s.due
-  F1′ = record {
-    f1 = λ w z. let f = M.st-old i t h w z in let x = i.F1.f1 w f in record { f1i = x.f1i; f1k = dk-off w (λ q. t.no-find w (sym q) f) ∙ x.f1k; f1u = x.f1u };
-    f1d = λ w f z. M.st-new i t h w (i.F1.f1d w f z);
+  finds′ : Finds S′.st s.lev s.fr s.gl S′.dk s.due
+  finds′ = record {
+    f1 = λ w z. let f = M.st-old i t h w z in let x = i.finds.f1 w f in record { f1i = x.f1i; f1k = dk-off w (λ q. t.no-find w (sym q) f) ∙ x.f1k; f1u = x.f1u };
+    f1d = λ w f z. M.st-new i t h w (i.finds.f1d w f z);
   }
 
-  E2′ : Tests p s.te s.ib S′.mark s.ot
-  E2′ = M.tests-move i t h (λ j w u e a b. joined-was j w u e b)
+  tests′ : Tests p s.te s.ib S′.mark s.ot
+  tests′ = M.tests-move i t h (λ j w u e a b. joined-was j w u e b)
 
-  Dc′ : Tokens p S′
-  Dc′ = record {
+  tokens′ : Tokens p S′
+  tokens′ = record {
     d1c = λ j z x e a. by-eq (s.fr v) (s.fr z)
         (λ q. let b = own-decision 3 z j q a in at-own (λ j z x. In (connect (GL s z)) (S′.ch z j)) j z x e (b .1) (b .2) (o.half-in (b .0)))
-        (λ n. M.new i t h z j (i.Dc.d1c j z x e (old-decision 3 z j n a)));
+        (λ n. M.new i t h z j (i.tokens.d1c j z x e (old-decision 3 z j n a)));
     d1a = λ j z x e a. by-eq (s.fr v) (s.fr z)
         (λ q. let b = own-decision 3 z j q a in at-own (λ j z x. All (Only (GL s z)) (S′.ch z j)) j z x e (b .1) (b .2) (o.half-all (b .0)))
-        (λ n. snoc-all s.ch v k m z j (λ q r. absurd (away z n q)) (i.Dc.d1a j z x e (old-decision 3 z j n a)));
+        (λ n. snoc-all s.ch v k m z j (λ q r. absurd (away z n q)) (i.tokens.d1a j z x e (old-decision 3 z j n a)));
     d2c = λ j u x e a. by-eq (s.fr v) (s.fr u)
         (λ q. let b = own-decision 2 u j q a in at-own (λ j u x. In change (S′.ch u j)) j u x e (b .1) (b .2) (o.changing-in (b .0)))
-        (λ n. M.new i t h u j (i.Dc.d2c j u x e (old-decision 2 u j n a)));
-    k1 = λ j u x e n. ⊎-elim (λ a. new-decision 2 u j (omega arith) (i.Dc.k1 j u x e a))
+        (λ n. M.new i t h u j (i.tokens.d2c j u x e (old-decision 2 u j n a)));
+    k1 = λ j u x e n. ⊎-elim (λ a. new-decision 2 u j (omega arith) (i.tokens.k1 j u x e a))
         (λ a. let q = ap s.fr (a .0) in (dk-in u q ∙ o.changing (sym (ap isK (a .2))), dn-in u q ∙ a .0, de-in u q ∙ a .1))
         (snoc-in s.ch v k m u j n);
     d3r = λ j a b e z. absurd (no-root a (z .0));
-    d4h = λ j a b e g z l f n. i.Dc.d4h j a b e g (finished a z) l f (M.old-move i t h isR (h.not-r) (omega arith) b j n);
-    d4r = λ j a b e g z l f. M.new i t h b j (i.Dc.d4r j a b e g (finished a z) l f);
+    d4h = λ j a b e g z l f n. i.tokens.d4h j a b e g (finished a z) l f (M.old-move i t h isR (h.not-r) (omega arith) b j n);
+    d4r = λ j a b e g z l f. M.new i t h b j (i.tokens.d4r j a b e g (finished a z) l f);
     d7 = λ j a b e g z f r. let x = undecided a z in
         ⊎-elim (λ q. inl (omega (arith, M.same-move i t h isR (h.not-r) a j)))
         (λ q. inr (q .0, M.st-two i t h b (q .1), q .2, omega (arith, q .3, M.same-move i t h isR (h.not-r) b j)))
-        (i.Dc.d7 j a b e g (x .1) f (sym (upd-other s.st v 2 a (away a (x .0))) ∙ r));
+        (i.tokens.d7 j a b e g (x .1) f (sym (upd-other s.st v 2 a (away a (x .0))) ∙ r));
   }
 
-  C1′ : Connects p S′
-  C1′ = record {
+  connects′ : Connects p S′
+  connects′ = record {
     c1m = M.caller i t h;
-    c1 = λ j w u l e n z. ⊎-elim (λ a. i.C1.c1 j w u l e a (joined-was j w u e (M.up1-move i t h w j (i.C1.c1m j w u l e a), z) .1))
+    c1 = λ j w u l e n z. ⊎-elim (λ a. i.connects.c1 j w u l e a (joined-was j w u e (M.up1-move i t h w j (i.connects.c1m j w u l e a), z) .1))
         (λ a. let b = joined-was j w u e (M.caller i t h j w u l e n, z) in
         absurd (⊎-elim (λ r. omega (arith, r .0, ap isC (a .2))) (λ r. omega (arith, b .0, at2 s.mark (a .0) (a .1))) (h.call)))
         (snoc-in s.ch v k m w j n);
   }
 
-  I1′ : Initiates p S′
-  I1′ = record {
-    i1 = λ j w u l f x e n. let r = i.I1.i1 j w u l f x e (M.old-move i t h isI (h.not-i) (omega arith) w j n) in
+  initiates′ : Initiates p S′
+  initiates′ = record {
+    i1 = λ j w u l f x e n. let r = i.initiates.i1 j w u l f x e (M.old-move i t h isI (h.not-i) (omega arith) w j n) in
         init-ok r (M.both-up i t h j w u (r.i1j)) (M.ub-off i t h u (M.low-off i t h u (omega (arith, r.i1l, r.i1g))) ∙ r.i1u) refl;
   }
 
-  T4′ : Telling p S′
-  T4′ = record {
+  telling′ : Telling p S′
+  telling′ = record {
     u2 = λ j w c e b n. M.joined-top i t h j w c e (joined-was j w c e b) n;
-    t2i = λ j w c e b f n l. M.new i t h w j (i.T4.t2i j w c e (joined-was j w c e b) f n l);
+    t2i = λ j w c e b f n l. M.new i t h w j (i.telling.t2i j w c e (joined-was j w c e b) f n l);
     t4 = λ j a c e b g. ⊎-elim (λ x. inl (omega (arith, M.grow i t h isC a j))) (⊎-elim (λ x. inr (inl (M.new i t h c j x))) (λ x. inr (inr x)))
-        (i.T4.t4 j a c e (joined-was j a c e b) g);
+        (i.telling.t4 j a c e (joined-was j a c e b) g);
     t4n = λ j a c e b g n. let f = joined-was j a c e b in
-        let x = i.T4.t4n j a c e f g (omega (arith, M.conn-same i t h a j c f)) in
+        let x = i.telling.t4n j a c e f g (omega (arith, M.conn-same i t h a j c f)) in
         (x .0, λ r. x .1 (M.old-move i t h isI (h.not-i) (omega arith) c j r));
   }
 
-  E1′ : Testing p S′
-  E1′ = record {
-    e1 = λ j w u l f e n. i.E1.e1 j w u l f e (M.old-move i t h isT (h.not-t) (omega arith) w j n);
+  testing′ : Testing p S′
+  testing′ = record {
+    e1 = λ j w u l f e n. i.testing.e1 j w u l f e (M.old-move i t h isT (h.not-t) (omega arith) w j n);
     e1w = λ j w u l f e n. M.asks i t h j w u l f e (M.old-move i t h isT (h.not-t) (omega arith) w j n);
     e2w = M.waits-two i t h;
     e2c = M.waits-one i t h;
     m6t = M.served-move i t h;
   }
 
-  A1′ : Answers p S′
-  A1′ = record {
-    a1 = λ j w u e n. let r = i.A1.a1 j w u e (M.old-move i t h isA (h.not-a) (omega arith) w j n) in
+  answers′ : Answers p S′
+  answers′ = record {
+    a1 = λ j w u e n. let r = i.answers.a1 j w u e (M.old-move i t h isA (h.not-a) (omega arith) w j n) in
         record { a1w = r.a1w; a1m = M.mark-wait i t h j u w (flip e) (r.a1w) ∙ r.a1m; a1f = r.a1f; a1l = r.a1l };
-    j1 = λ j w u e n. let r = i.A1.j1 j w u e (M.old-move i t h isA (h.not-a) (omega arith) w j n) in
+    j1 = λ j w u e n. let r = i.answers.j1 j w u e (M.old-move i t h isA (h.not-a) (omega arith) w j n) in
         record { j1w = r.j1w; j1f = r.j1f; j1m = λ z. M.up2-move i t h w j (r.j1m (M.dn0-move i t h u j z)) };
   }
 
-  R1′ : Reports p S′
-  R1′ = record {
-    r1r = λ j w u n e a. i.R1.r1r j w u n e (was w j n a);
-    r1j = λ j w u n e a. M.both-up i t h j w u (i.R1.r1j j w u n e (was w j n a));
-    r1 = λ j w u n e a. let b = was w j n a in let f = i.R1.r1j j w u n e b in
+  reports′ : Reports p S′
+  reports′ = record {
+    r1r = λ j w u n e a. i.reports.r1r j w u n e (was w j n a);
+    r1j = λ j w u n e a. M.both-up i t h j w u (i.reports.r1j j w u n e (was w j n a));
+    r1 = λ j w u n e a. let b = was w j n a in let f = i.reports.r1j j w u n e b in
         ⊎-elim (λ x. inl (x .0, x .1, x .2, M.st-two i t h w (x .3), x .4, x .5, M.st-new i t h u (x .6), M.call-same i t h w j u f ∙ x .7))
         (⊎-elim (λ x. inr (inl (core j w u n f x))) (λ x. inr (inr (spent j w u n e b x))))
-        (i.R1.r1 j w u n e b);
-    r1c = λ j w u n e a f z g. let b = was w j n a in core j w u n (i.R1.r1j j w u n e b) (i.R1.r1c j w u n e b f (undecided u z .1) g);
+        (i.reports.r1 j w u n e b);
+    r1c = λ j w u n e a f z g. let b = was w j n a in core j w u n (i.reports.r1j j w u n e b) (i.reports.r1c j w u n e b f (undecided u z .1) g);
   }
     where
       was : (w j n : ℕ) → In (report n) (S′.ch w j) → In (report n) (s.ch w j)
       was w j n a = M.old-move i t h isR (h.not-r) (omega arith) w j a
 
-  F4c′ : Owing p S′
-  F4c′ = record {
-    f4y = λ j w c e n. let x = i.F4c.f4y j w c e n in (x .0, M.both-up i t h j w c (x .1), x .2, outst-new c j (x .3));
-    f4n = λ j w c e f b n x. i.F4c.f4n j w c e f (joined-was j w c e b) n (outst-old c j x);
+  owing′ : Owing p S′
+  owing′ = record {
+    f4y = λ j w c e n. let x = i.owing.f4y j w c e n in (x .0, M.both-up i t h j w c (x .1), x .2, outst-new c j (x .3));
+    f4n = λ j w c e f b n x. i.owing.f4n j w c e f (joined-was j w c e b) n (outst-old c j x);
   }
 
-  B2′ : Bests p S′
-  B2′ = record {
-    b1e = λ w f n a. let x = i.B2.b1e w f n a in
+  bests′ : Bests p S′
+  bests′ = record {
+    b1e = λ w f n a. let x = i.bests.b1e w f n a in
         (x .0, x .1, M.both-up i t h (s.be w) w (x .0) (x .2), x .3, x .4, x .5, x .6, M.st-two i t h (x .0) (x .7), M.same-move i t h isR (h.not-r) (x .0) (s.be w) ∙ x .8);
-    b2 = λ j u w e a z l. last-case (λ x. (x .0, x .1, x .2, x .3, live (x .0) (x .4), x .5)) (i.B2.b2 j u w e (M.dn0-move i t h u j a) (undecided u z .1) l);
+    b2 = λ j u w e a z l. last-case (λ x. (x .0, x .1, x .2, x .3, live (x .0) (x .4), x .5)) (i.bests.b2 j u w e (M.dn0-move i t h u j a) (undecided u z .1) l);
   }
 
   pub inv-pass : Inv p S′
   inv-pass = record {
-    W0 = W0′;
-    W1 = i.W1;
-    G2 = i.G2;
-    G4 = i.G4;
-    G5 = G5′;
-    G6 = G6′;
-    M1 = M1′;
-    U1 = U1′;
-    D1 = D1′;
-    D2 = D2′;
-    D3 = D3′;
-    D4 = D4′;
-    T1 = T1′;
-    T2 = T2′;
-    F1 = F1′;
-    F2 = M.F2-move i t h;
-    F4 = i.F4;
-    E2 = E2′;
-    B1 = i.B1;
-    G6c = record { g6o = M.hush i t h; g6i = M.hush-in i t h };
-    Dc = Dc′;
-    C1 = C1′;
-    I1 = I1′;
-    T4 = T4′;
-    E1 = E1′;
-    A1 = A1′;
-    R1 = R1′;
-    F4c = F4c′;
-    B2 = B2′;
-    Q1 = record { q1 = M.order-move i t h };
+    ranges = ranges′;
+    values = i.values;
+    levels = i.levels;
+    sizes = i.sizes;
+    cores = cores′;
+    sleepers = sleepers′;
+    marks = marks′;
+    inbounds = inbounds′;
+    halves = halves′;
+    changeRoots = changeRoots′;
+    rootings = rootings′;
+    finishes = finishes′;
+    parents = parents′;
+    kids = kids′;
+    finds = finds′;
+    pending = M.pending-move i t h;
+    findCounts = i.findCounts;
+    tests = tests′;
+    weights = i.weights;
+    hush = record { g6o = M.hush i t h; g6i = M.hush-in i t h };
+    tokens = tokens′;
+    connects = connects′;
+    initiates = initiates′;
+    telling = telling′;
+    testing = testing′;
+    answers = answers′;
+    reports = reports′;
+    owing = owing′;
+    bests = bests′;
+    ordered = record { q1 = M.order-move i t h };
   }

@@ -19,25 +19,25 @@ module _ {p : Network} {s : ProtocolState} (i : Inv p s) {v k c : ℕ} (ot : s.o
 
   -- no edge of the fragment is half
   joined : Jn s k v c
-  joined = (branch, by-eq (s.mark c k) 1 (λ e. e) (λ n. absurd (omega (arith, i.D1.m2 k v c ends branch n .0, root i oo .0))))
+  joined = (branch, by-eq (s.mark c k) 1 (λ e. e) (λ n. absurd (omega (arith, i.halves.m2 k v c ends branch n .0, root i oo .0))))
 
   -- k is not the best weight, which leaves the fragment
   inner : s.be v ≢ s.bw v
   inner q =
-      let x = i.B1.b1 v (root-ok i oo .d3i) (root-ok i oo .d3w) in
+      let x = i.weights.b1 v (root-ok i oo .d3i) (root-ok i oo .d3w) in
       let e = subst (λ j. Edge p j (x .0) (x .1)) (sym q ∙ best) (x .2) in
-      let f = i.M1.m3 k v c ends joined in
+      let f = i.marks.m3 k v c ends joined in
       ⊎-elim (λ r. x .4 (ap s.fr (sym (r .1)) ∙ sym f)) (λ r. x .4 (ap s.fr (sym (r .0)))) (ends-two ends e)
 
   -- so c is the child that reported it
   child : (s.ib v ≢ k) × Inf s c × (s.ib c ≡ k) × (s.bw c ≡ s.bw v)
   child =
-      let x = i.B2.b1e v (root-ok i oo .d3i) (root-ok i oo .d3w) inner in
+      let x = i.bests.b1e v (root-ok i oo .d3i) (root-ok i oo .d3w) inner in
       let q : x .0 ≡ c = ends-same (subst (λ j. Edge p j v (x .0)) best (x .1)) ends in
       (λ z. x .3 (z ∙ sym best), subst (λ n. Inf s n) q (x .4), ap s.ib (sym q) ∙ x .5 ∙ best, ap s.bw (sym q) ∙ x .6)
 
   inbound : s.ub c ≡ k
-  inbound = ⊎-elim (λ q. absurd (child .0 (sym (root-ok i oo .d3u) ∙ q))) (λ q. q) (i.U1.m3u k v c ends joined)
+  inbound = ⊎-elim (λ q. absurd (child .0 (sym (root-ok i oo .d3u) ∙ q))) (λ q. q) (i.inbounds.m3u k v c ends joined)
 
   move : Move p s v c k change
   move = record {
@@ -50,7 +50,7 @@ module _ {p : Network} {s : ProtocolState} (i : Inv p s) {v k c : ℕ} (ot : s.o
     mark-v = λ z. omega arith;
     mark-y = λ z. omega (arith, joined .1);
     rouse = λ z. absurd (inf-awake i c (child .1) z);
-    fits = λ n o. fits-change n (by-eq (isK n) 0 (λ z. z) (λ z. absurd (omega (arith, i.Dc.k1 k v c ends (token n z o) .0, root i oo .0))));
+    fits = λ n o. fits-change n (by-eq (isK n) 0 (λ z. z) (λ z. absurd (omega (arith, i.tokens.k1 k v c ends (token n z o) .0, root i oo .0))));
   }
     where
       token : (n : Msg) → isK n ≢ 0 → In n (s.ch v k) → In change (s.ch v k)
@@ -61,7 +61,7 @@ module _ {p : Network} {s : ProtocolState} (i : Inv p s) {v k c : ℕ} (ot : s.o
     low = omega arith;
     high = omega arith;
     joins = inl branch;
-    tree = i.M1.m5 k v c ends branch;
+    tree = i.marks.m5 k v c ends branch;
     half = λ n. absurd (n (joined .1));
     changing = λ z. refl;
     half-ok = λ z. absurd (omega arith);
@@ -69,7 +69,7 @@ module _ {p : Network} {s : ProtocolState} (i : Inv p s) {v k c : ℕ} (ot : s.o
     half-all = λ z. absurd (omega arith);
     changing-ok = λ z. record {
       d2j = M.both-up i turn move k v c joined;
-      d2g = λ g. child .0 (i.T1.t1e k v c ends (root-ok i oo .d3i) g);
+      d2g = λ g. child .0 (i.parents.t1e k v c ends (root-ok i oo .d3i) g);
       d2i = root-ok i oo .d3i;
       d2x = child .1;
       d2b = child .2;
@@ -78,7 +78,7 @@ module _ {p : Network} {s : ProtocolState} (i : Inv p s) {v k c : ℕ} (ot : s.o
       d2w = λ z. root-ok i oo .d3w (sym (child .3) ∙ z);
       d2n = λ u j w q e m. omega (
         arith,
-        root-ok i oo .d3b u j w (q ∙ sym (i.M1.m3 k v c ends joined)) e (M.dn0-move i turn move u j m),
+        root-ok i oo .d3b u j w (q ∙ sym (i.marks.m3 k v c ends joined)) e (M.dn0-move i turn move u j m),
         ap (key p) (child .3),
       );
     };

@@ -39,7 +39,7 @@ module _ {p : Network} {s : ProtocolState} {v k y l : ℕ} (r : MergeReady p s v
   half-y = half-at (r.inv) k y v (flip (r.leave.ends)) (r.branch) (r.leave.basic)
 
   pub ok-y : HalfOk p s.fr s.gl s.lev s.ub s.mark k y v
-  ok-y = r.inv.D1.d1 k y v (flip (r.leave.ends)) half-y
+  ok-y = r.inv.halves.d1 k y v (flip (r.leave.ends)) half-y
 
   pub even-y : GL s y ≡ GL s v
   even-y = omega (arith, ok-y.d1g, ok-y.d1l, r.leave.level, r.turn.even)
@@ -66,7 +66,7 @@ module _ {p : Network} {s : ProtocolState} {v k y l : ℕ} (r : MergeReady p s v
   in-find w e = ⊎-elim (λ q. r.turn.no-find w q) (λ q. decided-find (r.inv) w (λ z. omega (arith, ap s.dk q, half-y .0))) e
 
   pub in-asleep : (w : ℕ) → InEither w → s.st w ≡ 0 → v ≡ w
-  in-asleep w e z = ⊎-elim (λ q. r.turn.awake w q z) (λ q. absurd (omega (arith, ap s.dk q, half-y .0, r.inv.G6.g6 w z .g6d))) e
+  in-asleep w e z = ⊎-elim (λ q. r.turn.awake w q z) (λ q. absurd (omega (arith, ap s.dk q, half-y .0, r.inv.sleepers.g6 w z .g6d))) e
 
   -- what it has now
   pub fr-in-merge : (w : ℕ) → InEither w → S′.fr w ≡ s.fr v
@@ -87,7 +87,7 @@ module _ {p : Network} {s : ProtocolState} {v k y l : ℕ} (r : MergeReady p s v
 
   -- nobody inside is informed
   pub low-in : (w : ℕ) → InEither w → s.lev w < GL S′ w
-  low-in w e = omega (arith, gl-in w e, in-level w e, r.inv.G2.g2 w)
+  low-in w e = omega (arith, gl-in w e, in-level w e, r.inv.levels.g2 w)
 
   -- ---- outside nothing changes
 
@@ -177,4 +177,4 @@ module _ {p : Network} {s : ProtocolState} {v k y l : ℕ} (r : MergeReady p s v
   joined-out j a b e o x = joined-merge j a b e x (λ q n z. absurd (o .0 (ap s.fr (sym q)))) (λ q n z. absurd (o .1 (ap s.fr (sym q)))) (λ f. f)
 
   pub beyond-merge : (j a b : ℕ) → Edge p j a b → Outside a → Jn s j a b → Outside b
-  beyond-merge j a b e o x = like a b o (sym (r.inv.M1.m3 j a b e x))
+  beyond-merge j a b e o x = like a b o (sym (r.inv.marks.m3 j a b e x))

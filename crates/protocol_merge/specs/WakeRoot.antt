@@ -17,7 +17,7 @@ module _ {p : Network} {s : ProtocolState} (i : Inv p s) {v k y : ℕ} (idle : I
   wake-leave = leave-sleeper i ends asleep least
 
   wake-level : 0 ≡ GL s v
-  wake-level = sym (i.G6.g6 v asleep .g6g)
+  wake-level = sym (i.sleepers.g6 v asleep .g6g)
 
   pub wake-ready : s.mark y k ≡ 1 → MergeReady p s v k y 0
   wake-ready m = record { inv = i; turn = wake-turn; leave = wake-leave; level = wake-level; branch = m }

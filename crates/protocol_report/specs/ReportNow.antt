@@ -27,56 +27,56 @@ module _ {p : Network} {s : ProtocolState} (i : Inv p s) {v k u : ℕ} (ot : s.o
   -- ---- v before the step
 
   find : s.st v ≡ 1
-  find = i.F2.f5p v op
+  find = i.pending.f5p v op
 
   inf : Inf s v
-  inf = i.F1.f1 v find .f1i
+  inf = i.finds.f1 v find .f1i
 
   undec : DK s v ≡ 0
-  undec = i.F1.f1 v find .f1k
+  undec = i.finds.f1 v find .f1k
 
   v≢u : v ≢ u
   v≢u = ends-irr p ends
 
   jn : Jn s k v u
-  jn = i.U1.u1i k v u ends ib
+  jn = i.inbounds.u1i k v u ends ib
 
   pub nj : Jn s k u v
   nj = (jn .1, jn .0)
 
   pub frs : s.fr v ≡ s.fr u
-  frs = i.M1.m3 k v u ends jn
+  frs = i.marks.m3 k v u ends jn
 
   -- the other end is informed, or the edge is the core
   beyond : GC s v ≢ k → Inf s u
-  beyond n = i.T1.t1p k v u ends inf ib n .0
+  beyond n = i.parents.t1p k v u ends inf ib n .0
 
   -- no Report of v is there yet
   pub own-rep : sumL isR (s.ch v k) ≡ 0
   own-rep = no-reports (s.ch v k) (λ w h. ⊎-elim (λ t. absurd (omega (arith, t .3, find)))
-      (⊎-elim (λ t. absurd (omega (arith, t .3, find))) (λ t. by-eq (GC s v) k (λ g. at-core w h (t .0) g) (λ n. up-other i k v u ends inf ib n (t .0)))) (i.R1.r1 k v u w ends h))
+      (⊎-elim (λ t. absurd (omega (arith, t .3, find))) (λ t. by-eq (GC s v) k (λ g. at-core w h (t .0) g) (λ n. up-other i k v u ends inf ib n (t .0)))) (i.reports.r1 k v u w ends h))
     where
       at-core : (w : ℕ) → In (report w) (s.ch v k) → s.ib u ≡ k → GC s v ≡ k → ⊥
       at-core w h b g = inf-cases i u
-          (λ t. omega (arith, i.R1.r1c k v u w ends h t (sym (ap s.dk frs) ∙ undec) (sym (ap s.gc frs) ∙ g) .3, find))
-          (λ l. i.T2.t4u k u v (flip ends) nj (sym (ap s.gc frs) ∙ g) l .t4i b)
+          (λ t. omega (arith, i.reports.r1c k v u w ends h t (sym (ap s.dk frs) ∙ undec) (sym (ap s.gc frs) ∙ g) .3, find))
+          (λ l. i.kids.t4u k u v (flip ends) nj (sym (ap s.gc frs) ∙ g) l .t4i b)
           (λ z. omega (arith, ap s.gl frs, inf .0))
 
   -- a node that owes v its Report would be counted
   pub no-owe : (j : ℕ) → j < p.g.L → s.owe v j ≡ 0
-  no-owe j l = omega (arith, le-sum p.g.L j (s.owe v) l, i.F4.f4 v)
+  no-owe j l = omega (arith, le-sum p.g.L j (s.owe v) l, i.findCounts.f4 v)
 
   pub no-child : (j a w : ℕ) → Edge p j a v → In (report w) (s.ch a j) → ¬ Child s a v j w
   no-child j a w e h t =
       let b = up-other i j a v e (t .0) (t .1) (t .2) in
-      let r = i.R1.r1j j a v w e h in
-      omega (arith, no-owe j (joins-lt e), i.F4c.f4n j v a (flip e) (t .5) (r .1, r .0) b (inl (t .0, inr (in-sum isR h))))
+      let r = i.reports.r1j j a v w e h in
+      omega (arith, no-owe j (joins-lt e), i.owing.f4n j v a (flip e) (t .5) (r .1, r .0) b (inl (t .0, inr (in-sum isR h))))
 
   -- v's parent searches
   pub parent : GC s v ≢ k → s.st u ≡ 1
   parent n =
-      let o = i.F4c.f4n k u v (flip ends) (beyond n) nj (up-other i k v u ends inf ib n) (inl (inf, inl find)) in
-      fc-find i u (λ z. omega (arith, le-sum p.g.L k (s.owe u) (joins-lt ends), i.F4.f4 u))
+      let o = i.owing.f4n k u v (flip ends) (beyond n) nj (up-other i k v u ends inf ib n) (inl (inf, inl find)) in
+      fc-find i u (λ z. omega (arith, le-sum p.g.L k (s.owe u) (joins-lt ends), i.findCounts.f4 u))
 
   -- ---- tables
 
@@ -102,52 +102,52 @@ module _ {p : Network} {s : ProtocolState} (i : Inv p s) {v k u : ℕ} (ot : s.o
   pub due-low : (w : ℕ) → s.lev w < GL s w → S′.due w ≡ s.due w
   due-low w l = upd-other s.due v 0 w (low w l)
 
-  W0′ : Ranges S′.st s.halt S′.due s.dk s.mark
-  W0′ = record {
-    st-le = λ w. upd-elim (λ x. x ≤ 2) s.st v 2 w (λ q. omega arith) (λ n. i.W0.st-le w);
-    halt-le = i.W0.halt-le;
-    due-le = λ w. upd-elim (λ x. x ≤ 1) s.due v 0 w (λ q. omega arith) (λ n. i.W0.due-le w);
-    dk-le = i.W0.dk-le;
-    mark-le = i.W0.mark-le;
+  ranges′ : Ranges S′.st s.halt S′.due s.dk s.mark
+  ranges′ = record {
+    st-le = λ w. upd-elim (λ x. x ≤ 2) s.st v 2 w (λ q. omega arith) (λ n. i.ranges.st-le w);
+    halt-le = i.ranges.halt-le;
+    due-le = λ w. upd-elim (λ x. x ≤ 1) s.due v 0 w (λ q. omega arith) (λ n. i.ranges.due-le w);
+    dk-le = i.ranges.dk-le;
+    mark-le = i.ranges.mark-le;
   }
 
-  G6′ : Sleepers p S′.st s.fr s.gl s.dk S′.due s.bw s.be s.ub s.halt s.mark
-  G6′ = record {
-    g6 = λ w z. let a = asleep w z in let t = i.G6.g6 w (a .1) in record { g6g = t.g6g; g6d = t.g6d; g6u = upd-other s.due v 0 w (a .0) ∙ t.g6u; g6w = t.g6w; g6e = t.g6e };
-    g6m = λ w j z. i.G6.g6m w j (asleep w z .1);
-    u1a = λ j w x e n. i.G6.u1a j w x e (awake w n);
-    g7 = λ j w x e n. i.G6.g7 j w x e (awake w n);
-    g7n = λ w n. i.G6.g7n w (awake w n);
+  sleepers′ : Sleepers p S′.st s.fr s.gl s.dk S′.due s.bw s.be s.ub s.halt s.mark
+  sleepers′ = record {
+    g6 = λ w z. let a = asleep w z in let t = i.sleepers.g6 w (a .1) in record { g6g = t.g6g; g6d = t.g6d; g6u = upd-other s.due v 0 w (a .0) ∙ t.g6u; g6w = t.g6w; g6e = t.g6e };
+    g6m = λ w j z. i.sleepers.g6m w j (asleep w z .1);
+    u1a = λ j w x e n. i.sleepers.u1a j w x e (awake w n);
+    g7 = λ j w x e n. i.sleepers.g7 j w x e (awake w n);
+    g7n = λ w n. i.sleepers.g7n w (awake w n);
   }
 
-  D4′ : Finishes p s.dk s.fr s.gl s.gc s.lev s.bw s.halt S′.due s.mark
-  D4′ = record {
-    d4 = i.D4.d4;
-    d4i = i.D4.d4i;
-    d5 = λ w h. upd-elim (λ x. x ≡ 0) s.due v 0 w (λ q. refl) (λ n. i.D4.d5 w h);
-    d6 = i.D4.d6;
-    d6c = i.D4.d6c;
+  finishes′ : Finishes p s.dk s.fr s.gl s.gc s.lev s.bw s.halt S′.due s.mark
+  finishes′ = record {
+    d4 = i.finishes.d4;
+    d4i = i.finishes.d4i;
+    d5 = λ w h. upd-elim (λ x. x ≡ 0) s.due v 0 w (λ q. refl) (λ n. i.finishes.d5 w h);
+    d6 = i.finishes.d6;
+    d6c = i.finishes.d6c;
   }
 
-  T2′ : Kids p s.lev s.fr s.gl s.gc s.ib s.ub S′.due s.mark
-  T2′ = record {
-    t2 = i.T2.t2;
-    t3 = λ j a b e h l r. due-low a l ∙ i.T2.t3 j a b e h l r ∙ sym (due-low b r);
-    t4u = λ j x y e h g l. let t = i.T2.t4u j x y e h g l in record { t4d = due-low x l ∙ t.t4d; t4l = t.t4l; t4b = t.t4b; t4i = t.t4i };
+  kids′ : Kids p s.lev s.fr s.gl s.gc s.ib s.ub S′.due s.mark
+  kids′ = record {
+    t2 = i.kids.t2;
+    t3 = λ j a b e h l r. due-low a l ∙ i.kids.t3 j a b e h l r ∙ sym (due-low b r);
+    t4u = λ j x y e h g l. let t = i.kids.t4u j x y e h g l in record { t4d = due-low x l ∙ t.t4d; t4l = t.t4l; t4b = t.t4b; t4i = t.t4i };
   }
 
-  F1′ : Finds S′.st s.lev s.fr s.gl s.dk S′.due
-  F1′ = record {
-    f1 = λ w h. let n = other w h in let t = i.F1.f1 w (sym (stay w n) ∙ h) in record { f1i = t.f1i; f1k = t.f1k; f1u = upd-other s.due v 0 w n ∙ t.f1u };
-    f1d = λ w h. upd-elim (λ x. x ≡ 1 → S′.st w ≡ 1) s.due v 0 w (λ q z. absurd (omega arith)) (λ n z. stay w n ∙ i.F1.f1d w h z);
+  finds′ : Finds S′.st s.lev s.fr s.gl s.dk S′.due
+  finds′ = record {
+    f1 = λ w h. let n = other w h in let t = i.finds.f1 w (sym (stay w n) ∙ h) in record { f1i = t.f1i; f1k = t.f1k; f1u = upd-other s.due v 0 w n ∙ t.f1u };
+    f1d = λ w h. upd-elim (λ x. x ≡ 1 → S′.st w ≡ 1) s.due v 0 w (λ q z. absurd (omega arith)) (λ n z. stay w n ∙ i.finds.f1d w h z);
   }
 
-  F2′ : Pending S′.st s.te s.fc s.ot 0
-  F2′ = record {
+  pending′ : Pending S′.st s.te s.fc s.ot 0
+  pending′ = record {
     f2 = λ w h. let n = other w h in
-        ⊎-elim (λ t. inl t) (⊎-elim (λ t. inr (inl t)) (⊎-elim (λ t. inr (inr (inl t))) (λ t. absurd (n (omega arith))))) (i.F2.f2 w (sym (stay w n) ∙ h));
-    f3t = λ w h. by-eq v w (λ q. sym (ap s.te q) ∙ te) (λ n. i.F2.f3t w (λ z. h (stay w n ∙ z)));
-    f3c = λ w h. by-eq v w (λ q. sym (ap s.fc q) ∙ fc) (λ n. i.F2.f3c w (λ z. h (stay w n ∙ z)));
+        ⊎-elim (λ t. inl t) (⊎-elim (λ t. inr (inl t)) (⊎-elim (λ t. inr (inr (inl t))) (λ t. absurd (n (omega arith))))) (i.pending.f2 w (sym (stay w n) ∙ h));
+    f3t = λ w h. by-eq v w (λ q. sym (ap s.te q) ∙ te) (λ n. i.pending.f3t w (λ z. h (stay w n ∙ z)));
+    f3c = λ w h. by-eq v w (λ q. sym (ap s.fc q) ∙ fc) (λ n. i.pending.f3c w (λ z. h (stay w n ∙ z)));
     f5t = λ w h. absurd (omega arith);
     f5p = λ w h. absurd (omega arith);
   }
@@ -177,45 +177,45 @@ module _ {p : Network} {s : ProtocolState} (i : Inv p s) {v k u : ℕ} (ot : s.o
       (λ q. inr (λ r. omega (arith, none-in isR own-rep (subst (λ l. In (report w) l) (ap (λ x. s.ch x j) (sym q) ∙ ap (s.ch v) (sym r)) h))))
       (λ n. inl n)
 
-  G6c′ : Hush p S′
-  G6c′ = record {
-    g6o = λ j w x e z. let a = asleep w z in off w j (inl (a .0)) ∙ i.G6c.g6o j w x e (a .1);
+  hush′ : Hush p S′
+  hush′ = record {
+    g6o = λ j w x e z. let a = asleep w z in off w j (inl (a .0)) ∙ i.hush.g6o j w x e (a .1);
     g6i = λ j w x e z. let a = asleep x z in snoc-all s.ch v k m w j
         (λ q r. absurd (mark-awake i u k (λ y. omega (arith, jn .1)) (ap s.st (other-end ends e q r) ∙ a .1)))
-        (i.G6c.g6i j w x e (a .1));
+        (i.hush.g6i j w x e (a .1));
   }
 
-  Dc′ : Tokens p S′
-  Dc′ = record {
-    d1c = λ j z y e t. in-snoc2 s.ch v k m z j (i.Dc.d1c j z y e t);
+  tokens′ : Tokens p S′
+  tokens′ = record {
+    d1c = λ j z y e t. in-snoc2 s.ch v k m z j (i.tokens.d1c j z y e t);
     d1a = λ j z y e t. snoc-all s.ch v k m z j
-        (λ q r. absurd (omega (arith, undec, ap (λ x. DK s x) q, t .0))) (i.Dc.d1a j z y e t);
-    d2c = λ j w x e t. in-snoc2 s.ch v k m w j (i.Dc.d2c j w x e t);
-    k1 = λ j w x e n. i.Dc.k1 j w x e (old isK refl (omega arith) w j n);
+        (λ q r. absurd (omega (arith, undec, ap (λ x. DK s x) q, t .0))) (i.tokens.d1a j z y e t);
+    d2c = λ j w x e t. in-snoc2 s.ch v k m w j (i.tokens.d2c j w x e t);
+    k1 = λ j w x e n. i.tokens.k1 j w x e (old isK refl (omega arith) w j n);
     d3r = λ j x y e t b. absurd (no-root i x oo (t .0));
-    d4h = λ j x y e g d l t h. ⊎-elim (λ o. i.Dc.d4h j x y e g d l t o)
+    d4h = λ j x y e g d l t h. ⊎-elim (λ o. i.tokens.d4h j x y e g d l t o)
         (λ r. omega (arith, d, ap s.dk (sym (frs-at j x y e (r .0) (r .1))), undec)) (snoc-in s.ch v k m y j h);
-    d4r = λ j x y e g d l t. in-snoc2 s.ch v k m y j (i.Dc.d4r j x y e g d l t);
+    d4r = λ j x y e g d l t. in-snoc2 s.ch v k m y j (i.tokens.d4r j x y e g d l t);
     d7 = λ j x y e g d h f. by-eq v x
         (λ q. inl (subst (λ z. 1 ≤ sumL isR (c′ z j)) q (subst (λ z. 1 ≤ sumL isR (c′ v z))
-        (sym ib ∙ ap s.ib q ∙ i.T1.t1e j x y e h g) new-rep)))
+        (sym ib ∙ ap s.ib q ∙ i.parents.t1e j x y e h g) new-rep)))
         (λ n. ⊎-elim (λ t. inl (omega (arith, more x j, t)))
-        (λ t. inr (t .0, found y (t .1), t .2, omega (arith, more y j, t .3))) (i.Dc.d7 j x y e g d h (sym (stay x n) ∙ f)));
+        (λ t. inr (t .0, found y (t .1), t .2, omega (arith, more y j, t .3))) (i.tokens.d7 j x y e g d h (sym (stay x n) ∙ f)));
   }
     where
       frs-at : (j x y : ℕ) → Edge p j x y → v ≡ y → k ≡ j → s.fr v ≡ s.fr x
       frs-at j x y e q r = frs ∙ ap s.fr (other-end ends (flip e) q r)
 
-  C1′ : Connects p S′
-  C1′ = let o = connects-same p s c′ (λ w j l n. old isC refl (omega arith) w j n) i.C1 in record { c1m = o.c1m; c1 = o.c1 }
+  connects′ : Connects p S′
+  connects′ = let o = connects-same p s c′ (λ w j l n. old isC refl (omega arith) w j n) i.connects in record { c1m = o.c1m; c1 = o.c1 }
 
-  I1′ : Initiates p S′
-  I1′ = record {
-    i1 = λ j a w l f x e n. let t = i.I1.i1 j a w l f x e (old isI refl (omega arith) a j n) in init-ok t (t.i1j) (t.i1u) (due-low w (omega (arith, t.i1l, t.i1g)));
+  initiates′ : Initiates p S′
+  initiates′ = record {
+    i1 = λ j a w l f x e n. let t = i.initiates.i1 j a w l f x e (old isI refl (omega arith) a j n) in init-ok t (t.i1j) (t.i1u) (due-low w (omega (arith, t.i1l, t.i1g)));
   }
 
-  T4′ : Telling p S′
-  T4′ = record {
+  telling′ : Telling p S′
+  telling′ = record {
     u2 = o.u2;
     t2i = λ j w c e b t n l. subst (λ x. In (initiate (GL s w) (GC s w) x) (c′ w j)) (sym (due-low c l)) (o.t2i j w c e b t n l);
     t4 = o.t4;
@@ -223,16 +223,16 @@ module _ {p : Network} {s : ProtocolState} (i : Inv p s) {v k u : ℕ} (ot : s.o
   }
     where
       o : Telling p (set-ch s c′)
-      o = post-telling p s v k m refl i.T4
+      o = post-telling p s v k m refl i.telling
 
-  E1′ : Testing p S′
-  E1′ =
-      let o = testing-same p s c′ (λ w j l f n. old isT refl (omega arith) w j n) (same isT refl) (same isA refl) i.E1 in
+  testing′ : Testing p S′
+  testing′ =
+      let o = testing-same p s c′ (λ w j l f n. old isT refl (omega arith) w j n) (same isT refl) (same isA refl) i.testing in
       record { e1 = o.e1; e1w = o.e1w; e2w = o.e2w; e2c = o.e2c; m6t = o.m6t }
 
-  A1′ : Answers p S′
-  A1′ =
-      let o = answers-same p s c′ (λ w j n. old isA refl (omega arith) w j n) (λ w j n. old isA refl (omega arith) w j n) i.A1 in
+  answers′ : Answers p S′
+  answers′ =
+      let o = answers-same p s c′ (λ w j n. old isA refl (omega arith) w j n) (λ w j n. old isA refl (omega arith) w j n) i.answers in
       record { a1 = o.a1; j1 = o.j1 }
 
   -- ---- Reports
@@ -264,9 +264,9 @@ module _ {p : Network} {s : ProtocolState} (i : Inv p s) {v k u : ℕ} (ot : s.o
 
       init : s.lev u < GL s u → In (initiate (GL s u) k 1) (s.ch v k)
       init l = ⊎-elim
-          (λ t. let c = some-connect (s.ch u k) t in let r = i.C1.c1 k u v (c .0) (flip ends) (c .1) (jn .0) in
+          (λ t. let c = some-connect (s.ch u k) t in let r = i.connects.c1 k u v (c .0) (flip ends) (c .1) (jn .0) in
           absurd (omega (arith, r .1, r .2, inf .1, ap s.gl frs)))
-          (⊎-elim (λ t. t) (λ t. absurd (omega (arith, t .1)))) (i.T4.t4 k u v (flip ends) nj gu)
+          (⊎-elim (λ t. t) (λ t. absurd (omega (arith, t .1)))) (i.telling.t4 k u v (flip ends) nj gu)
 
   at-new : (C : ℕ → ℕ → ℕ → ℕ → Type 0) (j a b w : ℕ) → Edge p j a b → v ≡ a → k ≡ j → report w ≡ m → C v u k (s.bw v) → C a b j w
   at-new C j a b w e q r h c =
@@ -278,17 +278,17 @@ module _ {p : Network} {s : ProtocolState} (i : Inv p s) {v k u : ℕ} (ot : s.o
   core-old j a b w h t =
       let x = core-same p s c′ a b j w (around-same (off a j (apart w a j h)) (in-snoc2 s.ch v k m a j h)) t in (x .0, x .1, x .2, found a (x .3), x .4, x .5, x .6)
 
-  R1′ : Reports p S′
-  R1′ = record {
-    r1r = λ j a b w e h n. ⊎-elim (λ o. i.R1.r1r j a b w e o n)
-        (λ t. let q = ap arg1 (t .2) in subst (λ x. x < p.g.L) (sym q) (i.W1.w1w v (λ z. n (q ∙ z)))) (snoc-in s.ch v k m a j h);
-    r1j = λ j a b w e h. ⊎-elim (λ o. i.R1.r1j j a b w e o)
+  reports′ : Reports p S′
+  reports′ = record {
+    r1r = λ j a b w e h n. ⊎-elim (λ o. i.reports.r1r j a b w e o n)
+        (λ t. let q = ap arg1 (t .2) in subst (λ x. x < p.g.L) (sym q) (i.values.w1w v (λ z. n (q ∙ z)))) (snoc-in s.ch v k m a j h);
+    r1j = λ j a b w e h. ⊎-elim (λ o. i.reports.r1j j a b w e o)
         (λ t. at-new (λ a b j w. Jn s j a b) j a b w e (t .0) (t .1) (t .2) jn) (snoc-in s.ch v k m a j h);
-    r1 = λ j a b w e h. ⊎-elim (λ o. old-one j a b w e o (i.R1.r1 j a b w e o))
+    r1 = λ j a b w e h. ⊎-elim (λ o. old-one j a b w e o (i.reports.r1 j a b w e o))
         (λ t. by-eq (GC s v) k
         (λ g. inr (inl (at-new (λ a b j w. CoreEnds S′ a b j w) j a b w e (t .0) (t .1) (t .2) (to-core g))))
         (λ n. inl (at-new (λ a b j w. Child S′ a b j w) j a b w e (t .0) (t .1) (t .2) (to-parent n)))) (snoc-in s.ch v k m a j h);
-    r1c = λ j a b w e h f d g. ⊎-elim (λ o. core-old j a b w o (i.R1.r1c j a b w e o f d g))
+    r1c = λ j a b w e h f d g. ⊎-elim (λ o. core-old j a b w o (i.reports.r1c j a b w e o f d g))
         (λ t. at-new (λ a b j w. CoreEnds S′ a b j w) j a b w e (t .0) (t .1) (t .2) (to-core (at-core j a b e (t .0) (t .1) g))) (snoc-in s.ch v k m a j h);
   }
     where
@@ -310,10 +310,10 @@ module _ {p : Network} {s : ProtocolState} (i : Inv p s) {v k u : ℕ} (ot : s.o
       old-one j a b w e h (inr (inl t)) = inr (inl (core-old j a b w h t))
       old-one j a b w e h (inr (inr t)) = inr (inr (t .0, t .1, t .2, found b (t .3), λ n x. t .4 n (subst (λ l. Bef n (report w) l) (off a j (apart w a j h)) x), t .5))
 
-  F4c′ : Owing p S′
-  F4c′ = record {
-    f4y = λ j w c e n. let t = i.F4c.f4y j w c e n in (t .0, t .1, t .2, outst-to j w c e (t .0) (t .1) (t .2) (t .3));
-    f4n = λ j w c e h b n o. i.F4c.f4n j w c e h b n (outst-from j c o);
+  owing′ : Owing p S′
+  owing′ = record {
+    f4y = λ j w c e n. let t = i.owing.f4y j w c e n in (t .0, t .1, t .2, outst-to j w c e (t .0) (t .1) (t .2) (t .3));
+    f4n = λ j w c e h b n o. i.owing.f4n j w c e h b n (outst-from j c o);
   }
     where
       outst-to : (j w c : ℕ) → Edge p j w c → Inf s w → Jn s j w c → s.ib w ≢ j → Outst s c j → Outst S′ c j
@@ -321,7 +321,7 @@ module _ {p : Network} {s : ProtocolState} (i : Inv p s) {v k u : ℕ} (ot : s.o
         t .0,
         ⊎-elim
             (λ f. by-eq v c
-            (λ q. inr (subst (λ z. 1 ≤ sumL isR (c′ z j)) q (subst (λ z. 1 ≤ sumL isR (c′ v z)) (sym ib ∙ ap s.ib q ∙ i.T2.t2 j w c e b h n (t .0)) new-rep)))
+            (λ q. inr (subst (λ z. 1 ≤ sumL isR (c′ z j)) q (subst (λ z. 1 ≤ sumL isR (c′ v z)) (sym ib ∙ ap s.ib q ∙ i.kids.t2 j w c e b h n (t .0)) new-rep)))
             (λ d. inl (stay c d ∙ f)))
             (λ r. inr (omega (arith, more c j))) (t .1),
       )
@@ -335,12 +335,12 @@ module _ {p : Network} {s : ProtocolState} (i : Inv p s) {v k u : ℕ} (ot : s.o
       )
       outst-from j c (inr t) = inr (t .0, sym (due-low c (t .0)) ∙ t .1)
 
-  B2′ : Bests p S′
-  B2′ = record {
-    b1e = λ w h n d. let t = i.B2.b1e w h n d in
+  bests′ : Bests p S′
+  bests′ = record {
+    b1e = λ w h n d. let t = i.bests.b1e w h n d in
         (t .0, t .1, t .2, t .3, t .4, t .5, t .6, found (t .0) (t .7), ap (sumL isR) (off (t .0) (s.be w) (inl (λ q. omega (arith, find, ap s.st q, t .7)))) ∙ t .8);
     b2 = λ j a b e h d g. ⊎-elim (λ t. inl (t .0, due-low a (t .0) ∙ t .1))
-        (⊎-elim (λ t. inr (inl t)) (⊎-elim (λ t. inr (inr (inl t))) (λ t. inr (inr (inr (t .0, t .1, t .2, t .3, live (t .0) (t .4), t .5)))))) (i.B2.b2 j a b e h d g);
+        (⊎-elim (λ t. inr (inl t)) (⊎-elim (λ t. inr (inr (inl t))) (λ t. inr (inr (inr (t .0, t .1, t .2, t .3, live (t .0) (t .4), t .5)))))) (i.bests.b2 j a b e h d g);
   }
     where
       live : (x : ℕ) → Counting s x → Counting S′ x
@@ -350,43 +350,43 @@ module _ {p : Network} {s : ProtocolState} (i : Inv p s) {v k u : ℕ} (ot : s.o
       live x (inr (inl g)) = inr (inl g)
       live x (inr (inr r)) = inr (inr (omega (arith, more x (s.ib x))))
 
-  Q1′ : Ordered p S′
-  Q1′ = record {
-    q1 = λ j w x a b e t. ⊎-elim (λ y. i.Q1.q1 j w x a b e y)
+  ordered′ : Ordered p S′
+  ordered′ = record {
+    q1 = λ j w x a b e t. ⊎-elim (λ y. i.ordered.q1 j w x a b e y)
         (λ y. subst (λ n. Fits a n) (sym (y .2)) (fits-report (s.bw v) a (none-in isR own-rep (subst (λ l. In a l) (ap (λ z. s.ch z j) (sym (y .0)) ∙ ap (s.ch v) (sym (y .1))) (y .3)))))
         (snoc-bef s.ch v k m w j t);
   }
 
   pub inv-report-now : Inv p S′
   inv-report-now = record {
-    W0 = W0′;
-    W1 = i.W1;
-    G2 = i.G2;
-    G4 = i.G4;
-    G5 = i.G5;
-    G6 = G6′;
-    M1 = i.M1;
-    U1 = i.U1;
-    D1 = i.D1;
-    D2 = i.D2;
-    D3 = i.D3;
-    D4 = D4′;
-    T1 = i.T1;
-    T2 = T2′;
-    F1 = F1′;
-    F2 = F2′;
-    F4 = i.F4;
-    E2 = i.E2;
-    B1 = i.B1;
-    G6c = G6c′;
-    Dc = Dc′;
-    C1 = C1′;
-    I1 = I1′;
-    T4 = T4′;
-    E1 = E1′;
-    A1 = A1′;
-    R1 = R1′;
-    F4c = F4c′;
-    B2 = B2′;
-    Q1 = Q1′;
+    ranges = ranges′;
+    values = i.values;
+    levels = i.levels;
+    sizes = i.sizes;
+    cores = i.cores;
+    sleepers = sleepers′;
+    marks = i.marks;
+    inbounds = i.inbounds;
+    halves = i.halves;
+    changeRoots = i.changeRoots;
+    rootings = i.rootings;
+    finishes = finishes′;
+    parents = i.parents;
+    kids = kids′;
+    finds = finds′;
+    pending = pending′;
+    findCounts = i.findCounts;
+    tests = i.tests;
+    weights = i.weights;
+    hush = hush′;
+    tokens = tokens′;
+    connects = connects′;
+    initiates = initiates′;
+    telling = telling′;
+    testing = testing′;
+    answers = answers′;
+    reports = reports′;
+    owing = owing′;
+    bests = bests′;
+    ordered = ordered′;
   }

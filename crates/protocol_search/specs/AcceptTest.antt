@@ -27,32 +27,32 @@ module _ {p : Network} {s : ProtocolState} (i : Inv p s) {u v k l f : ℕ} {r : 
   head = pop-head s.ch u k q
 
   pub tester-inf : Inf s u
-  tester-inf = i.E1.e1 k u v l f ends head .2
+  tester-inf = i.testing.e1 k u v l f ends head .2
 
   -- of another fragment: else v would be informed, with the same identity
   pub tester-apart : s.fr u ≢ s.fr v
   tester-apart z =
-      let t = i.E1.e1 k u v l f ends head in
-      let h : Inf s v = (omega (arith, tester-inf .0, ap s.gl z), omega (arith, i.G2.g2 v, tester-inf .1, t .0, ap s.gl z)) in
-      differ (i.G2.g2i v h ∙ ap s.gc (sym z) ∙ sym (i.G2.g2i u tester-inf) ∙ t .1)
+      let t = i.testing.e1 k u v l f ends head in
+      let h : Inf s v = (omega (arith, tester-inf .0, ap s.gl z), omega (arith, i.levels.g2 v, tester-inf .1, t .0, ap s.gl z)) in
+      differ (i.levels.g2i v h ∙ ap s.gc (sym z) ∙ sym (i.levels.g2i u tester-inf) ∙ t .1)
 
   pub waits-accept : Waits s u k
-  waits-accept = ⊎-elim (λ t. t .0) (λ t. absurd (tester-apart (t .3))) (i.E1.e1w k u v l f ends head)
+  waits-accept = ⊎-elim (λ t. t .0) (λ t. absurd (tester-apart (t .3))) (i.testing.e1w k u v l f ends head)
 
   basic : s.mark u k ≡ 0
   basic = ⊎-elim
       (λ t. by-eq (s.mark u k) 0 (λ z. z)
-      (λ n. let o : s.mark u k ≡ 1 = omega (arith, i.W0.mark-le u k, t .1) in absurd (tester-apart (i.M1.m3 k u v ends (o, t .2 o)))))
-      (λ t. absurd (tester-apart (t .3))) (i.E1.e1w k u v l f ends head)
+      (λ n. let o : s.mark u k ≡ 1 = omega (arith, i.ranges.mark-le u k, t .1) in absurd (tester-apart (i.marks.m3 k u v ends (o, t .2 o)))))
+      (λ t. absurd (tester-apart (t .3))) (i.testing.e1w k u v l f ends head)
 
-  -- of u's Test, an answer to it and a Test of v that crossed it just one is under way (E2): this Test
+  -- of u's Test, an answer to it and a Test of v that crossed it just one is under way (e2c): this Test
   one : 1 ≤ sumL isT (s.ch u k)
   one = in-sum isT head
 
   pub unanswered : sumL isA (s.ch v k) ≡ 0
   unanswered = by-eq (s.te v) k
-      (λ z. omega (arith, i.E1.e2w k u v ends waits-accept (z, λ o. omega (arith, idle .0)), one))
-      (λ z. omega (arith, i.E1.e2c k u v ends waits-accept (inl z), one))
+      (λ z. omega (arith, i.testing.e2w k u v ends waits-accept (z, λ o. omega (arith, idle .0)), one))
+      (λ z. omega (arith, i.testing.e2c k u v ends waits-accept (inl z), one))
 
   -- ---- the new channels
 
@@ -62,31 +62,31 @@ module _ {p : Network} {s : ProtocolState} (i : Inv p s) {u v k l f : ℕ} {r : 
   level : (j w x : ℕ) → Edge p j w x → sumL isT (c′ w j) + sumL isA (c′ x j) ≡ sumL isT (s.ch w j) + sumL isA (s.ch x j)
   level = even p s ends q accept refl refl
 
-  E1′ : Testing p S′
-  E1′ = record {
-    e1 = λ j w x a b e h. i.E1.e1 j w x a b e (old isT refl (omega arith) w j h);
-    e1w = λ j w x a b e h. i.E1.e1w j w x a b e (old isT refl (omega arith) w j h);
-    e2w = λ j w x e a b. level j w x e ∙ i.E1.e2w j w x e a b;
-    e2c = λ j w x e a b. omega (arith, level j w x e, i.E1.e2c j w x e a b, crossed p s ends q accept refl refl idle (waits-accept .0) j x b);
-    m6t = λ j w x e m z. omega (arith, snoc-sum c₁ v k accept isT refl x j, pop-le s.ch u k q isT x j, i.E1.m6t j w x e m z);
+  testing′ : Testing p S′
+  testing′ = record {
+    e1 = λ j w x a b e h. i.testing.e1 j w x a b e (old isT refl (omega arith) w j h);
+    e1w = λ j w x a b e h. i.testing.e1w j w x a b e (old isT refl (omega arith) w j h);
+    e2w = λ j w x e a b. level j w x e ∙ i.testing.e2w j w x e a b;
+    e2c = λ j w x e a b. omega (arith, level j w x e, i.testing.e2c j w x e a b, crossed p s ends q accept refl refl idle (waits-accept .0) j x b);
+    m6t = λ j w x e m z. omega (arith, snoc-sum c₁ v k accept isT refl x j, pop-le s.ch u k q isT x j, i.testing.m6t j w x e m z);
   }
 
-  A1′ : Answers p S′
-  A1′ = record {
-    a1 = λ j w x e h. ⊎-elim (λ o. i.A1.a1 j w x e (pop-in s.ch u k q w j o))
+  answers′ : Answers p S′
+  answers′ = record {
+    a1 = λ j w x e h. ⊎-elim (λ o. i.answers.a1 j w x e (pop-in s.ch u k q w j o))
         (λ t. let n = other-end (flip ends) e (t .0) (t .1) in
         subst (λ a. AcceptOk s.te s.fr s.lev s.mark s.ot j w a) n
         (subst (λ a. AcceptOk s.te s.fr s.lev s.mark s.ot j a u) (t .0)
         (subst (λ a. AcceptOk s.te s.fr s.lev s.mark s.ot a v u) (t .1) fresh)))
         (snoc-in c₁ v k accept w j h);
-    j1 = λ j w x e h. i.A1.j1 j w x e (pop-in s.ch u k q w j (snoc-old c₁ v k accept w j (kinds (λ z. omega arith)) h));
+    j1 = λ j w x e h. i.answers.j1 j w x e (pop-in s.ch u k q w j (snoc-old c₁ v k accept w j (kinds (λ z. omega arith)) h));
   }
     where
       fresh : AcceptOk s.te s.fr s.lev s.mark s.ot k v u
-      fresh = record { a1w = waits-accept; a1m = basic; a1f = λ z. tester-apart (sym z); a1l = omega (arith, i.E1.e1 k u v l f ends head .0) }
+      fresh = record { a1w = waits-accept; a1m = basic; a1f = λ z. tester-apart (sym z); a1l = omega (arith, i.testing.e1 k u v l f ends head .0) }
 
   pub inv-accept-test : Inv p S′
   inv-accept-test = inv-passing i c′
       (flow-post p s₁ v k plain-accept awake (λ x e z. absurd (inf-awake i u tester-inf (ap s.st (ends-same (flip ends) e) ∙ z))) (λ h. tt)
       (λ x h. fits-accept x (none-in isA unanswered (pop-in s.ch u k q v k h))) (flow-take p s u k q (plain-test l f) (flow i)))
-      E1′ A1′ (bests-same p s c′ (λ w j. snoc-sum c₁ v k accept isR refl w j ∙ pop-sum s.ch u k q isR refl w j) i.B2)
+      testing′ answers′ (bests-same p s c′ (λ w j. snoc-sum c₁ v k accept isR refl w j ∙ pop-sum s.ch u k q isR refl w j) i.bests)

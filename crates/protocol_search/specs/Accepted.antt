@@ -19,13 +19,13 @@ module _ {p : Network} {s : ProtocolState} (i : Inv p s) {u v k b e : ℕ} {r : 
   S′ = set-op (bested (set-te (pop s u k r) (upd s.te v none)) v b e) (suc v)
 
   said : AcceptOk s.te s.fr s.lev s.mark s.ot k u v
-  said = i.A1.a1 k u v ends (pop-head s.ch u k q)
+  said = i.answers.a1 k u v ends (pop-head s.ch u k q)
 
   find : s.st v ≡ 1
   find = waits-find i k v u (flip ends) (said .a1w)
 
   inf : Inf s v
-  inf = i.F1.f1 v find .f1i
+  inf = i.finds.f1 v find .f1i
 
   -- k leaves the fragment
   leaves : k ≢ none → LeavesFragment p s v k
@@ -52,8 +52,8 @@ module _ {p : Network} {s : ProtocolState} (i : Inv p s) {u v k b e : ℕ} {r : 
 
   pub own-test : sumL isT (s.ch v k) ≡ 0
   own-test = by-eq (s.te u) k
-      (λ z. omega (arith, i.E1.e2w k v u (flip ends) (said .a1w) (z, λ o. omega (arith, idle .0)), a))
-      (λ z. omega (arith, i.E1.e2c k v u (flip ends) (said .a1w) (inl z), a))
+      (λ z. omega (arith, i.testing.e2w k v u (flip ends) (said .a1w) (z, λ o. omega (arith, idle .0)), a))
+      (λ z. omega (arith, i.testing.e2c k v u (flip ends) (said .a1w) (inl z), a))
     where
       a : 1 ≤ sumL isA (s.ch u k)
       a = in-sum isA (pop-head s.ch u k q)
@@ -80,23 +80,23 @@ module _ {p : Network} {s : ProtocolState} (i : Inv p s) {u v k b e : ℕ} {r : 
 
   -- ---- the groups
 
-  F2′ : Pending s.st S′.te s.fc s.ot (suc v)
-  F2′ = record {
+  pending′ : Pending s.st S′.te s.fc s.ot (suc v)
+  pending′ = record {
     f2 = λ w h. by-eq v w (λ z. inr (inr (inr (ap suc z))))
-        (λ n. ⊎-elim (λ c. inl c) (⊎-elim (λ c. inr (inl (λ z. c (sym (upd-other s.te v none w n) ∙ z)))) (⊎-elim (λ c. inr (inr (inl c))) (λ c. absurd (omega (arith, idle .1))))) (i.F2.f2 w h));
-    f3t = λ w n. upd-elim (λ x. x ≡ none) s.te v none w (λ z. refl) (λ d. i.F2.f3t w n);
-    f3c = i.F2.f3c;
-    f5t = i.F2.f5t;
+        (λ n. ⊎-elim (λ c. inl c) (⊎-elim (λ c. inr (inl (λ z. c (sym (upd-other s.te v none w n) ∙ z)))) (⊎-elim (λ c. inr (inr (inl c))) (λ c. absurd (omega (arith, idle .1))))) (i.pending.f2 w h));
+    f3t = λ w n. upd-elim (λ x. x ≡ none) s.te v none w (λ z. refl) (λ d. i.pending.f3t w n);
+    f3c = i.pending.f3c;
+    f5t = i.pending.f5t;
     f5p = λ w h. subst (λ x. s.st x ≡ 1) (omega arith) find;
   }
 
-  E2′ : Tests p S′.te s.ib s.mark s.ot
-  E2′ = record {
-    e2o = λ w. upd-elim (λ x. x ≢ none → (y : ℕ) × Edge p x w y) s.te v none w (λ z n. absurd (n refl)) (λ d n. i.E2.e2o w n);
-    e2b = λ j w x a y f h. i.E2.e2b j w x a y f (waits-accepted j w x f h .1);
-    e2r = λ j w x f h. i.E2.e2r j w x f (waits-accepted j w x f h .1);
-    e2i = λ j w x f h m. let t = i.E2.e2i j w x f (waits-accepted j w x f h .1) m in (t .0, upd-elim (λ y. y ≢ j) s.te v none x (λ z y. edge-some p f (sym y)) (λ d. t .1));
-    m6 = λ j w x f m z. let t = i.E2.m6 j w x f m z in
+  tests′ : Tests p S′.te s.ib s.mark s.ot
+  tests′ = record {
+    e2o = λ w. upd-elim (λ x. x ≢ none → (y : ℕ) × Edge p x w y) s.te v none w (λ z n. absurd (n refl)) (λ d n. i.tests.e2o w n);
+    e2b = λ j w x a y f h. i.tests.e2b j w x a y f (waits-accepted j w x f h .1);
+    e2r = λ j w x f h. i.tests.e2r j w x f (waits-accepted j w x f h .1);
+    e2i = λ j w x f h m. let t = i.tests.e2i j w x f (waits-accepted j w x f h .1) m in (t .0, upd-elim (λ y. y ≢ j) s.te v none x (λ z y. edge-some p f (sym y)) (λ d. t .1));
+    m6 = λ j w x f m z. let t = i.tests.m6 j w x f m z in
         still j x (λ y. out j w x f m y t) t;
   }
     where
@@ -105,20 +105,20 @@ module _ {p : Network} {s : ProtocolState} (i : Inv p s) {u v k b e : ℕ} {r : 
       out j w x f m y t =
           let z = waited j (subst (λ a. Waits s a j) (sym y) t) in
           let n = other-end (flip ends) (flip f) y z in
-          said .a1f (ap s.fr n ∙ i.M1.m1 j w x f m .0 ∙ ap s.fr (sym y))
+          said .a1f (ap s.fr n ∙ i.marks.m1 j w x f m .0 ∙ ap s.fr (sym y))
 
-  E1′ : Testing p S′
-  E1′ = record {
-    e1 = λ j w x l f g h. i.E1.e1 j w x l f g (old w j h);
+  testing′ : Testing p S′
+  testing′ = record {
+    e1 = λ j w x l f g h. i.testing.e1 j w x l f g (old w j h);
     e1w = λ j w x l f g h. ⊎-elim
         (λ t. inl (still j w (λ z. tested j w z (t .0) l f (old w j h)) (t .0), t .1, t .2))
         (λ t. inr (gone j w x g (t .0), t .1, still j x (λ z. crossed j w x g z (t .2) (t .3)) (t .2), t .3))
-        (i.E1.e1w j w x l f g (old w j h));
+        (i.testing.e1w j w x l f g (old w j h));
     e2w = λ j w x g a c. let y = waits-accepted j w x g a in
-        omega (arith, i.E1.e2w j w x g (y .1) (waits-accepted j x w (flip g) c .1), same isT refl w j, other-answer j w x g (y .0));
+        omega (arith, i.testing.e2w j w x g (y .1) (waits-accepted j x w (flip g) c .1), same isT refl w j, other-answer j w x g (y .0));
     e2c = λ j w x g a c. let y = waits-accepted j w x g a in
         omega (arith, alone j w x g (y .0) (y .1) c, same isT refl w j, same isT refl x j, other-answer j w x g (y .0));
-    m6t = λ j w x g m z. same isT refl x j ∙ i.E1.m6t j w x g m z;
+    m6t = λ j w x g m z. same isT refl x j ∙ i.testing.m6t j w x g m z;
   }
     where
       tested : (j w : ℕ) → v ≡ w → Waits s w j → (l f : ℕ) → In (test l f) (s.ch w j) → ⊥
@@ -141,19 +141,19 @@ module _ {p : Network} {s : ProtocolState} (i : Inv p s) {u v k b e : ℕ} {r : 
           (λ z. by-eq k j
           (λ y. omega (
             arith,
-            i.E1.e2w j w x g h (subst (λ a. Waits s a j) z (subst (λ a. Waits s v a) y (said .a1w))),
+            i.testing.e2w j w x g h (subst (λ a. Waits s a j) z (subst (λ a. Waits s v a) y (said .a1w))),
             own-test,
             ap (λ a. sumL isT (s.ch a j)) z,
             ap (λ a. sumL isT (s.ch v a)) y,
           ))
-          (λ y. i.E1.e2c j w x g h (inl (λ o. y (waited j (subst (λ a. Waits s a j) (sym z) (o, λ t. omega (arith, idle .0))))))))
-          (λ d. i.E1.e2c j w x g h (⊎-elim (λ o. inl (λ t. o (upd-other s.te v none x d ∙ t))) (λ o. inr o) c))
+          (λ y. i.testing.e2c j w x g h (inl (λ o. y (waited j (subst (λ a. Waits s a j) (sym z) (o, λ t. omega (arith, idle .0))))))))
+          (λ d. i.testing.e2c j w x g h (⊎-elim (λ o. inl (λ t. o (upd-other s.te v none x d ∙ t))) (λ o. inr o) c))
 
-  A1′ : Answers p S′
-  A1′ = record {
-    a1 = λ j w x g h. let t = i.A1.a1 j w x g (old w j h) in
+  answers′ : Answers p S′
+  answers′ = record {
+    a1 = λ j w x g h. let t = i.answers.a1 j w x g (old w j h) in
         record { a1w = still j x (λ z. mine j w x g z (t.a1w) (omega arith) h) (t.a1w); a1m = t.a1m; a1f = t.a1f; a1l = t.a1l };
-    j1 = λ j w x g h. let t = i.A1.j1 j w x g (old w j h) in
+    j1 = λ j w x g h. let t = i.answers.j1 j w x g (old w j h) in
         record { j1w = still j x (λ z. mine j w x g z (t.j1w) (omega arith) h) (t.j1w); j1f = t.j1f; j1m = t.j1m };
   }
     where
@@ -167,13 +167,13 @@ module _ {p : Network} {s : ProtocolState} (i : Inv p s) {u v k b e : ℕ} {r : 
   fewer : (w j : ℕ) → sumL isR (c′ w j) ≤ sumL isR (s.ch w j)
   fewer w j = omega (arith, rep w j)
 
-  B2′ : Bests p S′
-  B2′ = record {
+  bests′ : Bests p S′
+  bests′ = record {
     b1e = W.best-edge i (idle .2) find (flip ends) better leaves c′ fewer (λ n d. absurd (d refl));
     b2 = λ j w x g m d l. ⊎-elim (λ t. inl t)
         (⊎-elim (λ o. inr (inl o))
         (⊎-elim (λ t. inr (inr (asked j w t))) (λ t. inr (inr (inr (cover w (rank p j) t))))))
-        (i.B2.b2 j w x g m d l);
+        (i.bests.b2 j w x g m d l);
   }
     where
       -- v's test edge was k
@@ -190,7 +190,7 @@ module _ {p : Network} {s : ProtocolState} (i : Inv p s) {u v k b e : ℕ} {r : 
   s₁ = set-ch s c′
 
   pub inv-accepted : Inv p S′
-  inv-accepted = W.inv-weighed i (idle .2) find (flip ends) better leaves S′.te s.fc s.owe (suc v) c′ F2′ i.F4 E2′
+  inv-accepted = W.inv-weighed i (idle .2) find (flip ends) better leaves S′.te s.fc s.owe (suc v) c′ pending′ i.findCounts tests′
       (flow-open p (rated p s₁ S′.bw S′.be) S′.te S′.be s.fc s.ot (suc v) s.oo
       (flow-best p s₁ S′.bw S′.be (W.bw-found i (idle .2) find (flip ends) better leaves) (flow-take p s u k q plain-accept (flow i))))
-      E1′ A1′ B2′
+      testing′ answers′ bests′

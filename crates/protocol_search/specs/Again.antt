@@ -79,26 +79,26 @@ module _ {p : Network} {s : ProtocolState} (i : Inv p s) {u v k c : ℕ} {m : Ms
   on-k : (j w : ℕ) → v ≡ w → Waits s w j → k ≡ j
   on-k j w q a = sym (h.wait .0) ∙ ap s.te q ∙ a .0
 
-  F2′ : Pending s.st s.te s.fc (suc v) s.op
-  F2′ = record {
+  pending′ : Pending s.st s.te s.fc (suc v) s.op
+  pending′ = record {
     f2 = λ w a. by-eq v w (λ q. inr (inr (inl (ap suc q))))
-        (λ n. ⊎-elim (λ b. inl b) (⊎-elim (λ b. inr (inl b)) (⊎-elim (λ b. absurd (omega (arith, h.idle .0))) (λ b. inr (inr (inr b))))) (i.F2.f2 w a));
-    f3t = i.F2.f3t;
-    f3c = i.F2.f3c;
+        (λ n. ⊎-elim (λ b. inl b) (⊎-elim (λ b. inr (inl b)) (⊎-elim (λ b. absurd (omega (arith, h.idle .0))) (λ b. inr (inr (inr b))))) (i.pending.f2 w a));
+    f3t = i.pending.f3t;
+    f3c = i.pending.f3c;
     f5t = λ w a. subst (λ x. s.st x ≡ 1) (omega arith) find;
-    f5p = i.F2.f5p;
+    f5p = i.pending.f5p;
   }
 
-  E2′ : Tests p s.te s.ib m′ (suc v)
-  E2′ = record {
-    e2o = i.E2.e2o;
-    e2b = λ j w x a y e b f g. i.E2.e2b j w x a y e (waits j w b .1) f (dn0-strike p s v k c (h.strike) w a g);
-    e2r = λ j w x e b z. let t = waits j w b in ⊎-elim (λ o. i.E2.e2r j w x e (t .1) o) (λ o. t .0 (o .0)) (dn2-strike p s v k c (h.strike) w j z);
-    e2i = λ j w x e b d. i.E2.e2i j w x e (waits j w b .1) (dn-both-strike p s v k c (h.strike) j w x d);
+  tests′ : Tests p s.te s.ib m′ (suc v)
+  tests′ = record {
+    e2o = i.tests.e2o;
+    e2b = λ j w x a y e b f g. i.tests.e2b j w x a y e (waits j w b .1) f (dn0-strike p s v k c (h.strike) w a g);
+    e2r = λ j w x e b z. let t = waits j w b in ⊎-elim (λ o. i.tests.e2r j w x e (t .1) o) (λ o. t .0 (o .0)) (dn2-strike p s v k c (h.strike) w j z);
+    e2i = λ j w x e b d. i.tests.e2i j w x e (waits j w b .1) (dn-both-strike p s v k c (h.strike) j w x d);
     m6 = λ j w x e a b.
         let z = dn0-strike p s v k c (h.strike) x j b in
         let n = dn-other-strike p s v k c (h.strike) x j b in
-        ⊎-elim (λ o. let t = i.E2.m6 j w x e o z in still j x (λ q. ⊎-elim (λ f. f q) (λ f. f (on-k j x q t)) n) t)
+        ⊎-elim (λ o. let t = i.tests.m6 j w x e o z in still j x (λ q. ⊎-elim (λ f. f q) (λ f. f (on-k j x q t)) n) t)
         (λ o.
         let y = other-end back e (o .0) (o .1) in
         subst (λ a. Waits S′ a j) y
@@ -106,9 +106,9 @@ module _ {p : Network} {s : ProtocolState} (i : Inv p s) {u v k c : ℕ} {m : Ms
         (dn2-strike p s v k c (h.strike) w j a);
   }
 
-  E1′ : Testing p S′
-  E1′ = record {
-    e1 = λ j w x l f e n. i.E1.e1 j w x l f e (old w j n);
+  testing′ : Testing p S′
+  testing′ = record {
+    e1 = λ j w x l f e n. i.testing.e1 j w x l f e (old w j n);
     e1w = λ j w x l f e n. ⊎-elim
         (λ t. by-eq v w (λ q. own-test j w x l f e n q (on-k j w q (t .0)))
         (λ d. inl (still j w d (t .0), fresh j w d (t .1), λ z. up1-strike p s v k c (h.strike) x j (t .2 (dn1-strike p s v k c (h.strike) w j z)))))
@@ -118,21 +118,21 @@ module _ {p : Network} {s : ProtocolState} (i : Inv p s) {u v k c : ℕ} {m : Ms
           still j x (λ q. gone j w x l f e q (on-k j x q (t .2)) n) (t .2),
           t .3,
         ))
-        (i.E1.e1w j w x l f e (old w j n));
+        (i.testing.e1w j w x l f e (old w j n));
     e2w = λ j w x e a b. let y = waits j w a in let z = waits j x b in
-        omega (arith, i.E1.e2w j w x e (y .1) (z .1), off-end isT j w x e (z .0), off-end isA j x w (flip e) (y .0));
+        omega (arith, i.testing.e2w j w x e (y .1) (z .1), off-end isT j w x e (z .0), off-end isA j x w (flip e) (y .0));
     e2c = λ j w x e a b. let y = waits j w a in by-eq v x
         (λ q. by-eq k j (λ z. crossing j w x e q z (y .1))
-        (λ z. omega (arith, i.E1.e2c j w x e (y .1) (inl (λ o. z (sym (h.wait .0) ∙ ap s.te q ∙ o))), off isT w j (inr z), off isA x j (inr z), off isT x j (inr z))))
+        (λ z. omega (arith, i.testing.e2c j w x e (y .1) (inl (λ o. z (sym (h.wait .0) ∙ ap s.te q ∙ o))), off isT w j (inr z), off isA x j (inr z), off isT x j (inr z))))
         (λ n. omega (
           arith,
-          i.E1.e2c j w x e (y .1) (⊎-elim (λ o. inl o) (λ o. absurd (n (omega arith))) b),
+          i.testing.e2c j w x e (y .1) (⊎-elim (λ o. inl o) (λ o. absurd (n (omega arith))) b),
           off-end isT j w x e n,
           off-end isA j x w (flip e) (y .0),
           off-end isT j x w (flip e) (y .0),
         ));
     m6t = λ j w x e a b. let z = dn0-strike p s v k c (h.strike) x j b in
-        ⊎-elim (λ o. omega (arith, i.E1.m6t j w x e o z, pop-le s.ch u k (h.took) isT x j))
+        ⊎-elim (λ o. omega (arith, i.testing.m6t j w x e o z, pop-le s.ch u k (h.took) isT x j))
         (λ o. left isT (h.no-test) x j (other-end back e (o .0) (o .1)) (o .1)) (dn2-strike p s v k c (h.strike) w j a);
   }
     where
@@ -172,11 +172,11 @@ module _ {p : Network} {s : ProtocolState} (i : Inv p s) {u v k c : ℕ} {m : Ms
             h.crosses (subst (λ q. Waits s q k) (sym y) (subst (λ q. Waits s w q) (sym b) t)),
           )
 
-  A1′ : Answers p S′
-  A1′ = record {
-    a1 = λ j w x e n. let t = i.A1.a1 j w x e (old w j n) in let d = mine j w x e (t.a1w) n (omega arith) in
+  answers′ : Answers p S′
+  answers′ = record {
+    a1 = λ j w x e n. let t = i.answers.a1 j w x e (old w j n) in let d = mine j w x e (t.a1w) n (omega arith) in
         record { a1w = still j x d (t.a1w); a1m = up0-strike p s v k c (h.strike) x j (inl d) (t.a1m); a1f = t.a1f; a1l = t.a1l };
-    j1 = λ j w x e n. let t = i.A1.j1 j w x e (old w j n) in let d = mine j w x e (t.j1w) n (omega arith) in
+    j1 = λ j w x e n. let t = i.answers.j1 j w x e (old w j n) in let d = mine j w x e (t.j1w) n (omega arith) in
         record { j1w = still j x d (t.j1w); j1f = t.j1f; j1m = λ z. up2-strike p s v k c (h.strike) w j (t.j1m (dn0-strike p s v k c (h.strike) x j z)) };
   }
     where
@@ -186,16 +186,16 @@ module _ {p : Network} {s : ProtocolState} (i : Inv p s) {u v k c : ℕ} {m : Ms
           let b = on-k j x q t in
           omega (arith, none-in isA (left isA (h.no-answer) w j (other-end back (flip e) q b) b) n)
 
-  B2′ : Bests p S′
-  B2′ = record {
+  bests′ : Bests p S′
+  bests′ = record {
     b1e = λ w a n d. let t = o.b1e w a n d in (t .0, t .1, up-both-strike p s v k c (h.strike) (s.be w) w (t .0) (t .2), t .3, t .4, t .5, t .6, t .7, t .8);
     b2 = λ j w x e a d g. ⊎-elim (λ t. inl t) (⊎-elim (λ t. absurd (omega (arith, h.idle .0))) (λ t. inr (inr t))) (o.b2 j w x e (dn0-strike p s v k c (h.strike) w j a) d g);
   }
     where
       o : Bests p s₁
-      o = bests-same p s c′ rep i.B2
+      o = bests-same p s c′ rep i.bests
 
   pub inv-again : Inv p S′
-  inv-again = inv-strike i back (h.strike) awake (h.inside) (h.free) (suc v) c′ F2′ E2′
+  inv-again = inv-strike i back (h.strike) awake (h.inside) (h.free) (suc v) c′ pending′ tests′
       (flow-open p s₂ s.te s.be s.fc (suc v) s.op s.oo (flow-strike p s₁ v k c (h.strike) (flow-take p s u k (h.took) (h.plain) (flow i))))
-      E1′ A1′ B2′
+      testing′ answers′ bests′

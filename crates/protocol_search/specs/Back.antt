@@ -41,7 +41,7 @@ module _ {p : Network} {s : ProtocolState} (i : Inv p s) {u v k : ℕ} {m : Msg}
 
   -- a blocked Connect is alone but for answers
   alone : (l : ℕ) (x : Msg) → s.lev v ≤ l → s.mark v k ≡ 0 → In (connect l) (s.ch u k) → In x (s.ch u k) → Only (GL s u) x
-  alone l x h z n o = all-in (i.Dc.d1a k u v ends (half-at i k u v ends (i.C1.c1m k u v l ends n) z)) o
+  alone l x h z n o = all-in (i.tokens.d1a k u v ends (half-at i k u v ends (i.connects.c1m k u v l ends n) z)) o
 
   -- what may stand behind m may stand before it
   turn : (y x : Msg) → Blocked s v k y → In y (s.ch u k) → In x (s.ch u k) → Fits y x → Fits x y
@@ -74,9 +74,9 @@ module _ {p : Network} {s : ProtocolState} (i : Inv p s) {u v k : ℕ} {m : Msg}
   free (report w) z h d e = ⊎-elim
       (λ t. absurd (up-other i k u v ends (t .0) (t .1) (t .2) (h .0)))
       (⊎-elim
-      (λ t. ⊎-elim (λ r. r .1) (λ r. absurd (omega (arith, r .0, i.F1.f1 v (h .1) .f1i .1))) (t .6))
+      (λ t. ⊎-elim (λ r. r .1) (λ r. absurd (omega (arith, r .0, i.finds.f1 v (h .1) .f1i .1))) (t .6))
       (λ t. absurd (omega (arith, t .3, h .1))))
-      (i.R1.r1 k u v w ends d)
+      (i.reports.r1 k u v w ends d)
   free (connect l) z h d e = absurd (kinds (λ n. omega arith) e)
   free (test l f) z h d e = absurd (kinds (λ n. omega arith) e)
   free (initiate l f x) z h d e = absurd h
@@ -107,45 +107,45 @@ module _ {p : Network} {s : ProtocolState} (i : Inv p s) {u v k : ℕ} {m : Msg}
   silent w j h = upd2-elim (λ l. l ≡ []) s.ch u k (a ++ (m ∷ b)) w j
       (λ e f. absurd (in-nil (subst (λ l. In m l) (at2 s.ch e f ∙ h) head))) (λ d. h)
 
-  Dc′ : Tokens p S′
-  Dc′ = record {
-    d1c = λ k z y e h. new z k (i.Dc.d1c k z y e h);
-    d1a = λ j z y e h. rot-all s.ch u k a b q z j (i.Dc.d1a j z y e h);
-    d2c = λ k u x e h. new u k (i.Dc.d2c k u x e h);
-    k1 = λ k u x e h. i.Dc.k1 k u x e (old u k h);
-    d3r = λ k x y e h r. same isR y k ∙ i.Dc.d3r k x y e h r;
-    d4h = λ k x y e g d l h n. i.Dc.d4h k x y e g d l h (old y k n);
-    d4r = λ k x y e g d l h. new y k (i.Dc.d4r k x y e g d l h);
-    d7 = λ k x y e g d h f. ⊎-elim (λ t. inl (omega (arith, same isR x k))) (λ t. inr (t .0, t .1, t .2, omega (arith, t .3, same isR y k))) (i.Dc.d7 k x y e g d h f);
+  tokens′ : Tokens p S′
+  tokens′ = record {
+    d1c = λ k z y e h. new z k (i.tokens.d1c k z y e h);
+    d1a = λ j z y e h. rot-all s.ch u k a b q z j (i.tokens.d1a j z y e h);
+    d2c = λ k u x e h. new u k (i.tokens.d2c k u x e h);
+    k1 = λ k u x e h. i.tokens.k1 k u x e (old u k h);
+    d3r = λ k x y e h r. same isR y k ∙ i.tokens.d3r k x y e h r;
+    d4h = λ k x y e g d l h n. i.tokens.d4h k x y e g d l h (old y k n);
+    d4r = λ k x y e g d l h. new y k (i.tokens.d4r k x y e g d l h);
+    d7 = λ k x y e g d h f. ⊎-elim (λ t. inl (omega (arith, same isR x k))) (λ t. inr (t .0, t .1, t .2, omega (arith, t .3, same isR y k))) (i.tokens.d7 k x y e g d h f);
   }
 
-  T4′ : Telling p S′
-  T4′ = record {
-    u2 = λ k v c e j n. i.T4.u2 k v c e j n ∙ sym (far (s.lev c) v k);
-    t2i = λ k v c e j h n l. new v k (i.T4.t2i k v c e j h n l);
-    t4 = λ k x y e j g. ⊎-elim (λ t. inl (omega (arith, same isC x k))) (λ r. inr (⊎-elim (λ t. inl (new y k t)) (λ t. inr t) r)) (i.T4.t4 k x y e j g);
-    t4n = λ k x y e j g n. let t = i.T4.t4n k x y e j g (omega (arith, same isC x k)) in (t .0, λ o. t .1 (old y k o));
+  telling′ : Telling p S′
+  telling′ = record {
+    u2 = λ k v c e j n. i.telling.u2 k v c e j n ∙ sym (far (s.lev c) v k);
+    t2i = λ k v c e j h n l. new v k (i.telling.t2i k v c e j h n l);
+    t4 = λ k x y e j g. ⊎-elim (λ t. inl (omega (arith, same isC x k))) (λ r. inr (⊎-elim (λ t. inl (new y k t)) (λ t. inr t) r)) (i.telling.t4 k x y e j g);
+    t4n = λ k x y e j g n. let t = i.telling.t4n k x y e j g (omega (arith, same isC x k)) in (t .0, λ o. t .1 (old y k o));
   }
 
-  Q1′ : Ordered p S′
-  Q1′ = record {
-    q1 = λ j w z x y e h. ⊎-elim (λ o. i.Q1.q1 j w z x y e o)
+  ordered′ : Ordered p S′
+  ordered′ = record {
+    q1 = λ j w z x y e h. ⊎-elim (λ o. i.ordered.q1 j w z x y e o)
         (λ t. let o = subst (λ l. Bef m x l) (sym (at2 s.ch (t .0) (t .1))) (t .3) in
-        subst (λ r. Fits x r) (sym (t .2)) (turn m x blocked head (bef-behind o) (i.Q1.q1 k u v m x ends o)))
+        subst (λ r. Fits x r) (sym (t .2)) (turn m x blocked head (bef-behind o) (i.ordered.q1 k u v m x ends o)))
         (rot-bef s.ch u k a b q w j h);
   }
 
   pub inv-back : Inv p S′
   inv-back = inv-passing i c′ (record {
-    G6c = record { g6o = λ k v u e z. silent v k (i.G6c.g6o k v u e z); g6i = λ j w x e z. rot-all s.ch u k a b q w j (i.G6c.g6i j w x e z) };
-    Dc = Dc′;
-    C1 = connects-same p s c′ (λ w j l h. old w j h) i.C1;
-    I1 = initiates-same p s c′ (λ w j l f x h. old w j h) i.I1;
-    T4 = T4′;
-    R1 = reports-same p s c′ alike i.R1;
-    F4c = owing-same p s c′ (same isR) i.F4c;
-    Q1 = Q1′;
+    hush = record { g6o = λ k v u e z. silent v k (i.hush.g6o k v u e z); g6i = λ j w x e z. rot-all s.ch u k a b q w j (i.hush.g6i j w x e z) };
+    tokens = tokens′;
+    connects = connects-same p s c′ (λ w j l h. old w j h) i.connects;
+    initiates = initiates-same p s c′ (λ w j l f x h. old w j h) i.initiates;
+    telling = telling′;
+    reports = reports-same p s c′ alike i.reports;
+    owing = owing-same p s c′ (same isR) i.owing;
+    ordered = ordered′;
   })
-      (testing-same p s c′ (λ w j l f h. old w j h) (same isT) (same isA) i.E1)
-      (answers-same p s c′ (λ w j h. old w j h) (λ w j h. old w j h) i.A1)
-      (bests-same p s c′ (same isR) i.B2)
+      (testing-same p s c′ (λ w j l f h. old w j h) (same isT) (same isA) i.testing)
+      (answers-same p s c′ (λ w j h. old w j h) (λ w j h. old w j h) i.answers)
+      (bests-same p s c′ (same isR) i.bests)

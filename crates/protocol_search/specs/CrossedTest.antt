@@ -21,15 +21,15 @@ module _ {p : Network} {s : ProtocolState} (i : Inv p s) {u v k l f c : ℕ} {r 
   Meets = (Waits s u k × (s.mark u k ≢ 2)) ⊎ ((s.te u ≢ k) × (s.mark u k ≡ 2))
 
   pub crossed-meets : Meets
-  crossed-meets = ⊎-elim (λ t. inl (t .0, t .1)) (λ t. inr (⊎-elim (λ n. n) (λ o. absurd (omega (arith, idle .0))) (t .0), t .1)) (i.E1.e1w k u v l f ends head)
+  crossed-meets = ⊎-elim (λ t. inl (t .0, t .1)) (λ t. inr (⊎-elim (λ n. n) (λ o. absurd (omega (arith, idle .0))) (t .0), t .1)) (i.testing.e1w k u v l f ends head)
 
   -- so k is Basic at v: joined it would not be both their test edges
   pub crossed-basic : s.mark v k ≡ 0
   crossed-basic = by-eq (s.mark v k) 0 (λ z. z)
       (λ n.
-      let o : s.mark v k ≡ 1 = omega (arith, i.W0.mark-le v k, i.E2.e2r k v u (flip ends) wait) in
+      let o : s.mark v k ≡ 1 = omega (arith, i.ranges.mark-le v k, i.tests.e2r k v u (flip ends) wait) in
       let b = branch-v i ends head low same o in
-      absurd (⊎-elim (λ t. i.E2.e2i k v u (flip ends) wait (o, b) .1 (t .0 .0)) (λ t. omega (arith, t .1)) crossed-meets))
+      absurd (⊎-elim (λ t. i.tests.e2i k v u (flip ends) wait (o, b) .1 (t .0 .0)) (λ t. omega (arith, t .1)) crossed-meets))
 
   pub one : 1 ≤ sumL isT (s.ch u k)
   one = in-sum isT head
@@ -37,8 +37,8 @@ module _ {p : Network} {s : ProtocolState} (i : Inv p s) {u v k l f c : ℕ} {r 
   -- no answer is on its way to v
   pub unanswered : sumL isA (s.ch u k) ≡ 0
   unanswered = ⊎-elim
-      (λ t. no-answers (s.ch u k) (λ n. i.A1.a1 k u v ends n .a1f within) (λ n. t .1 (i.A1.j1 k u v ends n .j1m crossed-basic)))
-      (λ t. omega (arith, i.E1.e2c k v u (flip ends) wait (inl (t .0)), one)) crossed-meets
+      (λ t. no-answers (s.ch u k) (λ n. i.answers.a1 k u v ends n .a1f within) (λ n. t .1 (i.answers.j1 k u v ends n .j1m crossed-basic)))
+      (λ t. omega (arith, i.testing.e2c k v u (flip ends) wait (inl (t .0)), one)) crossed-meets
 
   struck-to : c ≡ 2
   struck-to = ⊎-elim (λ t. t .1) (λ t. absurd (t .0 crossed-basic)) strike
@@ -56,8 +56,8 @@ module _ {p : Network} {s : ProtocolState} (i : Inv p s) {u v k l f c : ℕ} {r 
     asks = λ z o. ⊎-elim (λ t. t .0) (λ t. absurd (omega (arith, t .1))) crossed-meets;
     no-test = rest-none i isT ends q (λ n t. t);
     no-answer = omega (arith, unanswered, ap (sumL isA) q);
-    own = ⊎-elim (λ t. inr (t .0, struck-to)) (λ t. inl (i.E1.m6t k u v ends (t .1) crossed-basic)) crossed-meets;
-    crosses = λ w. omega (arith, unanswered, one, i.E1.e2w k v u (flip ends) wait w, i.E1.e2w k u v ends w wait);
+    own = ⊎-elim (λ t. inr (t .0, struck-to)) (λ t. inl (i.testing.m6t k u v ends (t .1) crossed-basic)) crossed-meets;
+    crosses = λ w. omega (arith, unanswered, one, i.testing.e2w k v u (flip ends) wait w, i.testing.e2w k u v ends w wait);
   })
     where
       free : s.mark u k ≡ 1 → s.mark u k ≢ 2 → ⊥

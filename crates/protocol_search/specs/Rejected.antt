@@ -7,21 +7,21 @@ use Rattle.protocol_search.specs.Again.{inv-again}
 
 module _ {p : Network} {s : ProtocolState} (i : Inv p s) {u v k c : ℕ} {r : List Msg} (idle : Idle s) (ends : Edge p k u v) (q : s.ch u k ≡ reject ∷ r) (strike : Strike s v k c) where
   pub reject-ok : RejectOk s.te s.fr s.mark s.ot k u v
-  reject-ok = i.A1.j1 k u v ends (pop-head s.ch u k q)
+  reject-ok = i.answers.j1 k u v ends (pop-head s.ch u k q)
 
   -- u does not test k: it would be Rejected at u, or joined
   pub not-theirs : s.te u ≢ k
   not-theirs z = by-eq (s.mark v k) 0
-      (λ b. i.E2.e2r k u v ends (z, λ o. omega (arith, idle .0)) (reject-ok .j1m b))
+      (λ b. i.tests.e2r k u v ends (z, λ o. omega (arith, idle .0)) (reject-ok .j1m b))
       (λ b.
-      let o : s.mark v k ≡ 1 = omega (arith, i.W0.mark-le v k, i.E2.e2r k v u (flip ends) (reject-ok .j1w)) in
+      let o : s.mark v k ≡ 1 = omega (arith, i.ranges.mark-le v k, i.tests.e2r k v u (flip ends) (reject-ok .j1w)) in
       by-eq (s.mark u k) 1
-      (λ y. i.E2.e2i k v u (flip ends) (reject-ok .j1w) (o, y) .1 z)
-      (λ y. i.D1.d1 k v u (flip ends) (i.D1.m2 k v u (flip ends) o y) .d1o (reject-ok .j1f)))
+      (λ y. i.tests.e2i k v u (flip ends) (reject-ok .j1w) (o, y) .1 z)
+      (λ y. i.halves.d1 k v u (flip ends) (i.halves.m2 k v u (flip ends) o y) .d1o (reject-ok .j1f)))
 
-  -- so of v's Test, an answer to it and a Test of u that crossed it just one was under way (E2): this Reject
+  -- so of v's Test, an answer to it and a Test of u that crossed it just one was under way (e2c): this Reject
   pub alone : sumL isT (s.ch v k) + sumL isA (s.ch u k) + sumL isT (s.ch u k) ≡ 1
-  alone = i.E1.e2c k v u (flip ends) (reject-ok .j1w) (inl not-theirs)
+  alone = i.testing.e2c k v u (flip ends) (reject-ok .j1w) (inl not-theirs)
 
   pub inv-rejected : Inv p (set-ot (remarked (pop s u k r) v k c) (suc v))
   inv-rejected = inv-again i (record {

@@ -8,12 +8,12 @@ module _ {p : Network} {s : ProtocolState} (i : Inv p s) {v : ℕ} (ot : s.ot �
 
   waits : (w : ℕ) → s.st w ≡ 1 → (s.fc w ≢ 0) ⊎ ((s.te w ≢ none) ⊎ ((s.ot ≡ suc w) ⊎ (0 ≡ suc w)))
   waits w h = by-eq v w (λ q. subst (λ x. (s.fc x ≢ 0) ⊎ ((s.te x ≢ none) ⊎ ((s.ot ≡ suc x) ⊎ (0 ≡ suc x)))) q (⊎-elim (λ n. inl n) (λ n. inr (inl n)) busy))
-      (λ n. ⊎-elim (λ c. inl c) (⊎-elim (λ c. inr (inl c)) (⊎-elim (λ c. inr (inr (inl c))) (λ c. absurd (n (omega arith))))) (i.F2.f2 w h))
+      (λ n. ⊎-elim (λ c. inl c) (⊎-elim (λ c. inr (inl c)) (⊎-elim (λ c. inr (inr (inl c))) (λ c. absurd (n (omega arith))))) (i.pending.f2 w h))
 
   pub inv-report-later : Inv p S′
   inv-report-later = inv-asking i s.te s.ot 0 s.ch
-      (record { f2 = waits; f3t = i.F2.f3t; f3c = i.F2.f3c; f5t = i.F2.f5t; f5p = λ w h. absurd (omega arith) }) i.E2
+      (record { f2 = waits; f3t = i.pending.f3t; f3c = i.pending.f3c; f5t = i.pending.f5t; f5p = λ w h. absurd (omega arith) }) i.tests
       (flow-open p s s.te s.be s.fc s.ot 0 s.oo (flow i))
-      (record { e1 = i.E1.e1; e1w = i.E1.e1w; e2w = i.E1.e2w; e2c = i.E1.e2c; m6t = i.E1.m6t })
-      (record { a1 = i.A1.a1; j1 = i.A1.j1 })
-      (record { b1e = i.B2.b1e; b2 = i.B2.b2 })
+      (record { e1 = i.testing.e1; e1w = i.testing.e1w; e2w = i.testing.e2w; e2c = i.testing.e2c; m6t = i.testing.m6t })
+      (record { a1 = i.answers.a1; j1 = i.answers.j1 })
+      (record { b1e = i.bests.b1e; b2 = i.bests.b2 })

@@ -2,7 +2,7 @@
 use Rattle.protocol.specs.Prelude.{ℕ, _≤_, arith, _≡_, refl, sym, ap, subst, _∙_, _≢_, _⊎_, inl, inr, ⊎-elim}
 use Rattle.protocol.specs.Prelude.{upd2, upd2-elim, by-eq, Network, Edge, key, rank, flip, other-end, wider, ProtocolState, Strike, set-mark, set-ch, set-ot, List, Msg}
 use Rattle.protocol.specs.Prelude.{Both, Bounding, Inv, Flow, inv-search, init-ok, at2}
-use Rattle.protocol.specs.Fragments.{Ranges, Cores, Sleepers, MarksOk, Inbounds}
+use Rattle.protocol.specs.Fragments.{Ranges, Cores, Sleepers, Marks, Inbounds}
 use Rattle.protocol.specs.Decisions.{Halves, ChangeRoots, Rootings, Finishes}
 use Rattle.protocol.specs.Search.{Kids, Pending, Tests}
 use Rattle.protocol.specs.Traffic.{Connects, Initiates, Telling, Testing, Answers, Reports, Owing, Bests}
@@ -77,14 +77,14 @@ module _ (p : Network) (s : ProtocolState) (v k c : ℕ) (strike : Strike s v k 
 
   pub flow-strike : Flow p s → Flow p (set-mark s struck)
   flow-strike o = record {
-    G6c = record { g6o = o.G6c.g6o; g6i = o.G6c.g6i };
-    Dc = record { d1c = o.Dc.d1c; d1a = o.Dc.d1a; d2c = o.Dc.d2c; k1 = o.Dc.k1; d3r = o.Dc.d3r; d4h = o.Dc.d4h; d4r = o.Dc.d4r; d7 = o.Dc.d7 };
-    C1 = connects-strike o.C1;
-    I1 = initiates-strike o.I1;
-    T4 = telling-strike o.T4;
-    R1 = reports-strike o.R1;
-    F4c = owing-strike o.F4c;
-    Q1 = record { q1 = o.Q1.q1 };
+    hush = record { g6o = o.hush.g6o; g6i = o.hush.g6i };
+    tokens = record { d1c = o.tokens.d1c; d1a = o.tokens.d1a; d2c = o.tokens.d2c; k1 = o.tokens.k1; d3r = o.tokens.d3r; d4h = o.tokens.d4h; d4r = o.tokens.d4r; d7 = o.tokens.d7 };
+    connects = connects-strike o.connects;
+    initiates = initiates-strike o.initiates;
+    telling = telling-strike o.telling;
+    reports = reports-strike o.reports;
+    owing = owing-strike o.owing;
+    ordered = record { q1 = o.ordered.q1 };
   }
 
 -- ---- clauses on tables: v is awake, k lies inside the fragment and is not Branch at its other end where it is Basic at v
@@ -96,56 +96,56 @@ module _ {p : Network} {s : ProtocolState} (i : Inv p s) {u v k c : ℕ} (ends :
 
   ranges-strike : Ranges s.st s.halt s.due s.dk m′
   ranges-strike = record {
-    st-le = i.W0.st-le;
-    halt-le = i.W0.halt-le;
-    due-le = i.W0.due-le;
-    dk-le = i.W0.dk-le;
-    mark-le = λ w j. upd2-elim (λ x. x ≤ 2) s.mark v k c w j (λ a b. ⊎-elim (λ t. omega (arith, t .1)) (λ t. omega (arith, t .1, i.W0.mark-le v k)) strike) (λ n. i.W0.mark-le w j);
+    st-le = i.ranges.st-le;
+    halt-le = i.ranges.halt-le;
+    due-le = i.ranges.due-le;
+    dk-le = i.ranges.dk-le;
+    mark-le = λ w j. upd2-elim (λ x. x ≤ 2) s.mark v k c w j (λ a b. ⊎-elim (λ t. omega (arith, t .1)) (λ t. omega (arith, t .1, i.ranges.mark-le v k)) strike) (λ n. i.ranges.mark-le w j);
   }
 
   cores-strike : Cores p s.fr s.gl s.gc m′
   cores-strike = record {
-    g5r = i.G5.g5r;
-    g5 = λ w x y l e. let t = i.G5.g5 w x y l e in (up-both-strike p s v k c strike (s.gc (s.fr w)) x y (t .0), t .1);
+    g5r = i.cores.g5r;
+    g5 = λ w x y l e. let t = i.cores.g5 w x y l e in (up-both-strike p s v k c strike (s.gc (s.fr w)) x y (t .0), t .1);
   }
 
   sleepers-strike : Sleepers p s.st s.fr s.gl s.dk s.due s.bw s.be s.ub s.halt m′
   sleepers-strike = record {
-    g6 = i.G6.g6;
-    g6m = λ w j z. up0-strike p s v k c strike w j (inl (λ q. awake (ap s.st q ∙ z))) (i.G6.g6m w j z);
-    u1a = i.G6.u1a;
-    g7 = i.G6.g7;
-    g7n = i.G6.g7n;
+    g6 = i.sleepers.g6;
+    g6m = λ w j z. up0-strike p s v k c strike w j (inl (λ q. awake (ap s.st q ∙ z))) (i.sleepers.g6m w j z);
+    u1a = i.sleepers.u1a;
+    g7 = i.sleepers.g7;
+    g7n = i.sleepers.g7n;
   }
 
-  marks-strike : MarksOk p s.fr m′
+  marks-strike : Marks p s.fr m′
   marks-strike = record {
     own = λ w j n. upd2-elim (λ x. x ≢ 0 → (y : ℕ) × Edge p j w y) s.mark v k c w j
-        (λ a b m. (u, subst (λ x. Edge p j x u) a (subst (λ x. Edge p x v u) b ends))) (λ d m. i.M1.own w j m) n;
-    m1 = λ j w x e h. ⊎-elim (λ o. let t = i.M1.m1 j w x e o in (t .0, λ z. t .1 (dn1-strike p s v k c strike x j z)))
+        (λ a b m. (u, subst (λ x. Edge p j x u) a (subst (λ x. Edge p x v u) b ends))) (λ d m. i.marks.own w j m) n;
+    m1 = λ j w x e h. ⊎-elim (λ o. let t = i.marks.m1 j w x e o in (t .0, λ z. t .1 (dn1-strike p s v k c strike x j z)))
         (λ t. let y = other-end ends e (t .0) (t .1) in
         (ap s.fr (sym (t .0)) ∙ inside ∙ ap s.fr y, λ z. free (t .2) (ap (λ a. s.mark a k) y ∙ ap (s.mark x) (t .1) ∙ dn1-strike p s v k c strike x j z)))
         (dn2-strike p s v k c strike w j h);
-    m3 = λ j w x e h. i.M1.m3 j w x e (dn-both-strike p s v k c strike j w x h);
-    m4 = λ w x e. wider (λ j l h. up-both-strike p s v k c strike j (p.g.lo j) (p.g.hi j) h) (i.M1.m4 w x e);
-    m5 = λ j w x e h. i.M1.m5 j w x e (dn1-strike p s v k c strike w j h);
+    m3 = λ j w x e h. i.marks.m3 j w x e (dn-both-strike p s v k c strike j w x h);
+    m4 = λ w x e. wider (λ j l h. up-both-strike p s v k c strike j (p.g.lo j) (p.g.hi j) h) (i.marks.m4 w x e);
+    m5 = λ j w x e h. i.marks.m5 j w x e (dn1-strike p s v k c strike w j h);
   }
 
   inbounds-strike : Inbounds p s.ub s.ib m′
   inbounds-strike = record {
-    u1o = i.U1.u1o;
-    u1 = λ j w x e h. up1-strike p s v k c strike w j (i.U1.u1 j w x e h);
-    u1r = i.U1.u1r;
-    u1i = λ j w x e h. up-both-strike p s v k c strike j w x (i.U1.u1i j w x e h);
-    m3u = λ j w x e h. i.U1.m3u j w x e (dn-both-strike p s v k c strike j w x h);
+    u1o = i.inbounds.u1o;
+    u1 = λ j w x e h. up1-strike p s v k c strike w j (i.inbounds.u1 j w x e h);
+    u1r = i.inbounds.u1r;
+    u1i = λ j w x e h. up-both-strike p s v k c strike j w x (i.inbounds.u1i j w x e h);
+    m3u = λ j w x e h. i.inbounds.m3u j w x e (dn-both-strike p s v k c strike j w x h);
   }
 
   halves-strike : Halves p s.dk s.dn s.de s.fr s.gl s.lev s.ub m′
   halves-strike = record {
-    m2 = λ j w x e a b. i.D1.m2 j w x e (dn1-strike p s v k c strike w j a) (λ z. b (up1-strike p s v k c strike x j z));
-    d1f = i.D1.d1f;
-    d1e = i.D1.d1e;
-    d1 = λ j z y e h. let t = i.D1.d1 j z y e h in
+    m2 = λ j w x e a b. i.halves.m2 j w x e (dn1-strike p s v k c strike w j a) (λ z. b (up1-strike p s v k c strike x j z));
+    d1f = i.halves.d1f;
+    d1e = i.halves.d1e;
+    d1 = λ j z y e h. let t = i.halves.d1 j z y e h in
         record {
           d1m = up1-strike p s v k c strike z j (t.d1m);
           d1y = up0-strike p s v k c strike y j (by-eq v y (λ q. inr (λ b. t.d1o (out j z y e q b))) (λ n. inl n)) (t.d1y);
@@ -163,9 +163,9 @@ module _ {p : Network} {s : ProtocolState} (i : Inv p s) {u v k c : ℕ} (ends :
 
   change-roots-strike : ChangeRoots p s.dk s.dn s.de s.fr s.gl s.gc s.lev s.ib s.ub s.bw m′
   change-roots-strike = record {
-    d2f = i.D2.d2f;
-    d2e = i.D2.d2e;
-    d2 = λ j w x e h. let t = i.D2.d2 j w x e h in
+    d2f = i.changeRoots.d2f;
+    d2e = i.changeRoots.d2e;
+    d2 = λ j w x e h. let t = i.changeRoots.d2 j w x e h in
         record {
           d2j = up-both-strike p s v k c strike j w x (t.d2j);
           d2g = t.d2g;
@@ -181,21 +181,21 @@ module _ {p : Network} {s : ProtocolState} (i : Inv p s) {u v k c : ℕ} (ends :
 
   rootings-strike : Rootings p s.dk s.dn s.fr s.gl s.lev s.ib s.ub s.bw m′ s.oo
   rootings-strike = record {
-    d3f = i.D3.d3f;
-    d3o = i.D3.d3o;
-    f5r = i.D3.f5r;
-    d3 = λ x h. let t = i.D3.d3 x h in
+    d3f = i.rootings.d3f;
+    d3o = i.rootings.d3o;
+    f5r = i.rootings.f5r;
+    d3 = λ x h. let t = i.rootings.d3 x h in
         record { d3i = t.d3i; d3w = t.d3w; d3b = bounds-strike p s v k c strike s.fr (key p (s.bw x)) x (t.d3b); d3u = t.d3u; d3v = t.d3v };
   }
 
   finishes-strike : Finishes p s.dk s.fr s.gl s.gc s.lev s.bw s.halt s.due m′
-  finishes-strike = record { d4 = λ j w x e h z. i.D4.d4 j w x e h (dn0-strike p s v k c strike w j z); d4i = i.D4.d4i; d5 = i.D4.d5; d6 = i.D4.d6; d6c = i.D4.d6c }
+  finishes-strike = record { d4 = λ j w x e h z. i.finishes.d4 j w x e h (dn0-strike p s v k c strike w j z); d4i = i.finishes.d4i; d5 = i.finishes.d5; d6 = i.finishes.d6; d6c = i.finishes.d6c }
 
   kids-strike : Kids p s.lev s.fr s.gl s.gc s.ib s.ub s.due m′
   kids-strike = record {
-    t2 = λ j w x e b h n o. i.T2.t2 j w x e (dn-both-strike p s v k c strike j w x b) h n o;
-    t3 = λ j a b e h l m. i.T2.t3 j a b e (dn-both-strike p s v k c strike j a b h) l m;
-    t4u = λ j x y e b g l. i.T2.t4u j x y e (dn-both-strike p s v k c strike j x y b) g l;
+    t2 = λ j w x e b h n o. i.kids.t2 j w x e (dn-both-strike p s v k c strike j w x b) h n o;
+    t3 = λ j a b e h l m. i.kids.t3 j a b e (dn-both-strike p s v k c strike j a b h) l m;
+    t4u = λ j x y e b g l. i.kids.t4u j x y e (dn-both-strike p s v k c strike j x y b) g l;
   }
 
   -- the whole, where besides the open test and channels change
@@ -205,14 +205,14 @@ module _ {p : Network} {s : ProtocolState} (i : Inv p s) {u v k c : ℕ} (ends :
 
     pub inv-strike : Pending s.st s.te s.fc ot s.op → Tests p s.te s.ib m′ ot → Flow p striking → Testing p striking → Answers p striking → Bests p striking → Inv p striking
     inv-strike = inv-search i m′ s.te ot s.op c′ (record {
-      W0 = ranges-strike;
-      G5 = cores-strike;
-      G6 = sleepers-strike;
-      M1 = marks-strike;
-      U1 = inbounds-strike;
-      D1 = halves-strike;
-      D2 = change-roots-strike;
-      D3 = rootings-strike;
-      D4 = finishes-strike;
-      T2 = kids-strike;
+      ranges = ranges-strike;
+      cores = cores-strike;
+      sleepers = sleepers-strike;
+      marks = marks-strike;
+      inbounds = inbounds-strike;
+      halves = halves-strike;
+      changeRoots = change-roots-strike;
+      rootings = rootings-strike;
+      finishes = finishes-strike;
+      kids = kids-strike;
     })

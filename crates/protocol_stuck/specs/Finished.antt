@@ -32,7 +32,7 @@ module _ {p : Network} {s : ProtocolState} (i : Inv p s) (t : Stuck p s) where
 
   -- within a fragment
   mates : (v w : ℕ) → s.fr v ≡ s.fr w → Way p.g Any v w
-  mates v w q = wider (λ e l h. tt) (i.M1.m4 v w q)
+  mates v w q = wider (λ e l h. tt) (i.marks.m4 v w q)
 
   far : {v w : ℕ} → Way p.g Any v w → Goal w → Goal v
   far a g = (g .0, join a (g .1), g .2, g .3)
@@ -40,15 +40,15 @@ module _ {p : Network} {s : ProtocolState} (i : Inv p s) (t : Stuck p s) where
   -- an awake single node is half or finished
   single : (v : ℕ) → s.st v ≢ 0 → GL s v ≡ 0 → DK s v ≢ 0
   single v a g d = ⊎-elim
-      (λ e. omega (arith, i.G6.g7 (e .0) v (e .1) (e .2) a g))
-      (λ n. omega (arith, i.G6.g7n v a g n .0)) (edge? p v)
+      (λ e. omega (arith, i.sleepers.g7 (e .0) v (e .1) (e .2) a g))
+      (λ n. omega (arith, i.sleepers.g7n v a g n .0)) (edge? p v)
 
   -- undecided, half or finished: given the goal for lower levels, and for those that are half
   settle : (v : ℕ) → s.st v ≢ 0 → ((w : ℕ) → s.st w ≢ 0 → GL s w < GL s v → Goal w) → (DK s v ≡ 3 → Goal v) → Goal v
   settle v a low half = by-eq (DK s v) 4 (λ z. (v, stop, a, z))
       (λ n4. by-eq (DK s v) 3 half
       (λ n3.
-      let d : DK s v ≡ 0 = zero-of (DK s v) (i.W0.dk-le (s.fr v)) n4 n3 (no-changing i t v) (no-rooting i t v) in
+      let d : DK s v ≡ 0 = zero-of (DK s v) (i.ranges.dk-le (s.fr v)) n4 n3 (no-changing i t v) (no-rooting i t v) in
       let g : 1 ≤ GL s v = by-eq (GL s v) 0 (λ z. absurd (single v a z d)) (λ n. omega arith) in
       let r = lower i t v d (all-inf i t v g) in
       far (join (mates v (r .0) (sym (r .3))) (hop (r .4) tt)) (low (r .2) (r .5) (omega (arith, r .6, ap s.gl (r .3))))))
@@ -79,8 +79,8 @@ module _ {p : Network} {s : ProtocolState} (i : Inv p s) (t : Stuck p s) where
   -- no edge leaves a finished fragment
   inner : (k v u : ℕ) → Edge p k v u → DK s v ≡ 4 → s.fr v ≡ s.fr u
   inner k v u e d = by-eq (s.mark v k) 1
-      (λ a. by-eq (s.mark u k) 1 (λ b. i.M1.m3 k v u e (a, b)) (λ b. absurd (omega (arith, i.D1.m2 k v u e a b .0))))
-      (λ a. i.M1.m1 k v u e (omega (arith, i.W0.mark-le v k, i.D4.d4 k v u e d)) .0)
+      (λ a. by-eq (s.mark u k) 1 (λ b. i.marks.m3 k v u e (a, b)) (λ b. absurd (omega (arith, i.halves.m2 k v u e a b .0))))
+      (λ a. i.marks.m1 k v u e (omega (arith, i.ranges.mark-le v k, i.finishes.d4 k v u e d)) .0)
 
   pub closed : {w x : ℕ} → Way p.g Any w x → DK s w ≡ 4 → s.fr w ≡ s.fr x
   closed stop d = refl
@@ -95,22 +95,22 @@ module _ {p : Network} {s : ProtocolState} (i : Inv p s) (t : Stuck p s) where
   part v w a y = closed y (awake-finished v a)
 
   pub part-awake : (v w : ℕ) → s.st v ≢ 0 → Way p.g Any v w → s.st w ≢ 0
-  part-awake v w a y z = omega (arith, awake-finished v a, ap s.dk (part v w a y), i.G6.g6 w z .g6d)
+  part-awake v w a y z = omega (arith, awake-finished v a, ap s.dk (part v w a y), i.sleepers.g6 w z .g6d)
 
   -- NO MESSAGE WAITS
   pub nothing : (k u v : ℕ) (m : Msg) → Edge p k u v → ¬ In m (s.ch u k)
   nothing k u v m e n = let b = t.back k u v m e n in which m n (b .0) (b .1)
     where
       not-find : (w : ℕ) → s.st w ≢ 0 → s.st w ≢ 1
-      not-find w a f = omega (arith, awake-finished w a, i.F1.f1 w f .f1k)
+      not-find w a f = omega (arith, awake-finished w a, i.finds.f1 w f .f1k)
 
       awake-u : s.st v ≢ 0 → s.st u ≢ 0
       awake-u a = part-awake v u a (hop (flip e) tt)
 
       which : (m : Msg) → In m (s.ch u k) → s.st v ≢ 0 → Blocked s v k m → ⊥
-      which (connect l) n a b = i.D4.d4 k v u (flip e) (awake-finished v a) (b .1)
+      which (connect l) n a b = i.finishes.d4 k v u (flip e) (awake-finished v a) (b .1)
       which (initiate l f x) n a b = b
-      which (test l f) n a b = ⊎-elim (λ r. not-find u (awake-u a) (waits-find i k u v e (r .0))) (λ r. not-find v a (waits-find i k v u (flip e) (r .2))) (i.E1.e1w k u v l f e n)
+      which (test l f) n a b = ⊎-elim (λ r. not-find u (awake-u a) (waits-find i k u v e (r .0))) (λ r. not-find v a (waits-find i k v u (flip e) (r .2))) (i.testing.e1w k u v l f e n)
       which accept n a b = b
       which reject n a b = b
       which (report w) n a b = not-find v a (b .1)

@@ -18,7 +18,7 @@ module _ {p : Network} {s : ProtocolState} (i : Inv p s) (t : Stuck p s) where
 
   -- no Change-root, nobody executes change-root: undecided, half or finished
   pub no-changing : (v : ℕ) → DK s v ≢ 2
-  no-changing v d = let h = changing-of i v d in t.back (h .1) (h .0) (h .2) change (h .3) (i.Dc.d2c (h .1) (h .0) (h .2) (h .3) (h .4)) .1
+  no-changing v d = let h = changing-of i v d in t.back (h .1) (h .0) (h .2) change (h .3) (i.tokens.d2c (h .1) (h .0) (h .2) (h .3) (h .4)) .1
 
   pub no-rooting : (v : ℕ) → DK s v ≢ 1
   no-rooting v = no-root i v (t.idle .2)
@@ -28,7 +28,7 @@ module _ {p : Network} {s : ProtocolState} (i : Inv p s) (t : Stuck p s) where
   core-inf k x y e j g = ⊎-elim
       (λ c. let n = some-connect (s.ch x k) c in absurd (omega (arith, t.back k x y (connect (n .0)) e (n .1) .1 .1, j .1)))
       (⊎-elim (λ n. absurd (no-initiate k y x (GL s x) k 1 (flip e) n)) (λ h. h))
-      (i.T4.t4 k x y e j g)
+      (i.telling.t4 k x y e j g)
 
   -- and so is everybody, along a way of joined edges
   spread : {v w : ℕ} → Way p.g (JoinedEdge p s.mark) v w → Inf s v → Inf s w
@@ -37,22 +37,22 @@ module _ {p : Network} {s : ProtocolState} (i : Inv p s) (t : Stuck p s) where
     where
       next-inf : (a b j : ℕ) → Edge p j a b → Jn s j a b → Inf s a → Inf s b
       next-inf a b j e o h =
-          let q = i.M1.m3 j a b e o in
+          let q = i.marks.m3 j a b e o in
           by-eq (s.ib a) j
-          (λ z. by-eq (GC s a) j (λ g. core-inf j b a (flip e) (o .1, o .0) (ap s.gc (sym q) ∙ g)) (λ g. i.T1.t1p j a b e h z g .0))
+          (λ z. by-eq (GC s a) j (λ g. core-inf j b a (flip e) (o .1, o .0) (ap s.gc (sym q) ∙ g)) (λ g. i.parents.t1p j a b e h z g .0))
           (λ z. inf-cases i b (λ y. y)
-          (λ l. absurd (no-initiate j a b (GL s a) (GC s a) (s.due b) e (i.T4.t2i j a b e o h z l)))
+          (λ l. absurd (no-initiate j a b (GL s a) (GC s a) (s.due b) e (i.telling.t2i j a b e o h z l)))
           (λ y. absurd (omega (arith, h .0, ap s.gl q))))
 
   pub all-inf : (v : ℕ) → 1 ≤ GL s v → Inf s v
   all-inf v l =
       let k = GC s v in
-      let e : Edge p k (p.g.lo k) (p.g.hi k) = up (i.G5.g5r v l) refl refl in
-      let h = i.G5.g5 v (p.g.lo k) (p.g.hi k) l e in
-      spread (i.M1.m4 (p.g.lo k) v (h .1)) (core-inf k (p.g.lo k) (p.g.hi k) e (h .0) (ap s.gc (h .1)))
+      let e : Edge p k (p.g.lo k) (p.g.hi k) = up (i.cores.g5r v l) refl refl in
+      let h = i.cores.g5 v (p.g.lo k) (p.g.hi k) l e in
+      spread (i.marks.m4 (p.g.lo k) v (h .1)) (core-inf k (p.g.lo k) (p.g.hi k) e (h .0) (ap s.gc (h .1)))
 
   pub stuck-level : (v : ℕ) → s.lev v ≡ GL s v
-  stuck-level v = by-eq (GL s v) 0 (λ z. omega (arith, i.G2.g2 v)) (λ n. all-inf v (omega arith) .1)
+  stuck-level v = by-eq (GL s v) 0 (λ z. omega (arith, i.levels.g2 v)) (λ n. all-inf v (omega arith) .1)
 
   pub not-low : (v : ℕ) → ¬ (s.lev v < GL s v)
   not-low v l = omega (arith, stuck-level v)

@@ -62,20 +62,20 @@ pub record AllFinished (p : Network) (s : ProtocolState) : Type 0 where
 -- ---- a part in which nobody is awake, in any state with the invariant
 
 part-asleep : {p : Network} {s : ProtocolState} → Inv p s → (v : ℕ) → ((u : ℕ) → SamePart p v u → s.st u ≡ 0) → PartAsleep p s v
-part-asleep {p} {s} i v z = record { nodes = λ u w. node u (z u w); channels = λ k a b e w. i.G6c.g6o k a b e (z a w) }
+part-asleep {p} {s} i v z = record { nodes = λ u w. node u (z u w); channels = λ k a b e w. i.hush.g6o k a b e (z a w) }
   where
     node : (u : ℕ) → s.st u ≡ 0 → AsAtSetup s u
     node u e = record {
       status = e;
       level = sleep-lev i u e;
       identity = sleep-id i u e;
-      weight = i.G6.g6 u e .g6w;
-      best = i.G6.g6 u e .g6e;
+      weight = i.sleepers.g6 u e .g6w;
+      best = i.sleepers.g6 u e .g6e;
       test = sleep-te i u e;
       branch = sleep-ib i u e;
       count = sleep-fc i u e;
       halted = sleep-halt i u e;
-      marks = λ k. i.G6.g6m u k e;
+      marks = λ k. i.sleepers.g6m u k e;
     }
 
 -- ---- a part with an awake node, in a stuck state
@@ -90,7 +90,7 @@ module _ {p : Network} {s : ProtocolState} (i : Inv p s) (t : Stuck p s) (w : �
     level = level-pos i t j w x f a
 
     core-ends : Edge p core (p.g.lo core) (p.g.hi core)
-    core-ends = up (i.G5.g5r w level) refl refl
+    core-ends = up (i.cores.g5r w level) refl refl
 
     -- each of the part has an edge
     has-edge : (v : ℕ) → SamePart p w v → (k : ℕ) × (u : ℕ) × Edge p k v u
@@ -114,10 +114,10 @@ module _ {p : Network} {s : ProtocolState} (i : Inv p s) (t : Stuck p s) (w : �
     part-core : PartCore p s w
     part-core = record {
       edge = core;
-      within = i.G5.g5r w level;
+      within = i.cores.g5r w level;
       tree = core-tree i t w (p.g.lo core) (p.g.hi core) level core-ends;
-      inside = wider (λ e l h. tt) (i.M1.m4 w (p.g.lo core) (sym (i.G5.g5 w (p.g.lo core) (p.g.hi core) level core-ends .1)));
-      apart = p.no-loop core (i.G5.g5r w level);
+      inside = wider (λ e l h. tt) (i.marks.m4 w (p.g.lo core) (sym (i.cores.g5 w (p.g.lo core) (p.g.hi core) level core-ends .1)));
+      apart = p.no-loop core (i.cores.g5r w level);
       halted = λ v y. (is-end v y, end-halted v);
     }
 

@@ -23,21 +23,21 @@ module _ {p : Network} {s : ProtocolState} (i : Inv p s) (t : Stuck p s) where
   -- ---- an undecided fragment
 
   awake : (a : ℕ) → Inf s a → s.st a ≢ 0
-  awake a f z = omega (arith, f .0, i.G6.g6 a z .g6g)
+  awake a f z = omega (arith, f .0, i.sleepers.g6 a z .g6g)
 
   -- a core end is Find: Found ones would have a Report that is not put back
   find-end : (k a b : ℕ) → Edge p k a b → Jn s k a b → GC s a ≡ k → DK s a ≡ 0 → Inf s a → (x : ℕ) × (x < p.N) × (s.fr x ≡ s.fr a) × (s.st x ≡ 1)
   find-end k a b e j g d f = by-eq (s.st a) 1 (λ z. (a, end-lt p e, refl, z))
       (λ z. ⊎-elim
-      (λ n. (b, end-lt p (flip e), sym (i.M1.m3 k a b e j), report-find k a b e n .1))
+      (λ n. (b, end-lt p (flip e), sym (i.marks.m3 k a b e j), report-find k a b e n .1))
       (λ n. absurd (z (report-find k b a (flip e) (n .3) .1)))
-      (i.Dc.d7 k a b e g d f (omega (arith, i.W0.st-le a, awake a f))))
+      (i.tokens.d7 k a b e g d f (omega (arith, i.ranges.st-le a, awake a f))))
 
   find-one : (v : ℕ) → DK s v ≡ 0 → Inf s v → (x : ℕ) × (x < p.N) × (s.fr x ≡ s.fr v) × (s.st x ≡ 1)
   find-one v d h =
       let k = GC s v in
-      let e : Edge p k (p.g.lo k) (p.g.hi k) = up (i.G5.g5r v (h .0)) refl refl in
-      let c = i.G5.g5 v (p.g.lo k) (p.g.hi k) (h .0) e in
+      let e : Edge p k (p.g.lo k) (p.g.hi k) = up (i.cores.g5r v (h .0)) refl refl in
+      let c = i.cores.g5 v (p.g.lo k) (p.g.hi k) (h .0) e in
       let r = find-end k (p.g.lo k) (p.g.hi k) e (c .0) (ap s.gc (c .1)) (ap s.dk (c .1) ∙ d) (all-inf i t (p.g.lo k) (omega (arith, h .0, ap s.gl (c .1)))) in
       (r .0, r .1, r .2 ∙ c .1, r .3)
 
@@ -72,23 +72,23 @@ module _ {p : Network} {s : ProtocolState} (i : Inv p s) (t : Stuck p s) where
   no-count v x = by-eq (s.fc (x.node)) 0 (λ z. z)
       (λ n.
       let a = x.node in
-      let o = some-term p.g.L (s.owe a) (λ z. n (i.F4.f4 a ∙ z)) in
+      let o = some-term p.g.L (s.owe a) (λ z. n (i.findCounts.f4 a ∙ z)) in
       let k = o .0 in
-      let e = i.F4.f4o a k (o .2) in
+      let e = i.findCounts.f4o a k (o .2) in
       let c = e .0 in
-      let y = i.F4c.f4y k a c (e .1) (o .2) in
+      let y = i.owing.f4y k a c (e .1) (o .2) in
       absurd (⊎-elim
       (λ r. ⊎-elim
-      (λ f. child k a c (e .1) (y .0) (y .1) (y .2) (r .0) (x.deep c (end-lt p (flip (e .1))) (sym (i.M1.m3 k a c (e .1) (y .1)) ∙ x.mate) f))
+      (λ f. child k a c (e .1) (y .0) (y .1) (y .2) (r .0) (x.deep c (end-lt p (flip (e .1))) (sym (i.marks.m3 k a c (e .1) (y .1)) ∙ x.mate) f))
       (λ f. y .2 (report-find k c a (flip (e .1)) f .0)) (r .1))
       (λ r. not-low i t c (r .0)) (y .3)))
     where
       -- a child is one deeper
       child : (k a c : ℕ) → Edge p k a c → Inf s a → Jn s k a c → s.ib a ≢ k → Inf s c → s.dep c ≤ s.dep a → ⊥
       child k a c e h j n g l =
-          let q = i.M1.m3 k a c e j in
+          let q = i.marks.m3 k a c e j in
           let m : GC s c ≢ k = λ z. down-core i k a c e h n (ap s.gc q ∙ z) in
-          omega (arith, i.T1.t1p k c a (flip e) g (i.T2.t2 k a c e j h n g) m .1)
+          omega (arith, i.parents.t1p k c a (flip e) g (i.kids.t2 k a c e j h n g) m .1)
 
   -- so its Test waits, at a node of lower level
   pub lower : (v : ℕ) → DK s v ≡ 0 → Inf s v → (x : ℕ) × (k : ℕ) × (u : ℕ) × (s.fr x ≡ s.fr v) × Edge p k x u × (s.st u ≢ 0) × (GL s u < GL s x)
@@ -96,27 +96,27 @@ module _ {p : Network} {s : ProtocolState} (i : Inv p s) (t : Stuck p s) where
       let a = deepest v d h in
       let x = a.node in
       let n : s.te x ≢ none = ⊎-elim (λ z. absurd (z (no-count v a)))
-      (⊎-elim (λ z. z) (⊎-elim (λ z. absurd (omega (arith, t.idle .0))) (λ z. absurd (omega (arith, t.idle .1))))) (i.F2.f2 x (a.find)) in
-      let e = i.E2.e2o x n in
+      (⊎-elim (λ z. z) (⊎-elim (λ z. absurd (omega (arith, t.idle .0))) (λ z. absurd (omega (arith, t.idle .1))))) (i.pending.f2 x (a.find)) in
+      let e = i.tests.e2o x n in
       let r = tested (s.te x) x (e .0) (e .1) (refl, λ z. omega (arith, t.idle .0)) in
       (x, s.te x, e .0, a.mate, e .1, r .0, r .1)
     where
       -- x's Test is there: no answer is, and a Test of the other end would not be put back
       sent : (k x u : ℕ) → Edge p k x u → Waits s x k → 1 ≤ sumL isT (s.ch x k)
       sent k x u e w = by-eq (s.te u) k
-          (λ z. omega (arith, i.E1.e2w k x u e w (z, λ y. omega (arith, t.idle .0)), no-ans i t k u x (flip e)))
-          (λ z. by-eq (sumL isT (s.ch u k)) 0 (λ y. omega (arith, i.E1.e2c k x u e w (inl z), no-ans i t k u x (flip e)))
+          (λ z. omega (arith, i.testing.e2w k x u e w (z, λ y. omega (arith, t.idle .0)), no-ans i t k u x (flip e)))
+          (λ z. by-eq (sumL isT (s.ch u k)) 0 (λ y. omega (arith, i.testing.e2c k x u e w (inl z), no-ans i t k u x (flip e)))
           (λ y. let m = some-test (s.ch u k) (omega arith) in absurd (crossed k u x (flip e) z (m .0) (m .1) (m .2))))
         where
           crossed : (k u x : ℕ) → Edge p k u x → s.te u ≢ k → (l f : ℕ) → In (test l f) (s.ch u k) → ⊥
           crossed k u x e z l f m = ⊎-elim (λ r. z (r .0 .0))
-              (λ r. omega (arith, t.back k u x (test l f) e m .1, i.E1.e1 k u x l f e m .0, stuck-level i t u, stuck-level i t x, ap s.gl (r .3))) (i.E1.e1w k u x l f e m)
+              (λ r. omega (arith, t.back k u x (test l f) e m .1, i.testing.e1 k u x l f e m .0, stuck-level i t u, stuck-level i t x, ap s.gl (r .3))) (i.testing.e1w k u x l f e m)
 
       tested : (k x u : ℕ) → Edge p k x u → Waits s x k → (s.st u ≢ 0) × (GL s u < GL s x)
       tested k x u e w =
           let m = some-test (s.ch x k) (sent k x u e w) in
           let b = t.back k x u (test (m .0) (m .1)) e (m .2) in
-          (b .0, omega (arith, b .1, i.E1.e1 k x u (m .0) (m .1) e (m .2) .0, stuck-level i t u, stuck-level i t x))
+          (b .0, omega (arith, b .1, i.testing.e1 k x u (m .0) (m .1) e (m .2) .0, stuck-level i t u, stuck-level i t x))
 
   -- ---- a fragment that is half
 
@@ -135,8 +135,8 @@ module _ {p : Network} {s : ProtocolState} (i : Inv p s) (t : Stuck p s) where
   pub half-meets : (v : ℕ) → DK s v ≡ 3 → HalfMeets v
   half-meets v d =
       let h = half-of i v d in
-      let b = t.back (h .1) (h .0) (h .2) (connect (GL s (h .0))) (h .3) (i.Dc.d1c (h .1) (h .0) (h .2) (h .3) (h .4)) in
-      let o = i.D1.d1 (h .1) (h .0) (h .2) (h .3) (h .4) in
+      let b = t.back (h .1) (h .0) (h .2) (connect (GL s (h .0))) (h .3) (i.tokens.d1c (h .1) (h .0) (h .2) (h .3) (h .4)) in
+      let o = i.halves.d1 (h .1) (h .0) (h .2) (h .3) (h .4) in
       record {
         z = h .0;
         k = h .1;
@@ -153,8 +153,8 @@ module _ {p : Network} {s : ProtocolState} (i : Inv p s) (t : Stuck p s) where
   pub half-earlier : (v : ℕ) (m : HalfMeets v) → DK s (m.y) ≡ 3 → rank p (s.de (s.fr (m.y))) < rank p (s.de (s.fr v))
   half-earlier v m d =
       let h = half-of i (m.y) d in
-      let o = i.D1.d1 (h .1) (h .0) (h .2) (h .3) (h .4) in
-      let own = i.D1.d1 (m.k) (m.z) (m.y) (m.ends) (m.half) in
+      let o = i.halves.d1 (h .1) (h .0) (h .2) (h .3) (h .4) in
+      let own = i.halves.d1 (m.k) (m.z) (m.y) (m.ends) (m.half) in
       let l = o.d1b (m.y) (m.k) (m.z) (sym (h .5)) (flip (m.ends)) (m.basic) in
       let n : rank p (h .1) ≢ rank p (m.k) = λ q. same (h .1) (m.k) (h .0) (h .2) (m.z) (m.y) (h .3) (m.ends) (rank-inj p (h .1) (m.k) (joins-lt (h .3)) (joins-lt (m.ends)) q)
       (o.d1m) (m.basic) (λ q. own.d1o (sym (h .5) ∙ ap s.fr q)) in

@@ -35,7 +35,7 @@ module _ {p : Network} {s : ProtocolState} (i : Inv p s) {u v k l f x a b d e : 
   initiate-in = pop-head s.ch u k act.q
 
   pub ok : InitOk p s.lev s.fr s.gl s.gc s.ub s.due s.mark k u v l f x
-  ok = i.I1.i1 k u v l f x act.ends initiate-in
+  ok = i.initiates.i1 k u v l f x act.ends initiate-in
 
   -- ---- v before: not informed, Found, not waiting
 
@@ -49,10 +49,10 @@ module _ {p : Network} {s : ProtocolState} (i : Inv p s) {u v k l f x a b d e : 
   awake = mark-awake i v k (λ z. omega (arith, ok.i1j .1))
 
   pub te-none : s.te v ≡ none
-  te-none = i.F2.f3t v not-find
+  te-none = i.pending.f3t v not-find
 
   pub fc-none : s.fc v ≡ 0
-  fc-none = i.F2.f3c v not-find
+  fc-none = i.pending.f3c v not-find
 
   pub u≢v : u ≢ v
   u≢v = ends-irr p act.ends
@@ -78,12 +78,12 @@ module _ {p : Network} {s : ProtocolState} (i : Inv p s) {u v k l f x a b d e : 
   due-v n = sym (ok.i1d (full n)) ∙ omega (arith, bit-le-tell)
 
   pub undecided : x ≢ 0 → DK s v ≡ 0
-  undecided n = by-eq (DK s v) 0 (λ z. z) (λ m. absurd (omega (arith, i.D4.d5 v m, due-v n)))
+  undecided n = by-eq (DK s v) 0 (λ z. z) (λ m. absurd (omega (arith, i.finishes.d5 v m, due-v n)))
 
   -- ---- an end of the core is told by the core, of the fragment's level
 
   pub core-low : (j y : ℕ) → Edge p j v y → GC s v ≡ j → LowOk s.lev s.fr s.gl s.ib s.ub s.due j v
-  core-low j y g c = i.T2.t4u j v y g (subst (λ n. Jn s n v y) c (i.G5.g5 v v y (omega (arith, low)) (subst (λ n. Edge p n v y) (sym c) g) .0)) c low
+  core-low j y g c = i.kids.t4u j v y g (subst (λ n. Jn s n v y) c (i.cores.g5 v v y (omega (arith, low)) (subst (λ n. Edge p n v y) (sym c) g) .0)) c low
 
   pub core-k : (j y : ℕ) → Edge p j v y → GC s v ≡ j → (k ≡ j) × (u ≡ y)
   core-k j y g c = let z : k ≡ j = sym (ok.i1u) ∙ core-low j y g c .t4b in (z, other-end (flip act.ends) g refl z)
@@ -98,10 +98,10 @@ module _ {p : Network} {s : ProtocolState} (i : Inv p s) {u v k l f x a b d e : 
 
   module _ (j c : ℕ) (g : Edge p j v c) (n : k ≢ j) (m : s.mark v j ≡ 1) where
     pub kid-joined : Jn s j v c
-    kid-joined = (m, by-eq (s.mark c j) 1 (λ z. z) (λ z. absurd (omega (arith, low, i.D1.d1 j v c g (i.D1.m2 j v c g m z) .d1l))))
+    kid-joined = (m, by-eq (s.mark c j) 1 (λ z. z) (λ z. absurd (omega (arith, low, i.halves.d1 j v c g (i.halves.m2 j v c g m z) .d1l))))
 
     pub kid-fr : s.fr v ≡ s.fr c
-    kid-fr = i.M1.m3 j v c g kid-joined
+    kid-fr = i.marks.m3 j v c g kid-joined
 
     pub kid-core : GC s v ≢ j
     kid-core z = n (core-k j c g z .0)
@@ -109,33 +109,33 @@ module _ {p : Network} {s : ProtocolState} (i : Inv p s) {u v k l f x a b d e : 
     pub kid-low : s.lev c < GL s c
     kid-low = inf-cases i c
         (λ h. absurd (by-eq (s.ib c) j
-        (λ z. omega (arith, low, i.T1.t1p j c v (flip g) h z (λ o. kid-core (ap s.gc kid-fr ∙ o)) .0 .1))
-        (λ z. n (sym (ok.i1u) ∙ i.I1.i1 j c v (GL s c) (GC s c) (s.due v) (flip g) (i.T4.t2i j c v (flip g) (kid-joined .1, m) h z low) .i1u))))
+        (λ z. omega (arith, low, i.parents.t1p j c v (flip g) h z (λ o. kid-core (ap s.gc kid-fr ∙ o)) .0 .1))
+        (λ z. n (sym (ok.i1u) ∙ i.initiates.i1 j c v (GL s c) (GC s c) (s.due v) (flip g) (i.telling.t2i j c v (flip g) (kid-joined .1, m) h z low) .i1u))))
         (λ h. h)
         (λ z. absurd (omega (arith, low, ap s.gl kid-fr)))
 
     pub kid-ub : s.ub c ≡ j
-    kid-ub = ⊎-elim (λ z. absurd (n (sym (ok.i1u) ∙ z))) (λ z. z) (i.U1.m3u j v c g kid-joined)
+    kid-ub = ⊎-elim (λ z. absurd (n (sym (ok.i1u) ∙ z))) (λ z. z) (i.inbounds.m3u j v c g kid-joined)
 
     kid-top : s.lev v ≡ top (s.lev c) (s.ch v j)
-    kid-top = i.T4.u2 j v c g kid-joined (λ z. n (sym (ok.i1u) ∙ z))
+    kid-top = i.telling.u2 j v c g kid-joined (λ z. n (sym (ok.i1u) ∙ z))
 
     pub kid-lev : s.lev c < l
     kid-lev = ⊎-elim (λ z. omega (arith, ok.i1l, kid-top))
-        (λ t. omega (arith, ok.i1l, kid-top, i.I1.i1 j v c (top (s.lev c) (s.ch v j)) (t .0) (t .1) g (t .2) .i1l)) (top-in (s.lev c) (s.ch v j))
+        (λ t. omega (arith, ok.i1l, kid-top, i.initiates.i1 j v c (top (s.lev c) (s.ch v j)) (t .0) (t .1) g (t .2) .i1l)) (top-in (s.lev c) (s.ch v j))
 
     pub kid-inits : (a b y : ℕ) → In (initiate a b y) (s.ch v j) → a < l
-    kid-inits a b y h = omega (arith, ok.i1l, kid-top, top-max (s.lev c) (s.ch v j) (λ m n z. i.Q1.q1 j v c m n g z) a b y h)
+    kid-inits a b y h = omega (arith, ok.i1l, kid-top, top-max (s.lev c) (s.ch v j) (λ m n z. i.ordered.q1 j v c m n g z) a b y h)
 
     pub kid-due : s.due v ≡ s.due c
-    kid-due = i.T2.t3 j v c g kid-joined low kid-low
+    kid-due = i.kids.t3 j v c g kid-joined low kid-low
 
   -- ---- Reports to v are of a core end, over k; those from v are spent, and go to nobody informed
 
   pub report-to : (j w n : ℕ) → Edge p j w v → In (report n) (s.ch w j) → (k ≡ j) × (u ≡ w) × (GC s v ≡ j) × CoreEnds s w v j n
   report-to j w n g h = ⊎-elim (λ t. absurd (not-find (t .6)))
       (⊎-elim
-      (λ t. let c : GC s v ≡ j = ap s.gc (sym (i.M1.m3 j w v g (i.R1.r1j j w v n g h))) ∙ t .0 in
+      (λ t. let c : GC s v ≡ j = ap s.gc (sym (i.marks.m3 j w v g (i.reports.r1j j w v n g h))) ∙ t .0 in
       let y = core-k j w (flip g) c in
       (y .0, y .1, c, t))
       (λ t. let z : k ≡ j = sym (ok.i1u) ∙ t .2 in
@@ -145,7 +145,7 @@ module _ {p : Network} {s : ProtocolState} (i : Inv p s) {u v k l f x a b d e : 
         t .4 (initiate l f x) (subst (λ m. Bef (initiate l f x) (report n) m) (sym (head-at s.ch u k act.q w j y z)) (heads
             (⊎-elim (λ o. absurd (kinds (λ n. omega arith) o)) (λ o. o) (in-cons (subst (λ m. In (report n) m) (head-at s.ch u k act.q w j y z) h))))),
       ))))
-      (i.R1.r1 j w v n g h)
+      (i.reports.r1 j w v n g h)
 
   pub report-from : (j y n : ℕ) → Edge p j v y → In (report n) (s.ch v j) → Spent p s v y j n × (¬ Inf s y)
   report-from j y n g h = ⊎-elim (λ t. absurd (omega (arith, low, t .0 .1)))
@@ -153,13 +153,13 @@ module _ {p : Network} {s : ProtocolState} (i : Inv p s) {u v k l f x a b d e : 
       (λ t. (
         t,
         λ o.
-            let z = i.M1.m3 j v y g (i.R1.r1j j v y n g h) in
-            let c : GC s y ≡ j = sym (i.G2.g2i y o) ∙ t .1 in
+            let z = i.marks.m3 j v y g (i.reports.r1j j v y n g h) in
+            let c : GC s y ≡ j = sym (i.levels.g2i y o) ∙ t .1 in
             let w = core-low j y g (ap s.gc z ∙ c) in
-            let m : DK s v ≡ 0 = by-eq (DK s v) 0 (λ m. m) (λ m. absurd (omega (arith, i.D4.d5 v m, w.t4d))) in
-            omega (arith, low, i.R1.r1c j v y n g h o (ap s.dk (sym z) ∙ m) c .2 .1),
+            let m : DK s v ≡ 0 = by-eq (DK s v) 0 (λ m. m) (λ m. absurd (omega (arith, i.finishes.d5 v m, w.t4d))) in
+            omega (arith, low, i.reports.r1c j v y n g h o (ap s.dk (sym z) ∙ m) c .2 .1),
       )))
-      (i.R1.r1 j v y n g h)
+      (i.reports.r1 j v y n g h)
 
   -- ---- v after
 
@@ -277,7 +277,7 @@ module _ {p : Network} {s : ProtocolState} (i : Inv p s) {u v k l f x a b d e : 
 
   -- what is left there stood behind the Initiate
   pub behind-tell : (y : Msg) → In y (S′.ch u k) → Fits m y
-  behind-tell y h = i.Q1.q1 k u v m y act.ends (subst (λ t. Bef m y t) (sym act.q) (heads (subst (λ t. In y t) rest-tell h)))
+  behind-tell y h = i.ordered.q1 k u v m y act.ends (subst (λ t. Bef m y t) (sym act.q) (heads (subst (λ t. In y t) rest-tell h)))
 
   abbrev pub tell-names : TellNames p s u v k l f x
   tell-names = record { S′ = S′; ok = ok; m = m; c₁ = c₁; kid = kid; same = same-tell; old = old-tell }

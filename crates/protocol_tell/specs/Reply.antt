@@ -74,9 +74,9 @@ module _ {p : Network} {s : ProtocolState} (i : Inv p s) {u v k l : ℕ} {r : Li
 
   pub hush-reply : s.st v ≢ 0 → s.st u ≢ 0 → Hush p (set-ch s replied)
   hush-reply m n = record {
-    g6o = λ j w y e z. off-reply w j (silent w j (i.G6c.g6o j w y e z)) (inl (λ d. m (ap s.st d ∙ z))) ∙ i.G6c.g6o j w y e z;
+    g6o = λ j w y e z. off-reply w j (silent w j (i.hush.g6o j w y e z)) (inl (λ d. m (ap s.st d ∙ z))) ∙ i.hush.g6o j w y e z;
     g6i = λ j w y e z. all-reply w j
-        (λ b c. absurd (n (ap s.st (other-end (flip ends) e b c) ∙ z))) (i.G6c.g6i j w y e z);
+        (λ b c. absurd (n (ap s.st (other-end (flip ends) e b c) ∙ z))) (i.hush.g6i j w y e z);
   }
     where
       silent : (w j : ℕ) → s.ch w j ≡ [] → (u ≢ w) ⊎ (k ≢ j)
@@ -85,7 +85,7 @@ module _ {p : Network} {s : ProtocolState} (i : Inv p s) {u v k l : ℕ} {r : Li
   -- where no Initiate was on the way back
   pub ordered-reply : ((n g y : ℕ) → ¬ In (initiate n g y) (s.ch v k)) → Ordered p (set-ch s replied)
   ordered-reply none = record {
-    q1 = λ j w y m n e b. ⊎-elim (λ o. i.Q1.q1 j w y m n e o)
+    q1 = λ j w y m n e b. ⊎-elim (λ o. i.ordered.q1 j w y m n e o)
         (λ t. subst (λ z. Fits m z) (sym (t .2)) (fits-initiate a f x m
         (λ b c d z. absurd (none b c d (subst (λ h. In (initiate b c d) h) (sym (at2 s.ch (t .0) (t .1))) (subst (λ h. In h (s.ch w j)) z (t .3)))))))
         (order-reply w j b);

@@ -29,25 +29,25 @@ module _ {p : Network} {s : ProtocolState} (i : Inv p s) {u v k l x : ℕ} {r : 
   -- ---- k is half at u
 
   pub mark-u : s.mark u k ≡ 1
-  mark-u = i.C1.c1m k u v l act.ends head
+  mark-u = i.connects.c1m k u v l act.ends head
 
   pub mark-v : s.mark v k ≡ 0
   mark-v = by-eq (s.mark v k) 0 (λ e. e)
       (λ n. by-eq (s.mark v k) 1
-      (λ e. absurd (omega (arith, i.C1.c1 k u v l act.ends head e .2)))
-      (λ m. absurd (i.M1.m1 k v u (flip act.ends) (omega (arith, i.W0.mark-le v k)) .1 mark-u)))
+      (λ e. absurd (omega (arith, i.connects.c1 k u v l act.ends head e .2)))
+      (λ m. absurd (i.marks.m1 k v u (flip act.ends) (omega (arith, i.ranges.mark-le v k)) .1 mark-u)))
 
   pub half : Half s u k
   half = half-at i k u v act.ends mark-u mark-v
 
   pub ok : HalfOk p s.fr s.gl s.lev s.ub s.mark k u v
-  ok = i.D1.d1 k u v act.ends half
+  ok = i.halves.d1 k u v act.ends half
 
   pub level-absorb : l ≡ GL s u
-  level-absorb = all-in (i.Dc.d1a k u v act.ends half) head
+  level-absorb = all-in (i.tokens.d1a k u v act.ends half) head
 
   pub rise : GL s u < GL s v
-  rise = omega (arith, level-absorb, i.G2.g2 v)
+  rise = omega (arith, level-absorb, i.levels.g2 v)
 
   pub apart-absorb : s.fr v ≢ s.fr u
   apart-absorb = ok.d1o
@@ -79,7 +79,7 @@ module _ {p : Network} {s : ProtocolState} (i : Inv p s) {u v k l x : ℕ} {r : 
   fr-cases a b = relabel-cases s.fr (s.fr u) (s.fr v) a b
 
   pub low : (w : ℕ) → s.fr w ≡ s.fr u → s.lev w < GL S′ w
-  low w e = omega (arith, i.G2.g2 w, ap s.gl e, ap s.gl (fr-in-absorb w e), rise)
+  low w e = omega (arith, i.levels.g2 w, ap s.gl e, ap s.gl (fr-in-absorb w e), rise)
 
   -- nobody in D is informed now; the others are as before
   pub inf-out-absorb : (w : ℕ) → Inf S′ w → s.fr w ≢ s.fr u
@@ -95,11 +95,11 @@ module _ {p : Network} {s : ProtocolState} (i : Inv p s) {u v k l x : ℕ} {r : 
   dk-out-absorb w n e = n (ap s.dk e ∙ half .0)
 
   pub find-out-absorb : (w : ℕ) → s.st w ≡ 1 → s.fr w ≢ s.fr u
-  find-out-absorb w f = dk-out-absorb w (λ d. omega (arith, i.F1.f1 w f .f1k))
+  find-out-absorb w f = dk-out-absorb w (λ d. omega (arith, i.finds.f1 w f .f1k))
 
   -- v's fragment is not finished: k is Basic there
   pub unfinished : DK s v ≢ 4
-  unfinished d = i.D4.d4 k v u (flip act.ends) d mark-v
+  unfinished d = i.finishes.d4 k v u (flip act.ends) d mark-v
 
   pub no-four : (w : ℕ) → DK S′ w ≡ 4 → s.fr w ≢ s.fr u
   no-four w d e = unfinished (sym (ap s.dk (fr-in-absorb w e)) ∙ d)
@@ -150,11 +150,11 @@ module _ {p : Network} {s : ProtocolState} (i : Inv p s) {u v k l x : ℕ} {r : 
 
   -- where v is informed it says whether v is due
   pub bit-due : Inf s v → x ≡ s.due v
-  bit-due h = ⊎-elim (λ t. t .1 ∙ sym (i.F1.f1 v (t .0) .f1u))
-      (λ t. by-eq (s.due v) 1 (λ d. absurd (t .0 (i.F1.f1d v h d))) (λ n. omega (arith, t .1, i.W0.due-le v))) act.flag
+  bit-due h = ⊎-elim (λ t. t .1 ∙ sym (i.finds.f1 v (t .0) .f1u))
+      (λ t. by-eq (s.due v) 1 (λ d. absurd (t .0 (i.finds.f1d v h d))) (λ n. omega (arith, t .1, i.ranges.due-le v))) act.flag
 
   pub find-due : s.due v ≢ 1 → s.st v ≢ 1
-  find-due n f = n (i.F1.f1 v f .f1u)
+  find-due n f = n (i.finds.f1 v f .f1u)
 
   -- ---- decisions
 
@@ -169,13 +169,13 @@ module _ {p : Network} {s : ProtocolState} (i : Inv p s) {u v k l x : ℕ} {r : 
   dec-new d z j n h = subst (λ a. (s.dk a ≡ d) × (s.dn a ≡ z) × (s.de a ≡ j)) (sym (fr-out-absorb z n)) h
 
   pub half-out : (z j : ℕ) → Half S′ z j → s.fr z ≢ s.fr u
-  half-out z j h = dec-out 3 z j (i.D1.d1f v) h
+  half-out z j h = dec-out 3 z j (i.halves.d1f v) h
 
   pub half-old : (z j : ℕ) → Half S′ z j → Half s z j
   half-old z j h = dec-old 3 z j (half-out z j h) h
 
   pub changing-out : (z j : ℕ) → Changing S′ z j → s.fr z ≢ s.fr u
-  changing-out z j h = dec-out 2 z j (i.D2.d2f v) h
+  changing-out z j h = dec-out 2 z j (i.changeRoots.d2f v) h
 
   pub changing-old : (z j : ℕ) → Changing S′ z j → Changing s z j
   changing-old z j h = dec-old 2 z j (changing-out z j h) h
@@ -195,24 +195,24 @@ module _ {p : Network} {s : ProtocolState} (i : Inv p s) {u v k l x : ℕ} {r : 
       not-core : v ≡ a → k ≡ j → ⊥
       not-core y o =
           let c : GC s v ≡ k = ap s.gc (sym (fr-out-absorb v apart-absorb)) ∙ ap (λ w. GC S′ w) y ∙ g ∙ sym o in
-          let t = i.G5.g5 v v u (omega (arith, rise)) (subst (λ n. Edge p n v u) (sym c) (flip act.ends)) in
+          let t = i.cores.g5 v v u (omega (arith, rise)) (subst (λ n. Edge p n v u) (sym c) (flip act.ends)) in
           omega (arith, mark-v, t .0 .0, ap (s.mark v) c)
 
       in-d : s.fr a ≢ s.fr u
       in-d d =
           let c : GC s v ≡ j = ap s.gc (sym (fr-in-absorb a d)) ∙ g in
-          let t = i.G5.g5 v a b (omega (arith, rise)) (subst (λ n. Edge p n a b) (sym c) e) in
+          let t = i.cores.g5 v a b (omega (arith, rise)) (subst (λ n. Edge p n a b) (sym c) e) in
           apart-absorb (sym (t .1) ∙ d)
 
   -- nothing was owed over k
   pub owe-v : s.owe v k ≡ 0
-  owe-v = by-eq (s.owe v k) 0 (λ e. e) (λ n. absurd (omega (arith, i.F4c.f4y k v u (flip act.ends) n .1 .0, mark-v)))
+  owe-v = by-eq (s.owe v k) 0 (λ e. e) (λ n. absurd (omega (arith, i.owing.f4y k v u (flip act.ends) n .1 .0, mark-v)))
 
   pub bit-le-absorb : x ≤ 1
   bit-le-absorb = ⊎-elim (λ t. omega (arith, t .1)) (λ t. omega (arith, t .1)) act.flag
 
   pub no-ib : s.ib v ≢ k
-  no-ib z = omega (arith, mark-v, i.U1.u1i k v u (flip act.ends) z .0)
+  no-ib z = omega (arith, mark-v, i.inbounds.u1i k v u (flip act.ends) z .0)
 
   -- k was joined from neither end
   pub not-joined : (j a b : ℕ) → Edge p j a b → Jn s j a b → k ≢ j
@@ -221,7 +221,7 @@ module _ {p : Network} {s : ProtocolState} (i : Inv p s) {u v k l x : ℕ} {r : 
 
   -- no Initiate was on its way to u
   pub no-init : (n g y : ℕ) → ¬ In (initiate n g y) (s.ch v k)
-  no-init n g y h = omega (arith, mark-v, i.I1.i1 k v u n g y (flip act.ends) h .i1j .0)
+  no-init n g y h = omega (arith, mark-v, i.initiates.i1 k v u n g y (flip act.ends) h .i1j .0)
 
   -- a Connect that is left over a joined edge is in another fragment than D
   pub call-out : (j w y n : ℕ) → Edge p j w y → In (connect n) (s.ch w j) → Jn s j w y → s.fr w ≢ s.fr u

@@ -1,4 +1,4 @@
--- v serves Initiate (l, f, x) from u over k: the clauses on Reports, on what is owed, and on best weights (`R1-tell`, `F4c-tell`, `B2-tell`).
+-- v serves Initiate (l, f, x) from u over k: the clauses on Reports, on what is owed, and on best weights (`reports-tell`, `owing-tell`, `bests-tell`).
 use Rattle.protocol.specs.Prelude.{ℕ, suc, _≤_, _<_, arith, _≡_, refl, sym, ap, subst, _∙_, _≢_, _⊎_, inl, inr, ⊎-elim, List, upd-other, by-eq}
 use Rattle.protocol.specs.Prelude.{sumL, Msg, connect, initiate, report, Network, Edge, key, rank, flip, ends-irr, ProtocolState, fill-elim}
 use Rattle.protocol.specs.Prelude.{fill-else, isCI, isR, kinds, no-calls, some-report, In, next, Bef, tails, pop-bef, fan-bef, GL, GC, Inf, Jn, Outst, Covered}
@@ -25,7 +25,7 @@ module _ {p : Network} {s : ProtocolState} (i : Inv p s) {u v k l f x a b d e : 
         inl (
           F.inf-v-tell i act q,
           no-calls (S′.ch u k) (λ y h. F.behind-tell i act (connect y) h)
-              (λ y z w h. omega (arith, q, F.behind-tell i act (initiate y z w) h, i.I1.i1 k u v y z w act.ends (back y z w h) .i1g)),
+              (λ y z w h. omega (arith, q, F.behind-tell i act (initiate y z w) h, i.initiates.i1 k u v y z w act.ends (back y z w h) .i1g)),
         ),
       )
     where
@@ -61,10 +61,10 @@ module _ {p : Network} {s : ProtocolState} (i : Inv p s) {u v k l f x a b d e : 
     ⊎-elim (λ c. inl (omega (arith, c, ap (key p) (F.bw-else i act y z)))) (λ c. inr (c .0, F.bw-else i act y z ∙ c .1, c .2, c .3)) (t .5),
   )
 
-  pub R1-tell : Reports p S′
-  R1-tell = record {
-    r1r = λ j w y n g h. i.R1.r1r j w y n g (old isR refl (omega arith) w j h);
-    r1j = λ j w y n g h. i.R1.r1j j w y n g (old isR refl (omega arith) w j h);
+  pub reports-tell : Reports p S′
+  reports-tell = record {
+    r1r = λ j w y n g h. i.reports.r1r j w y n g (old isR refl (omega arith) w j h);
+    r1j = λ j w y n g h. i.reports.r1j j w y n g (old isR refl (omega arith) w j h);
     r1 = λ j w y n g h. let o = old isR refl (omega arith) w j h in
         by-eq v y (λ z. inr (inl (to-v j w y n g z o)))
         (λ z. by-eq v w
@@ -82,12 +82,12 @@ module _ {p : Network} {s : ProtocolState} (i : Inv p s) {u v k l f x a b d e : 
           ap (sumL isCI) q ∙ c .7,
         ))
         (⊎-elim (λ c. inr (inl (core-else j w y n t z q c))) (λ c. inr (inr (spent j w y n z c))))
-        (i.R1.r1 j w y n g o)));
+        (i.reports.r1 j w y n g o)));
     r1c = λ j w y n g h c q t. let o = old isR refl (omega arith) w j h in
         F.inf-tell i act y c (λ z e. to-v j w y n g z o)
         (λ z e. by-eq v w
         (λ d. absurd (F.report-from i act j y n (ends-at d g) (subst (λ c. In (report n) (s.ch c j)) (sym d) o) .1 e))
-        (λ d. core-else j w y n d z (F.off-tell i act j w y g d z) (i.R1.r1c j w y n g o e q t)));
+        (λ d. core-else j w y n d z (F.off-tell i act j w y g d z) (i.reports.r1c j w y n g o e q t)));
   }
 
   -- ---- what is owed, best weights
@@ -112,8 +112,8 @@ module _ {p : Network} {s : ProtocolState} (i : Inv p s) {u v k l f x a b d e : 
       (t .1)))
       (λ z o. inl (o, ⊎-elim (λ y. inl (sym (F.st-else i act c z) ∙ y)) (λ y. inr (omega (arith, same isR refl c j))) (t .1)))
 
-  pub F4c-tell : Owing p S′
-  F4c-tell = record {
+  pub owing-tell : Owing p S′
+  owing-tell = record {
     f4y = λ j w c g. fill-elim (λ y. y ≢ 0 → Inf S′ w × Jn s j w c × (S′.ib w ≢ j) × Outst S′ c j) s.owe v kid x w j
         (λ z h n. let q = F.kid-yes i act j h in
         let o = ends-at z g in
@@ -123,14 +123,14 @@ module _ {p : Network} {s : ProtocolState} (i : Inv p s) {u v k l f x a b d e : 
           λ t. q .0 (sym (F.ib-v-tell i act) ∙ t),
           inr (F.is-low i act c (ends-irr p o) (F.kid-low i act j c o (q .0) (q .1)), sym (F.kid-due i act j c o (q .0) (q .1)) ∙ F.due-v i act n),
         ))
-        (λ z n. let t = i.F4c.f4y j w c g n in (F.inf-stay i act w (t .0), t .1, λ o. t .2 (sym (F.ib-else i act w (F.inf-else i act w (t .0))) ∙ o), outst-new c j (t .3)));
+        (λ z n. let t = i.owing.f4y j w c g n in (F.inf-stay i act w (t .0), t .1, λ o. t .2 (sym (F.ib-else i act w (F.inf-else i act w (t .0))) ∙ o), outst-new c j (t .3)));
     f4n = λ j w c g h o n t. F.inf-tell i act w h
         (λ z q. let y : k ≢ j = λ y. n (ap S′.ib (sym z) ∙ F.ib-v-tell i act ∙ y) in
         let e : s.mark v j ≡ 1 = ap (λ n. s.mark n j) z ∙ o .0 in
         let a = ends-at z g in
         ap (λ y. S′.owe y j) (sym z) ∙ fill-here v kid j (F.kid-on i act j y e) s.owe x ∙ ok.i1d q ∙ F.kid-due i act j c a y e
         ∙ ⊎-elim (λ d. F.inf-tell i act c (d .0) (λ b f. absurd (ends-irr p a b)) (λ b f. absurd (omega (arith, f .1, F.kid-low i act j c a y e)))) (λ d. d .1) t)
-        (λ z q. fill-else s.owe v kid x w j z ∙ i.F4c.f4n j w c g q o (λ e. n (F.ib-else i act w z ∙ e)) (outst-old c j w g q t));
+        (λ z q. fill-else s.owe v kid x w j z ∙ i.owing.f4n j w c g q o (λ e. n (F.ib-else i act w z ∙ e)) (outst-old c j w g q t));
   }
 
   cover : (w n : ℕ) → Covered p s w n → Covered p S′ w n
@@ -147,14 +147,14 @@ module _ {p : Network} {s : ProtocolState} (i : Inv p s) {u v k l f x a b d e : 
         omega (arith, t .5, ap (key p) o),
       )
 
-  pub B2-tell : Bests p S′
-  B2-tell = record {
+  pub bests-tell : Bests p S′
+  bests-tell = record {
     b1e = λ w h n o. F.inf-tell i act w h
         (λ z q. absurd (n (ap S′.bw (sym z) ∙ F.bw-v i act)))
         (λ z q.
         let y = F.bw-else i act w z in
         let e = F.be-else i act w z in
-        let t = i.B2.b1e w q (λ c. n (y ∙ c)) (λ c. o (e ∙ c ∙ sym y)) in
+        let t = i.bests.b1e w q (λ c. n (y ∙ c)) (λ c. o (e ∙ c ∙ sym y)) in
         let c = F.inf-else i act (t .0) (t .4) in
         subst (λ j. (c : ℕ) × Edge p j w c × Jn s j w c × (S′.ib w ≢ j) × Inf S′ c × (S′.ib c ≡ j) × (S′.bw c ≡ S′.bw w) × (S′.st c ≡ 2) × (sumL isR (S′.ch c j) ≡ 0)) (sym e) (
           t .0,
@@ -173,5 +173,5 @@ module _ {p : Network} {s : ProtocolState} (i : Inv p s) {u v k l f x a b d e : 
         (λ q. inl (subst (λ n. S′.lev n < GL s n) z q, t .1)) (due-now (ap s.due z ∙ t .1)))
         (λ z. inl (F.is-low i act w z (t .0), t .1)))
         (⊎-elim (λ t. absurd (omega (arith, act.idle .0))) (⊎-elim (λ t. inr (inr (inl t))) (λ t. inr (inr (inr (cover w (rank p j) t))))))
-        (i.B2.b2 j w y g h c o);
+        (i.bests.b2 j w y g h c o);
   }
