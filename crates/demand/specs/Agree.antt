@@ -30,8 +30,8 @@ module _ (p : Plan) (a : Accepted p) (s : State) (g : Good p a s) where
   pub branch-tree : (v k : ℕ) → markAt p s v k ≡ BRANCH → TreeLink p k
   branch-tree v k m =
       let q : g.at.mark v k ≡ 1 = mark-of v k ∙ m in
-      let e = g.reach.inv.marks.own v k (λ z. omega arith) in
-      g.reach.inv.marks.m5 k v (e .0) (e .1) q
+      let e = g.reach.inv.markings.own v k (λ z. omega arith) in
+      g.reach.inv.markings.m5 k v (e .0) (e .1) q
 
   -- at rest, with module w awake: its part is finished
   module _ (w : ℕ) (k : Awake p s w) (z : s .words ≡ []) where

@@ -52,7 +52,7 @@ module _ (p : Plan) (a : Accepted p) where
       -- marks are of own links only (marks)
       pub no-mark : (k : ℕ) → isOwn p v k ≡ false → w .mark k ≡ 0
       no-mark k o = by-eq (w .mark k) 0 (λ e. e)
-          (λ n. absurd (true≢false (sym (net-ends-own p a (f.reach.inv.marks.own v k (λ e. n (sym (mark-at {w = w} (record { is = f.is }) k) ∙ e)) .1)) ∙ o)))
+          (λ n. absurd (true≢false (sym (net-ends-own p a (f.reach.inv.markings.own v k (λ e. n (sym (mark-at {w = w} (record { is = f.is }) k) ∙ e)) .1)) ∙ o)))
 
       pub good-after : (s′ : State) → s′ .sent ≡ s .sent + length (w .sends) → view p s′ ≡ placeIn r v w → Good p a s′
       good-after s′ e q = record { at = f.to; is = f.is ∙ sym q; idle = f.idle; reach = subst (Reach (net p a) (f.to)) (sym e) (f.reach) }

@@ -87,7 +87,7 @@ module _ {p : Network} {s : ProtocolState} (i : Inv p s) where
   -- ---- joined edges
 
   pub joined-level : (k v u : ℕ) → Edge p k v u → Jn s k v u → 1 ≤ GL s v
-  joined-level k v u e j = by-eq (GL s v) 0 (λ z. absurd (ends-irr p e (sym (i.sizes.g4s v u z (sym (i.marks.m3 k v u e j)))))) (λ n. omega arith)
+  joined-level k v u e j = by-eq (GL s v) 0 (λ z. absurd (ends-irr p e (sym (i.sizes.g4s v u z (sym (i.markings.m3 k v u e j)))))) (λ n. omega arith)
 
   -- ---- the decision, with its ends
 
@@ -120,7 +120,7 @@ module _ {p : Network} {s : ProtocolState} (i : Inv p s) where
   pub up-other : (k v u : ℕ) → Edge p k v u → Inf s v → s.ib v ≡ k → GC s v ≢ k → s.ib u ≢ k
   up-other k v u e h b n c =
       let t = i.parents.t1p k v u e h b n in
-      let g : GC s u ≢ k = λ z. n (ap s.gc (i.marks.m3 k v u e (i.inbounds.u1i k v u e b)) ∙ z) in
+      let g : GC s u ≢ k = λ z. n (ap s.gc (i.markings.m3 k v u e (i.inbounds.u1i k v u e b)) ∙ z) in
       let r = i.parents.t1p k u v (flip e) (t .0) c g in
       omega (arith, t .1, r .1)
 
@@ -164,7 +164,7 @@ module _ {p : Network} {s : ProtocolState} (i : Inv p s) where
   -- a Report to a node that is not Find, in a decided fragment, is spent
   pub decided-report : (k u v w : ℕ) → Edge p k u v → DK s v ≢ 0 → In (report w) (s.ch u k) → Spent p s u v k w
   decided-report k u v w e d n = ⊎-elim (λ c. absurd (decided-find v d (c .6)))
-      (λ t. ⊎-elim (λ c. absurd (d (sym (ap s.dk (i.marks.m3 k u v e (i.reports.r1j k u v w e n))) ∙ c .1))) (λ c. c) t)
+      (λ t. ⊎-elim (λ c. absurd (d (sym (ap s.dk (i.markings.m3 k u v e (i.reports.r1j k u v w e n))) ∙ c .1))) (λ c. c) t)
       (i.reports.r1 k u v w e n)
 
   -- no Test is from a decided fragment

@@ -6,7 +6,7 @@ use mathlib.Core.List.{List}
 use Rattle.format_message.specs.Msg.{Msg}
 use Rattle.protocol.specs.Network.{Network}
 use Rattle.protocol.specs.State.{ProtocolState, set-te, set-mark, set-ch, set-ot, set-op}
-use Rattle.protocol.specs.Fragments.{Ranges, Cores, Sleepers, Marks, Inbounds}
+use Rattle.protocol.specs.Fragments.{Ranges, Cores, Sleepers, Markings, Inbounds}
 use Rattle.protocol.specs.Decisions.{Halves, ChangeRoots, Rootings, Finishes}
 use Rattle.protocol.specs.Search.{Kids, Pending, Tests}
 use Rattle.protocol.specs.Traffic.{Hush, Tokens, Connects, Initiates, Telling, Testing, Answers, Reports, Owing, Bests, Ordered}
@@ -27,7 +27,7 @@ pub record MarkClauses (p : Network) (s : ProtocolState) (m : ℕ → ℕ → �
   pub ranges : Ranges s.st s.halt s.due s.dk m
   pub cores : Cores p s.fr s.gl s.gc m
   pub sleepers : Sleepers p s.st s.fr s.gl s.dk s.due s.bw s.be s.ub s.halt m
-  pub marks : Marks p s.fr m
+  pub markings : Markings p s.fr m
   pub inbounds : Inbounds p s.ub s.ib m
   pub halves : Halves p s.dk s.dn s.de s.fr s.gl s.lev s.ub m
   pub changeRoots : ChangeRoots p s.dk s.dn s.de s.fr s.gl s.gc s.lev s.ib s.ub s.bw m
@@ -40,7 +40,7 @@ module _ {p : Network} {s : ProtocolState} (i : Inv p s) where
   flow = record { hush = i.hush; tokens = i.tokens; connects = i.connects; initiates = i.initiates; telling = i.telling; reports = i.reports; owing = i.owing; ordered = i.ordered }
 
   mark-clauses : MarkClauses p s s.mark
-  mark-clauses = record { ranges = i.ranges; cores = i.cores; sleepers = i.sleepers; marks = i.marks; inbounds = i.inbounds; halves = i.halves; changeRoots = i.changeRoots; rootings = i.rootings; finishes = i.finishes; kids = i.kids }
+  mark-clauses = record { ranges = i.ranges; cores = i.cores; sleepers = i.sleepers; markings = i.markings; inbounds = i.inbounds; halves = i.halves; changeRoots = i.changeRoots; rootings = i.rootings; finishes = i.finishes; kids = i.kids }
 
   -- ONE LAW for the steps of the search: marks, test edges, open procedures and channels change, and no other table
   module _ (m : ℕ → ℕ → ℕ) (te : ℕ → ℕ) (ot op : ℕ) (c : ℕ → ℕ → List Msg) where
@@ -56,7 +56,7 @@ module _ {p : Network} {s : ProtocolState} (i : Inv p s) where
       sizes = i.sizes;
       cores = k.cores;
       sleepers = k.sleepers;
-      marks = k.marks;
+      markings = k.markings;
       inbounds = k.inbounds;
       halves = k.halves;
       changeRoots = k.changeRoots;

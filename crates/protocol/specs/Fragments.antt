@@ -67,7 +67,7 @@ pub record Sleepers (p : Network) (st fr gl dk due bw be ub halt : ℕ → ℕ) 
   pub g7n : (v : ℕ) → st v ≢ ASLEEP → gl (fr v) ≡ 0 → ((k u : ℕ) → Edge p k v u → ⊥) → (dk (fr v) ≡ 4) × (halt v ≡ 1)
 
 -- marks and fragments
-pub record Marks (p : Network) (fr : ℕ → ℕ) (mark : ℕ → ℕ → ℕ) : Type 0 where
+pub record Markings (p : Network) (fr : ℕ → ℕ) (mark : ℕ → ℕ → ℕ) : Type 0 where
   -- only own edges are marked
   pub own : (v k : ℕ) → mark v k ≢ BASIC → (u : ℕ) × Edge p k v u
   -- Rejected: inside the fragment, and not Branch at the other end

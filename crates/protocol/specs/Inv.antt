@@ -1,7 +1,7 @@
 -- THE INVARIANT. Every small step keeps it; it holds at setup.
 use Rattle.protocol.specs.Network.{Network}
 use Rattle.protocol.specs.State.{ProtocolState}
-use Rattle.protocol.specs.Fragments.{Ranges, Values, Levels, Sizes, Cores, Sleepers, Marks, Inbounds}
+use Rattle.protocol.specs.Fragments.{Ranges, Values, Levels, Sizes, Cores, Sleepers, Markings, Inbounds}
 use Rattle.protocol.specs.Decisions.{Halves, ChangeRoots, Rootings, Finishes}
 use Rattle.protocol.specs.Search.{Parents, Kids, Finds, Pending, FindCounts, Tests, Weights}
 use Rattle.protocol.specs.Traffic.{Hush, Tokens, Connects, Initiates, Telling, Testing, Answers, Reports, Owing, Bests, Ordered}
@@ -14,7 +14,7 @@ pub record Inv (p : Network) (s : ProtocolState) : Type 0 where
   pub sizes : Sizes p s.fr s.gl
   pub cores : Cores p s.fr s.gl s.gc s.mark
   pub sleepers : Sleepers p s.st s.fr s.gl s.dk s.due s.bw s.be s.ub s.halt s.mark
-  pub marks : Marks p s.fr s.mark
+  pub markings : Markings p s.fr s.mark
   pub inbounds : Inbounds p s.ub s.ib s.mark
   pub halves : Halves p s.dk s.dn s.de s.fr s.gl s.lev s.ub s.mark
   pub changeRoots : ChangeRoots p s.dk s.dn s.de s.fr s.gl s.gc s.lev s.ib s.ub s.bw s.mark

@@ -24,7 +24,7 @@ pub use Rattle.protocol.specs.Network.{Network, Edge, Tree, rank, key-no
 unfoldable pub use Rattle.protocol.specs.Network.{key}
 pub use Rattle.protocol.specs.State.{ProtocolState, setupState, set-st, set-bw, set-be, set-te, set-fc, set-halt, set-mark, set-ch}
 pub use Rattle.protocol.specs.State.{set-dk, set-dn, set-ub, set-owe, set-ot, set-op, set-oo}
-pub use Rattle.protocol.specs.Step.{Step, Idle, Blocked, FirstOwn, FirstBasic, Flag, Better, Strike, Mode, Place}
+pub use Rattle.protocol.specs.Step.{SmallStep, Idle, Blocked, FirstOwn, FirstBasic, Flag, Better, Strike, Mode, Place}
 pub use Rattle.protocol.specs.Step.{sendOver, pop, remarked, wokenUp, decided, halved, merged, absorbed, initiated, bested, rooted, reportSent}
 unfoldable pub use Rattle.protocol.specs.Step.{bulk, copy, fan, fillEdges}
 pub use Rattle.protocol.specs.Kind.{isC, isI, isCI, isT, isA, isY, isR, isK, arg1, arg2, arg3, Only, Rouse, Fits, top, kinds}

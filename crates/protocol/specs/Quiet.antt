@@ -47,7 +47,7 @@ module _ {p : Network} {s : ProtocolState} (i : Inv p s) where
             (λ b.
             let n : GC s v ≢ s.ib v = λ z. b (sym z) in
             let r = i.parents.t1p (s.ib v) v (t .0) (t .1) h refl n in
-            ih (s.dep (t .0)) (omega (arith, r .1)) (t .0) refl (sym (i.marks.m3 (s.ib v) v (t .0) (t .1) (i.inbounds.u1i (s.ib v) v (t .0) (t .1) refl)) ∙ q)
+            ih (s.dep (t .0)) (omega (arith, r .1)) (t .0) refl (sym (i.markings.m3 (s.ib v) v (t .0) (t .1) (i.inbounds.u1i (s.ib v) v (t .0) (t .1) refl)) ∙ q)
             (climb (s.ib v) v (t .0) (t .1) refl n f))
 
     pub no-find : (v : ℕ) → s.fr v ≡ s.fr x → s.st v ≢ 1
@@ -62,7 +62,7 @@ module _ {p : Network} {s : ProtocolState} (i : Inv p s) where
     along stop e q d = due-inf _ q (subst (λ z. Inf s z) (sym e) ix) d
     along (go {u = a} {v = b} j f o w) e q d =
         let both = joined-both p s.mark f o in
-        let r : s.fr b ≡ s.fr x = sym (i.marks.m3 j a b f both) ∙ q in
+        let r : s.fr b ≡ s.fr x = sym (i.markings.m3 j a b f both) ∙ q in
         inf-cases i a (λ h. due-inf a q h d)
         (λ l. inf-cases i b
         (λ h. by-eq (s.ib b) j
@@ -81,4 +81,4 @@ module _ {p : Network} {s : ProtocolState} (i : Inv p s) where
             ⊎-elim (λ z. subst (λ n. s.lev n ≡ GL s n) (sym (z .0)) (ix .1)) (λ z. subst (λ n. s.lev n ≡ GL s n) (sym (z .0)) (iy .1)) (ends-two (subst (λ n. Edge p n a b) e f) ends)
 
     pub no-due : (v : ℕ) → s.fr v ≡ s.fr x → s.due v ≢ 1
-    no-due v q = along (i.marks.m4 v x q) refl q
+    no-due v q = along (i.markings.m4 v x q) refl q

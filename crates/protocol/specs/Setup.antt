@@ -19,7 +19,7 @@ inv-setup p = record {
   sizes = record { g4 = λ v l. omega (arith, size-start p.N v l); g4s = λ v w z e. e };
   cores = record { g5r = λ v h. absurd (omega arith); g5 = λ v x y h e. absurd (omega arith) };
   sleepers = record { g6 = λ v z. record { g6g = refl; g6d = refl; g6u = refl; g6w = refl; g6e = refl }; g6m = λ v k z. refl; u1a = λ k v u e n. absurd (n refl); g7 = λ k v u e n z. absurd (n refl); g7n = λ v n z f. absurd (n refl) };
-  marks = record { own = λ v k n. absurd (n refl); m1 = λ k v u e h. absurd (omega arith); m3 = λ k v u e h. absurd (omega (arith, h .0)); m4 = λ u v e. here e; m5 = λ k v u e h. absurd (omega arith) };
+  markings = record { own = λ v k n. absurd (n refl); m1 = λ k v u e h. absurd (omega arith); m3 = λ k v u e h. absurd (omega (arith, h .0)); m4 = λ u v e. here e; m5 = λ k v u e h. absurd (omega arith) };
   inbounds = record { u1o = λ v n. absurd (n refl); u1 = λ k v u e h. absurd (edge-some p e (sym h)); u1r = λ v n. absurd (n refl); u1i = λ k v u e h. absurd (edge-some p e (sym h)); m3u = λ k v u e h. absurd (omega (arith, h .0)) };
   halves = record { m2 = λ k v u e h n. absurd (omega arith); d1f = λ v h0. absurd (omega arith); d1e = λ v h0. absurd (omega arith); d1 = λ k z y h0 h1. absurd (omega (arith, h1 .0)) };
   changeRoots = record { d2f = λ v h0. absurd (omega arith); d2e = λ v h0. absurd (omega arith); d2 = λ k u x h0 h1. absurd (omega (arith, h1 .0)) };

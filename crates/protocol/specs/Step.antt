@@ -181,58 +181,58 @@ reportSent s v k = set-op (set-due (set-st (sendOver s v k (report (s.bw v))) (u
 
 -- ---- the steps
 
-pub data Step (p : Network) (s : ProtocolState) : ProtocolState → Type 0 where
+pub data SmallStep (p : Network) (s : ProtocolState) : ProtocolState → Type 0 where
   -- (2) wakeup of a node without edges, of one whose earliest edge k is no branch at the other end y, of one where it is
   wake-lone : {v : ℕ} → Idle s → v < p.N → s.st v ≡ ASLEEP → ((k u : ℕ) → Edge p k v u → ⊥)
-      → Step p s (set-halt (set-dk (wokenUp s v) (upd s.dk (s.fr v) 4)) (upd s.halt v 1))
-  wake-half : {v k y : ℕ} → Idle s → Edge p k v y → s.st v ≡ ASLEEP → FirstOwn p v k → s.mark y k ≢ BRANCH → Step p s (halved (wokenUp s v) v k 0)
-  wake-merge : {v k y : ℕ} → Idle s → Edge p k v y → s.st v ≡ ASLEEP → FirstOwn p v k → s.mark y k ≡ BRANCH → Step p s (merged (halved (wokenUp s v) v k 0) v y k)
+      → SmallStep p s (set-halt (set-dk (wokenUp s v) (upd s.dk (s.fr v) 4)) (upd s.halt v 1))
+  wake-half : {v k y : ℕ} → Idle s → Edge p k v y → s.st v ≡ ASLEEP → FirstOwn p v k → s.mark y k ≢ BRANCH → SmallStep p s (halved (wokenUp s v) v k 0)
+  wake-merge : {v k y : ℕ} → Idle s → Edge p k v y → s.st v ≡ ASLEEP → FirstOwn p v k → s.mark y k ≡ BRANCH → SmallStep p s (merged (halved (wokenUp s v) v k 0) v y k)
   -- a put-back: the message at the head goes to a later place
   back : {u v k : ℕ} {m : Msg} (a b : List Msg) → Idle s → Edge p k u v → s.st v ≢ ASLEEP → s.ch u k ≡ m ∷ (a ++ b) → Blocked s v k m
-      → Step p s (pop s u k (a ++ (m ∷ b)))
+      → SmallStep p s (pop s u k (a ++ (m ∷ b)))
   -- (3) Connect: of a lower level; of the same level, on an edge that is not Basic
   absorb : {u v k l x : ℕ} {r : List Msg} → Idle s → Edge p k u v → s.st v ≢ ASLEEP → s.ch u k ≡ connect l ∷ r → l < s.lev v → Flag s v x
-      → Step p s (absorbed (pop s u k r) u v k x)
+      → SmallStep p s (absorbed (pop s u k r) u v k x)
   core-reply : {u v k l : ℕ} {r : List Msg} → Idle s → Edge p k u v → s.st v ≢ ASLEEP → s.ch u k ≡ connect l ∷ r → s.lev v ≤ l → s.mark v k ≢ BASIC
-      → Step p s (sendOver (pop s u k r) v k (initiate (s.lev v + 1) k 1))
+      → SmallStep p s (sendOver (pop s u k r) v k (initiate (s.lev v + 1) k 1))
   -- (4) Initiate
   tell : {u v k l f x a b d e : ℕ} {r : List Msg} → Idle s → Edge p k u v → s.ch u k ≡ initiate l f x ∷ r → Mode v x a b → Place s u v k d e
-      → Step p s (initiated p (pop s u k r) v k l f x a d e b)
+      → SmallStep p s (initiated p (pop s u k r) v k l f x a d e b)
   -- (6) Test: of another fragment; of the same; of the same over v's own test edge
   accept-test : {u v k l f : ℕ} {r : List Msg} → Idle s → Edge p k u v → s.st v ≢ ASLEEP → s.ch u k ≡ test l f ∷ r → l ≤ s.lev v → s.id v ≢ f
-      → Step p s (sendOver (pop s u k r) v k accept)
+      → SmallStep p s (sendOver (pop s u k r) v k accept)
   reject-test : {u v k l f c : ℕ} {r : List Msg} → Idle s → Edge p k u v → s.st v ≢ ASLEEP → s.ch u k ≡ test l f ∷ r → l ≤ s.lev v → s.id v ≡ f → s.te v ≢ k
-      → Strike s v k c → Step p s (sendOver (remarked (pop s u k r) v k c) v k reject)
+      → Strike s v k c → SmallStep p s (sendOver (remarked (pop s u k r) v k c) v k reject)
   crossed-test : {u v k l f c : ℕ} {r : List Msg} → Idle s → Edge p k u v → s.st v ≢ ASLEEP → s.ch u k ≡ test l f ∷ r → l ≤ s.lev v → s.id v ≡ f → s.te v ≡ k
-      → Strike s v k c → Step p s (set-ot (remarked (pop s u k r) v k c) (suc v))
+      → Strike s v k c → SmallStep p s (set-ot (remarked (pop s u k r) v k c) (suc v))
   -- (7) Accept, (8) Reject
   accepted : {u v k b e : ℕ} {r : List Msg} → Idle s → Edge p k u v → s.ch u k ≡ accept ∷ r → Better p s v k k b e
-      → Step p s (set-op (bested (set-te (pop s u k r) (upd s.te v none)) v b e) (suc v))
+      → SmallStep p s (set-op (bested (set-te (pop s u k r) (upd s.te v none)) v b e) (suc v))
   rejected : {u v k c : ℕ} {r : List Msg} → Idle s → Edge p k u v → s.ch u k ≡ reject ∷ r → Strike s v k c
-      → Step p s (set-ot (remarked (pop s u k r) v k c) (suc v))
+      → SmallStep p s (set-ot (remarked (pop s u k r) v k c) (suc v))
   -- (10) Report: of a child; between the ends of the core, where it does nothing, halts, or decides
   child-report : {u v k w b e : ℕ} {r : List Msg} → Idle s → Edge p k u v → s.ch u k ≡ report w ∷ r → s.ib v ≢ k → Better p s v w k b e
-      → Step p s (set-op (set-owe (set-fc (bested (pop s u k r) v b e) (upd s.fc v (s.fc v - 1))) (upd2 s.owe v k 0)) (suc v))
+      → SmallStep p s (set-op (set-owe (set-fc (bested (pop s u k r) v b e) (upd s.fc v (s.fc v - 1))) (upd2 s.owe v k 0)) (suc v))
   core-nothing : {u v k w : ℕ} {r : List Msg} → Idle s → Edge p k u v → s.ch u k ≡ report w ∷ r → s.ib v ≡ k → s.st v ≢ FIND → key p w ≤ key p (s.bw v)
-      → (w ≢ none) ⊎ (s.bw v ≢ none) → Step p s (pop s u k r)
+      → (w ≢ none) ⊎ (s.bw v ≢ none) → SmallStep p s (pop s u k r)
   core-halt : {u v k w : ℕ} {r : List Msg} → Idle s → Edge p k u v → s.ch u k ≡ report w ∷ r → s.ib v ≡ k → s.st v ≢ FIND → w ≡ none → s.bw v ≡ none
-      → Step p s (set-halt (set-dk (pop s u k r) (upd s.dk (s.fr v) 4)) (upd s.halt v 1))
+      → SmallStep p s (set-halt (set-dk (pop s u k r) (upd s.dk (s.fr v) 4)) (upd s.halt v 1))
   decide : {u v k w : ℕ} {r : List Msg} → Idle s → Edge p k u v → s.ch u k ≡ report w ∷ r → s.ib v ≡ k → s.st v ≢ FIND → key p (s.bw v) < key p w
-      → Step p s (rooted (pop s u k r) v)
+      → SmallStep p s (rooted (pop s u k r) v)
   -- (12) Change-root
-  change-root : {u v k : ℕ} {r : List Msg} → Idle s → Edge p k u v → s.ch u k ≡ change ∷ r → Step p s (rooted (pop s u k r) v)
+  change-root : {u v k : ℕ} {r : List Msg} → Idle s → Edge p k u v → s.ch u k ≡ change ∷ r → SmallStep p s (rooted (pop s u k r) v)
   -- (5) procedure test
   test-next : {v k u : ℕ} → s.ot ≡ suc v → s.op ≡ 0 → s.oo ≡ 0 → Edge p k v u → FirstBasic p s v k
-      → Step p s (set-ot (set-te (sendOver s v k (test (s.lev v) (s.id v))) (upd s.te v k)) 0)
+      → SmallStep p s (set-ot (set-te (sendOver s v k (test (s.lev v) (s.id v))) (upd s.te v k)) 0)
   test-none : {v : ℕ} → s.ot ≡ suc v → s.op ≡ 0 → s.oo ≡ 0 → ((k u : ℕ) → Edge p k v u → s.mark v k ≢ BASIC)
-      → Step p s (set-op (set-ot (set-te s (upd s.te v none)) 0) (suc v))
+      → SmallStep p s (set-op (set-ot (set-te s (upd s.te v none)) 0) (suc v))
   -- (9) procedure report
-  report-now : {v k u : ℕ} → s.ot ≡ 0 → s.op ≡ suc v → s.oo ≡ 0 → Edge p k v u → s.ib v ≡ k → s.fc v ≡ 0 → s.te v ≡ none → Step p s (reportSent s v k)
-  report-later : {v : ℕ} → s.ot ≡ 0 → s.op ≡ suc v → s.oo ≡ 0 → (s.fc v ≢ 0) ⊎ (s.te v ≢ none) → Step p s (set-op s 0)
+  report-now : {v k u : ℕ} → s.ot ≡ 0 → s.op ≡ suc v → s.oo ≡ 0 → Edge p k v u → s.ib v ≡ k → s.fc v ≡ 0 → s.te v ≡ none → SmallStep p s (reportSent s v k)
+  report-later : {v : ℕ} → s.ot ≡ 0 → s.op ≡ suc v → s.oo ≡ 0 → (s.fc v ≢ 0) ⊎ (s.te v ≢ none) → SmallStep p s (set-op s 0)
   -- (11) procedure change-root, for best edge k
   root-branch : {v k c : ℕ} → s.ot ≡ 0 → s.op ≡ 0 → s.oo ≡ suc v → Edge p k v c → s.be v ≡ k → s.mark v k ≡ BRANCH
-      → Step p s (set-oo (decided (set-ub (sendOver s v k change) (upd s.ub v k)) v 2 v k) 0)
+      → SmallStep p s (set-oo (decided (set-ub (sendOver s v k change) (upd s.ub v k)) v 2 v k) 0)
   root-half : {v k y : ℕ} → s.ot ≡ 0 → s.op ≡ 0 → s.oo ≡ suc v → Edge p k v y → s.be v ≡ k → s.mark v k ≢ BRANCH → s.mark y k ≢ BRANCH
-      → Step p s (set-oo (halved s v k (s.lev v)) 0)
+      → SmallStep p s (set-oo (halved s v k (s.lev v)) 0)
   root-merge : {v k y : ℕ} → s.ot ≡ 0 → s.op ≡ 0 → s.oo ≡ suc v → Edge p k v y → s.be v ≡ k → s.mark v k ≢ BRANCH → s.mark y k ≡ BRANCH
-      → Step p s (set-oo (merged (halved s v k (s.lev v)) v y k) 0)
+      → SmallStep p s (set-oo (merged (halved s v k (s.lev v)) v y k) 0)

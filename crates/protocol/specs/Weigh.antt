@@ -77,7 +77,7 @@ module _ {p : Network} {s : ProtocolState} (i : Inv p s) {u v w k b e : ℕ} (ca
     d2f = i.changeRoots.d2f;
     d2e = i.changeRoots.d2e;
     d2 = λ j a x f h. let t = i.changeRoots.d2 j a x f h in
-        let z = bw-decided x (λ y. omega (arith, h .0, ap s.dk (i.marks.m3 j a x f (t.d2j)))) in
+        let z = bw-decided x (λ y. omega (arith, h .0, ap s.dk (i.markings.m3 j a x f (t.d2j)))) in
         record {
           d2j = t.d2j;
           d2g = t.d2g;
@@ -132,7 +132,7 @@ module _ {p : Network} {s : ProtocolState} (i : Inv p s) {u v w k b e : ℕ} (ca
       sizes = i.sizes;
       cores = i.cores;
       sleepers = sleepers′;
-      marks = i.marks;
+      markings = i.markings;
       inbounds = i.inbounds;
       halves = i.halves;
       changeRoots = changeRoots′;

@@ -13,7 +13,7 @@ use Rattle.node.specs.Work.{Work, BRANCH, putBack, withNode, setMark, setCount,
 use Rattle.node.specs.Rules.{joinOver, countUp, onConnect}
 use Rattle.node.specs.Rules as N
 use Rattle.node.specs.laws.Rules.{count-rises, absorb-find, absorb-found, core-answers, connect-absorbed, connect-waits, connect-core}
-use Rattle.protocol.specs.Prelude.{Network, ProtocolState, Step, Blocked, pop-head, pop, absorbed}
+use Rattle.protocol.specs.Prelude.{Network, ProtocolState, SmallStep, Blocked, pop-head, pop, absorbed}
 use Rattle.protocol.specs.Step.{absorb, core-reply}
 use Rattle.protocol_invariant.specs.Safe.{reply-le}
 use Rattle.protocol_bridge.specs.Real.{Real, real, ownP}
@@ -31,7 +31,7 @@ module _ {p : Network} (keeps : Keeps p) {s : ProtocolState} {r : Real} {u v k l
   -- L < LN: the other fragment is absorbed. After it the find-count is at most the number of own edges (f4).
   absorb-find-fin : l < s.lev v → s.st v ≡ 1 → Fin p r v 0 (length (w .sends)) (N.absorb o k w) s
   absorb-find-fin lt f =
-      let step : Step p s (absorbed (pop s u k rest) u v k 1) = absorb sv.idle sv.ends sv.awake sv.head lt (inl (f, refl)) in
+      let step : SmallStep p s (absorbed (pop s u k rest) u v k 1) = absorb sv.idle sv.ends sv.awake sv.head lt (inl (f, refl)) in
       let c = s.fc v + 1 in
       let m = initiate (s.lev v) (s.id v) 1 in
       let fits : c ≤ degree o = omega (arith, fc-degree p v (keeps _ _ step sv.inv), upd-same s.fc v c) in

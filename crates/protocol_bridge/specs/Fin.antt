@@ -12,7 +12,7 @@ use Rattle.node.specs.Work.{Work, Send, start, withNode, setMark, setStatus, se
 use Rattle.node.specs.Rules.{copied, informed, woken}
 use Rattle.protocol.specs.Network.{Network, Edge}
 use Rattle.protocol.specs.State.{ProtocolState}
-use Rattle.protocol.specs.Step.{Step, Idle, pop}
+use Rattle.protocol.specs.Step.{SmallStep, Idle, pop}
 use Rattle.protocol.specs.Run.{sends, Steps, done, then}
 use Rattle.protocol.specs.Inv.{Inv}
 use Rattle.protocol_bridge.specs.Real.{Real, real, post, placeIn}
@@ -122,11 +122,11 @@ module _ {p : Network} {r : Real} {v c : ℕ} {w : Work} {s : ProtocolState} whe
   fin-over idle z a = record { to = s; n = 0; steps = done; idle = idle; answer = z; at = a; count = omega arith }
 
   -- a step, then the rest
-  pub fin-step : {s′ : ProtocolState} {b d : ℕ} (t : Step p s s′) → b + sends t ≡ d → Fin p r v c d w s′ → Fin p r v c b w s
+  pub fin-step : {s′ : ProtocolState} {b d : ℕ} (t : SmallStep p s s′) → b + sends t ≡ d → Fin p r v c d w s′ → Fin p r v c b w s
   fin-step {b} t q f = record { to = f.to; n = sends t + f.n; steps = then t (f.steps); idle = f.idle; answer = f.answer; at = f.at; count = omega (arith, f.count) }
 
   -- the last step
-  pub fin-last : {s′ : ProtocolState} {b : ℕ} (t : Step p s s′) → b + sends t ≡ length (w .sends) → Idle s′ → w .answer ≡ c → At r v w (real s′) → Fin p r v c b w s
+  pub fin-last : {s′ : ProtocolState} {b : ℕ} (t : SmallStep p s s′) → b + sends t ≡ length (w .sends) → Idle s′ → w .answer ≡ c → At r v w (real s′) → Fin p r v c b w s
   fin-last {s′} t q idle z a = record { to = s′; n = sends t + 0; steps = then t done; idle = idle; answer = z; at = a; count = omega arith }
 
 -- an equal response
@@ -146,7 +146,7 @@ resume f g =
 
 -- every small step keeps the invariant
 abbrev pub Keeps : Network → Type 0
-Keeps p = (s s′ : ProtocolState) → Step p s s′ → Inv p s → Inv p s′
+Keeps p = (s s′ : ProtocolState) → SmallStep p s s′ → Inv p s → Inv p s′
 
 pub keeps-steps : {p : Network} → Keeps p → {s s′ : ProtocolState} {n : ℕ} → Steps p s s′ n → Inv p s → Inv p s′
 keeps-steps h done i = i

@@ -15,7 +15,7 @@ use Rattle.node.specs.Work.{Work, FIND, FOUND, branches, number, onEach, withNo
 use Rattle.node.specs.Work as W
 use Rattle.node.specs.Rules.{told, copies, onInitiate, informed}
 use Rattle.node.specs.laws.Rules.{seek-tests, initiate-find, initiate-found}
-use Rattle.protocol.specs.Prelude.{Network, ProtocolState, Step, Mode, Place, GC, pop-head, pop, copy, fan, initiated, copy-yes}
+use Rattle.protocol.specs.Prelude.{Network, ProtocolState, SmallStep, Mode, Place, GC, pop-head, pop, copy, fan, initiated, copy-yes}
 use Rattle.protocol.specs.Step.{tell}
 use Rattle.protocol_invariant.specs.Safe.{initiate-ok}
 use Rattle.protocol_bridge.specs.Real.{Real, real, ownP, post}
@@ -39,7 +39,7 @@ module _ {p : Network} (keeps : Keeps p) {s : ProtocolState} {r : Real} {u v k l
 
   -- they are own edges: only these are marked
   mine : (j : ℕ) → copy s₀ v k j ≡ true → o.own j ≡ true
-  mine j h = ends-own p v (sv.inv.marks.own v j (marked j h) .1)
+  mine j h = ends-own p v (sv.inv.markings.own v j (marked j h) .1)
     where
       marked : (j : ℕ) → copy s₀ v k j ≡ true → s.mark v j ≢ 0
       marked j h e = omega (arith, copy-yes s₀ v k j h .1)
@@ -86,7 +86,7 @@ module _ {p : Network} (keeps : Keeps p) {s : ProtocolState} {r : Real} {u v k l
       let e = placed .1 in
       let c = w .node .count + number o (branches k w) p.g.L in
       let mode : Mode v x (cond (eqb x 1) FIND FOUND) (suc v) = inl (h, rw h, refl) in
-      let step : Step p s (next d e (suc v)) = tell sv.idle sv.ends sv.head mode (placed .2) in
+      let step : SmallStep p s (next d e (suc v)) = tell sv.idle sv.ends sv.head mode (placed .2) in
       let i′ = keeps s (next d e (suc v)) step sv.inv in
       let is : s.fc v + x * many ≡ c = omega (arith, fc-is sv.at, number-is, ap (λ n. n * many) h) in
       let fits : c ≤ degree o = omega (arith, fc-degree p v i′, upd-same s.fc v (s.fc v + x * many)) in

@@ -13,7 +13,7 @@ use Rattle.format_message.specs.Msg.{Msg, none, accept, report, change}
 use Rattle.node.specs.Work.{Work, putBack, before, withNode, setCount, Own}
 use Rattle.node.specs.Rules.{onAccept, onReport, onChange, coreReport, better, doReport, changeRoot}
 use Rattle.node.specs.laws.Rules.{child-reports, report-child, report-waits, report-core, core-decides, core-halts, core-edge, core-idle}
-use Rattle.protocol.specs.Prelude.{Network, key, ProtocolState, Step, Blocked, Better, In, pop-head, pop, rooted, bested, set-te, set-op, set-owe, set-fc}
+use Rattle.protocol.specs.Prelude.{Network, key, ProtocolState, SmallStep, Blocked, Better, In, pop-head, pop, rooted, bested, set-te, set-op, set-owe, set-fc}
 use Rattle.protocol.specs.Step.{accepted, child-report, core-nothing, core-halt, decide, change-root}
 use Rattle.protocol.specs.Run.{sends}
 use Rattle.protocol_invariant.specs.Safe.{child-count}
@@ -49,12 +49,12 @@ pub accept-fin : {p : Network} → Keeps p → {s : ProtocolState} {r : Real} {u
 accept-fin {p} keeps {s} {r} {u} {v} {k} {rest} {w} sv =
     let b = newWeight sv k in
     let e = newEdge sv k in
-    let t : Step p s (set-op (bested (set-te (pop s u k rest) (upd s.te v none)) v b e) (suc v)) = accepted sv.idle sv.ends sv.head (chosen sv k (λ n. joins-lt sv.ends)) in
+    let t : SmallStep p s (set-op (bested (set-te (pop s u k rest) (upd s.te v none)) v b e) (suc v)) = accepted sv.idle sv.ends sv.head (chosen sv k (λ n. joins-lt sv.ends)) in
     fin-step t (omega arith) (report-fin (keeps _ _ t sv.inv) (at-best (at-test sv.at none) e b) sv.fresh (sv.idle .0) refl (sv.idle .2))
 
 -- procedure change-root follows
 rooted-fin : {p : Network} → Keeps p → {s : ProtocolState} {r : Real} {u v k : ℕ} {m : Msg} {rest : List Msg} {w : Work} → Serving p s r u v k m rest w
-    → (t : Step p s (rooted (pop s u k rest) v)) → sends t ≡ 0 → Fin p r v 0 (length (w .sends)) (changeRoot w) s
+    → (t : SmallStep p s (rooted (pop s u k rest) v)) → sends t ≡ 0 → Fin p r v 0 (length (w .sends)) (changeRoot w) s
 rooted-fin keeps sv t n = fin-step t (omega arith) (root-fin (keeps _ _ t sv.inv) sv.at sv.fresh (sv.idle .0) (sv.idle .1) refl)
 
 -- (12) Change-root
@@ -80,7 +80,7 @@ module _ {p : Network} (keeps : Keeps p) {s : ProtocolState} {r : Real} {u v k x
       let b = newWeight sv x in
       let e = newEdge sv x in
       let c = s.fc v - 1 in
-      let t : Step p s (set-op (set-owe (set-fc (bested (pop s u k rest) v b e) (upd s.fc v c)) (upd2 s.owe v k 0)) (suc v)) = child-report sv.idle sv.ends sv.head n (chosen sv x edge) in
+      let t : SmallStep p s (set-op (set-owe (set-fc (bested (pop s u k rest) v b e) (upd s.fc v c)) (upd2 s.owe v k 0)) (suc v)) = child-report sv.idle sv.ends sv.head n (chosen sv x edge) in
       fin-same (report-child o x k w (λ q. n (ib-is sv.at ∙ sym q)) ∙ (child-reports o x k w (λ q. child-count sv.inv k u v x sv.ends sv.head n (fc-is sv.at ∙ q))
       ∙ ap (λ d. doReport (withNode (better o k x (setCount (d - 1) (w .node))) w)) (sym (fc-is sv.at))))
       (fin-step t (omega arith) (report-fin (keeps _ _ t sv.inv) (at-best (at-count sv.at c) e b) sv.fresh (sv.idle .0) refl (sv.idle .2)))

@@ -13,7 +13,7 @@ use Rattle.format_message.specs.Msg.{Msg, test, accept, reject}
 use Rattle.node.specs.Work.{Work, BASIC, REJECTED, putBack, Own}
 use Rattle.node.specs.Rules.{doTest, strike, onTest, onReject}
 use Rattle.node.specs.laws.Rules.{test-waits, test-accepted, test-crossed, test-rejected}
-use Rattle.protocol.specs.Prelude.{Network, ProtocolState, Step, Blocked, Strike, pop, remarked, set-ot}
+use Rattle.protocol.specs.Prelude.{Network, ProtocolState, SmallStep, Blocked, Strike, pop, remarked, set-ot}
 use Rattle.protocol.specs.Step.{accept-test, reject-test, crossed-test, rejected}
 use Rattle.protocol_bridge.specs.Real.{Real, ownP}
 use Rattle.protocol_bridge.specs.Fin.{Fin, Keeps, Serving, fin-step, fin-last, fin-same, one-more, lev-is, id-is, te-is, mark-at, at-mark, at-send}
@@ -32,7 +32,7 @@ module _ {p : Network} {s : ProtocolState} {r : Real} {u v k : ℕ} {m : Msg} {r
   abbrev next : ProtocolState
   next = set-ot (remarked (pop s u k rest) v k (struck w k)) (suc v)
 
-struck-fin : {p : Network} → Keeps p → {s : ProtocolState} {r : Real} {u v k : ℕ} {m : Msg} {rest : List Msg} {w : Work} (sv : Serving p s r u v k m rest w) → Step p s (next sv)
+struck-fin : {p : Network} → Keeps p → {s : ProtocolState} {r : Real} {u v k : ℕ} {m : Msg} {rest : List Msg} {w : Work} (sv : Serving p s r u v k m rest w) → SmallStep p s (next sv)
     → Fin p r v 0 (length (w .sends)) (doTest (ownP p v) (strike k w)) (next sv)
 struck-fin keeps {k = k} {w = w} sv t = test-fin keeps (keeps _ _ t sv.inv) (at-mark sv.at k (struck w k)) sv.fresh refl (sv.idle .1) (sv.idle .2)
 
@@ -40,7 +40,7 @@ struck-fin keeps {k = k} {w = w} sv t = test-fin keeps (keeps _ _ t sv.inv) (at-
 pub reject-fin : {p : Network} → Keeps p → {s : ProtocolState} {r : Real} {u v k : ℕ} {rest : List Msg} {w : Work} → Serving p s r u v k reject rest w
     → Fin p r v 0 (length (w .sends)) (onReject (ownP p v) k w) s
 reject-fin {p} keeps {s} {r} {u} {v} {k} {rest} {w} sv =
-    let t : Step p s (next sv) = rejected sv.idle sv.ends sv.head (strikes sv) in
+    let t : SmallStep p s (next sv) = rejected sv.idle sv.ends sv.head (strikes sv) in
     fin-step t (omega arith) (struck-fin keeps sv t)
 
 -- (6) Test
@@ -58,7 +58,7 @@ module _ {p : Network} (keeps : Keeps p) {s : ProtocolState} {r : Real} {u v k l
 
     crossed-fin : s.id v ≡ f → s.te v ≡ k → Fin p r v 0 (length (w .sends)) (onTest o l f k w) s
     crossed-fin e h =
-        let t : Step p s (next sv) = crossed-test sv.idle sv.ends sv.awake sv.head le e h (strikes sv) in
+        let t : SmallStep p s (next sv) = crossed-test sv.idle sv.ends sv.awake sv.head le e h (strikes sv) in
         fin-same (test-crossed o l f k w low (sym e ∙ id-is sv.at) (sym (te-is sv.at) ∙ h)) (fin-step t (omega arith) (struck-fin keeps sv t))
 
     own-fin : s.id v ≡ f → s.te v ≢ k → Fin p r v 0 (length (w .sends)) (onTest o l f k w) s

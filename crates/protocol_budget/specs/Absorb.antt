@@ -20,7 +20,7 @@ module _ {p : Network} {z n : ℕ} {s : ProtocolState} (i : Inv p s) (h : Paid p
   basic : s.mark v k ≡ 0
   basic = by-eq (s.mark v k) 0 (λ e. e)
       (λ d. by-eq (s.mark v k) 1 (λ e. absurd (omega (arith, i.connects.c1 k u v l ends head e .2)))
-      (λ e. absurd (i.marks.m1 k v u (flip ends) (omega (arith, i.ranges.mark-le v k)) .1 (i.connects.c1m k u v l ends head))))
+      (λ e. absurd (i.markings.m1 k v u (flip ends) (omega (arith, i.ranges.mark-le v k)) .1 (i.connects.c1m k u v l ends head))))
 
   half : Half s u k
   half = half-at i k u v ends (i.connects.c1m k u v l ends head) basic

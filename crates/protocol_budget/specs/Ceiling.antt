@@ -1,6 +1,6 @@
 -- THE CEILING: at most N × (5 ⌊log2 N⌋ − 2) + 2 L messages for N ≥ 2, none for N ≤ 1; so at most 5 N ⌊log2 N⌋ + 2 L (`paid-low`, `sent-step`, `sent-ceiling`).
 use Rattle.protocol.specs.Prelude.{ℕ, suc, _+_, _*_, _≤_, _<_, arith, _≡_, refl, sym, ap, _∙_, _≢_, _⊎_, inl, inr, by-eq, sum-le, sum-add, none}
-use Rattle.protocol.specs.Prelude.{Network, end-lt, flip, ProtocolState, Step, setupState, GL, DK, Inf, Inv, sends, half-of, changing-of, root-of, edge-some}
+use Rattle.protocol.specs.Prelude.{Network, end-lt, flip, ProtocolState, SmallStep, setupState, GL, DK, Inf, Inv, sends, half-of, changing-of, root-of, edge-some}
 use Rattle.base.specs.Log.{log2}
 use Rattle.base.specs.laws.Log.{level-le}
 use Rattle.base.specs.Ceiling.{ceiling}
@@ -40,7 +40,7 @@ module _ {p : Network} {s : ProtocolState} (i : Inv p s) where
       changing d =
           let h = changing-of i v d in
           let o = i.changeRoots.d2 (h .1) (h .0) (h .2) (h .3) (h .4) in
-          omega (arith, way-out (h .2) (o.d2x) (o.d2w), ap s.gl (i.marks.m3 (h .1) (h .0) (h .2) (h .3) (o.d2j)), ap s.gl (h .5), e)
+          omega (arith, way-out (h .2) (o.d2x) (o.d2w), ap s.gl (i.markings.m3 (h .1) (h .0) (h .2) (h .3) (o.d2j)), ap s.gl (h .5), e)
 
       root : DK s v ≢ 1
       root d =
@@ -104,7 +104,7 @@ pub record Sent (p : Network) (s : ProtocolState) (n : ℕ) : Type 0 where
 pub sent-setup : (p : Network) → Sent p setupState 0
 sent-setup p = record { many = λ l. paid-setup p (log2 p.N) (level-le 1 p.N l); few = λ l. refl }
 
-pub sent-step : {p : Network} {s s′ : ProtocolState} {n : ℕ} → Inv p s → (t : Step p s s′) → Sent p s n → Sent p s′ (n + sends t)
+pub sent-step : {p : Network} {s s′ : ProtocolState} {n : ℕ} → Inv p s → (t : SmallStep p s s′) → Sent p s n → Sent p s′ (n + sends t)
 sent-step i t h = record { many = λ l. paid-step i t (h.many l); few = λ l. omega (arith, h.few l, lone-step l t) }
 
 -- the lower ceiling of N ≥ 2

@@ -161,7 +161,7 @@ module _ {p : Network} {z n : ℕ} {s : ProtocolState} (i : Inv p s) (h : Paid p
   root-sends =
       let r = i.rootings.f5r v oo in
       paid-half i h (s.lev v) ends (h.D .rt2 v (tb-inf i (h.H) v inf) (r .0) (omega (arith, ap s.dep (r .1)))) (tb-inf i (h.H) v inf ∙ sym (inf .1))
-      (λ a f x m. no-initiate i k y v a f x (flip ends) inf m) (λ o. outer .0 (sym (i.marks.m1 k v y ends o .0)))
+      (λ a f x m. no-initiate i k y v a f x (flip ends) inf m) (λ o. outer .0 (sym (i.markings.m1 k v y ends o .0)))
 
   pub paid-root-half : Paid p z (set-oo (halved s v k (s.lev v)) 0) (n + 1)
   paid-root-half = let h′ = root-sends in paid-keep h′ (set-oo (halved s v k (s.lev v)) 0) (h′.H) (h′.D) (h′.T) (h′.L)

@@ -119,7 +119,7 @@ module _ {p : Network} {z n : ℕ} {s : ProtocolState} (i : Inv p s) (h : Paid p
       moved a b d f g w e o = subst (λ c. In (initiate d f g) c) (sym (at2 s.ch (ends-same ends (subst (λ c. Edge p c u b) (sym e) (flip w))) e)) o
 
       no2 : s.mark v k ≢ 2
-      no2 e = i.marks.m1 k v u (flip ends) e .1 branch
+      no2 e = i.markings.m1 k v u (flip ends) e .1 branch
 
       -- an Initiate to u would be that of the core
       no-up : Jn s k u v → GC s u ≡ k → s.lev u < GL s u → ¬ In (initiate (GL s u) k 1) (s.ch v k) → s.lev u + 1 ≡ GL s u → s.due u ≡ 1 → (a d e : ℕ) → ¬ In (initiate a d e) (s.ch v k)

@@ -1,5 +1,5 @@
 -- EVERY STEP PAYS FOR WHAT IT SENDS (`paid-step`, `lone-step`).
-use Rattle.protocol.specs.Prelude.{ℕ, _+_, _≤_, arith, _≡_, refl, Network, Edge, end-lt, flip, ends-irr, ProtocolState, Step, Inv, sends}
+use Rattle.protocol.specs.Prelude.{ℕ, _+_, _≤_, arith, _≡_, refl, Network, Edge, end-lt, flip, ends-irr, ProtocolState, SmallStep, Inv, sends}
 use Rattle.protocol.specs.Step.{wake-lone, wake-half, wake-merge, back, absorb, core-reply, tell, accept-test, reject-test, crossed-test, accepted, rejected}
 use Rattle.protocol.specs.Step.{child-report, core-nothing, core-halt, decide, change-root, test-next, test-none, report-now, report-later, root-branch, root-half, root-merge}
 use Rattle.base.specs.Log.{log2}
@@ -20,7 +20,7 @@ use Rattle.protocol_budget.specs.Tell.{paid-tell}
 none-sent : {p : Network} {z n : ℕ} {s : ProtocolState} → Paid p z s n → Paid p z s (n + 0)
 none-sent h = record { tb = h.tb; rp = h.rp; ts = h.ts; rt = h.rt; lk = h.lk; H = h.H; D = h.D; T = h.T; L = h.L; bal = omega (arith, h.bal) }
 
-pub paid-step : {p : Network} {s s′ : ProtocolState} {n : ℕ} → Inv p s → (t : Step p s s′) → Paid p (log2 p.N) s n → Paid p (log2 p.N) s′ (n + sends t)
+pub paid-step : {p : Network} {s s′ : ProtocolState} {n : ℕ} → Inv p s → (t : SmallStep p s s′) → Paid p (log2 p.N) s n → Paid p (log2 p.N) s′ (n + sends t)
 paid-step i (wake-lone idle below asleep lone) h = none-sent (paid-wake-lone i h asleep)
 paid-step i (wake-half idle ends asleep first basic) h = paid-wake-half i h ends asleep
 paid-step i (wake-merge idle ends asleep first branch) h = paid-wake-merge i h ends asleep branch
@@ -47,13 +47,13 @@ paid-step i (root-half ot op oo ends best branch other) h = paid-root-half i h o
 paid-step i (root-merge ot op oo ends best branch other) h = paid-root-merge i h oo ends best branch other
 
 -- with one node at most there is no edge, and nothing is ever sent
-pub lone-step : {p : Network} {s s′ : ProtocolState} → p.N ≤ 1 → (t : Step p s s′) → sends t ≡ 0
+pub lone-step : {p : Network} {s s′ : ProtocolState} → p.N ≤ 1 → (t : SmallStep p s s′) → sends t ≡ 0
 lone-step {p} l t = which t
   where
     no-edge : {k u v : ℕ} → Edge p k u v → ⊥
     no-edge {u = u} {v = v} e = ends-irr p e (omega (arith, end-lt p e, end-lt p (flip e)))
 
-    which : {s s′ : ProtocolState} (t : Step p s s′) → sends t ≡ 0
+    which : {s s′ : ProtocolState} (t : SmallStep p s s′) → sends t ≡ 0
     which (wake-lone a b c d) = refl
     which (wake-half a e c d o) = absurd (no-edge e)
     which (wake-merge a e c d o) = absurd (no-edge e)

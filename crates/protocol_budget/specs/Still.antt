@@ -36,7 +36,7 @@ module _ {p : Network} {z n : ℕ} {s : ProtocolState} (i : Inv p s) (h : Paid p
   was {u} {v} {k} {w} e q f l =
       let o = pop-head s.ch u k q in
       ⊎-elim (λ t. absurd (f (t .6)))
-      (⊎-elim (λ t. inl (sym (ap s.dk (i.marks.m3 k u v e (i.reports.r1j k u v w e o))) ∙ t .1))
+      (⊎-elim (λ t. inl (sym (ap s.dk (i.markings.m3 k u v e (i.reports.r1j k u v w e o))) ∙ t .1))
       (λ t. ⊎-elim (λ y. absurd (omega arith)) (λ y. inr (y .2, y .0, y .1)) (t .5)))
       (i.reports.r1 k u v w e o)
 
@@ -59,7 +59,7 @@ module _ {p : Network} {z n : ℕ} {s : ProtocolState} (i : Inv p s) (h : Paid p
   paid-change-root {u} {v} {k} {r} e q =
       let changing = i.tokens.k1 k u v e (pop-head s.ch u k q) in
       let o = i.changeRoots.d2 k u v e changing in
-      let same = i.marks.m3 k u v e (o.d2j) in
+      let same = i.markings.m3 k u v e (o.d2j) in
       let deep = i.parents.t1p k v u (flip e) (o.d2x) (o.d2b) (λ y. o.d2g (ap s.gc same ∙ y)) .1 in
       let d : DK s v ≡ 2 = ap s.dk (sym same) ∙ changing .0 in
       let dn : s.dn (s.fr v) ≡ u = ap s.dn (sym same) ∙ changing .1 in

@@ -56,7 +56,7 @@ module _ {p : Network} {z n : ℕ} {s : ProtocolState} (i : Inv p s) (h : Paid p
   kid-of : (w : ℕ) → kid w ≡ true → Edge p (s.ub w) v w
   kid-of w c =
       let t = copy-yes s₁ v k (s.ub w) c in
-      let y = i.marks.own v (s.ub w) (λ o. omega (arith, t .1)) in
+      let y = i.markings.own v (s.ub w) (λ o. omega (arith, t .1)) in
       let g = i.inbounds.u1o w (λ o. edge-some p (y .1) o) in
       ⊎-elim (λ o. absurd (t .0 (ap s.ub (sym (o .0)) ∙ said .i1u))) (λ o. subst (λ c. Edge p (s.ub w) v c) (o .1) (y .1)) (ends-two (y .1) (g .1))
 
@@ -216,7 +216,7 @@ module _ {p : Network} {z n : ℕ} {s : ProtocolState} (i : Inv p s) (h : Paid p
   copies = sum-map p.g.L p.N (λ j. bit (copy s₁ v k j)) s.ub (λ j o c. bool-cases (copy s₁ v k j) (λ t. hit j t) (λ t. absurd (c (ap bit t))))
     where
       hit : (j : ℕ) → copy s₁ v k j ≡ true → (w : ℕ) × (w < p.N) × (s.ub w ≡ j)
-      hit j t = let y = i.marks.own v j (λ o. omega (arith, copy-yes s₁ v k j t .1)) in (y .0, end-lt p (flip (y .1)), child j (y .0) (y .1) t .0)
+      hit j t = let y = i.markings.own v j (λ o. omega (arith, copy-yes s₁ v k j t .1)) in (y .0, end-lt p (flip (y .1)), child j (y .0) (y .1) t .0)
 
   pub paid-tell : Paid p z S′ (n + sum p.g.L (λ j. bit (copy s₁ v k j)))
   unfolding ts′ rt′ rp′

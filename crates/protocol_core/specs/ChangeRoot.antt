@@ -16,7 +16,7 @@ module _ {p : Network} {s : ProtocolState} (i : Inv p s) {u v k : ℕ} {r : List
   changing-ok = i.changeRoots.d2 k u v ends changing
 
   inside : s.fr u ≡ s.fr v
-  inside = i.marks.m3 k u v ends (changing-ok .d2j)
+  inside = i.markings.m3 k u v ends (changing-ok .d2j)
 
   pub dk : DK s v ≡ 2
   dk = sym (ap s.dk inside) ∙ changing .0
@@ -53,7 +53,7 @@ module _ {p : Network} {s : ProtocolState} (i : Inv p s) {u v k : ℕ} {r : List
     no-due = λ x e. i.finishes.d5 x (dk-of x e);
     silent = omega (arith, pop-le s.ch u k q isR u k, silent);
     no-token = no-token;
-    spent = λ j a b n e f o. let l = pop-in s.ch u k q a j o in decided-report i j a b n e (dk-of b (sym (i.marks.m3 j a b e (i.reports.r1j j a b n e l)) ∙ f)) l;
+    spent = λ j a b n e f o. let l = pop-in s.ch u k q a j o in decided-report i j a b n e (dk-of b (sym (i.markings.m3 j a b e (i.reports.r1j j a b n e l)) ∙ f)) l;
   }
 
   pub inv-change-root : Inv p (rooted (pop s u k r) v)

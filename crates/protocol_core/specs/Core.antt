@@ -14,7 +14,7 @@ module _ {p : Network} {s : ProtocolState} (i : Inv p s) {u v k w : ℕ} {r : Li
   report-joined = i.reports.r1j k u v w ends report-in
 
   pub report-inside : s.fr u ≡ s.fr v
-  report-inside = i.marks.m3 k u v ends report-joined
+  report-inside = i.markings.m3 k u v ends report-joined
 
   -- the receiver of a core end's Report is informed: its Initiate would stand ahead
   core-inf : CoreEnds s u v k w → Inf s v
@@ -101,7 +101,7 @@ module _ {p : Network} {s : ProtocolState} (i : Inv p s) {u v k w : ℕ} {r : Li
     report-core : (j a b n : ℕ) → Edge p j a b → s.fr a ≡ s.fr v → In (report n) (s.ch a j)
         → ((((a ≡ u) × (b ≡ v)) ⊎ ((a ≡ v) × (b ≡ u))) × (j ≡ k) × (s.bw a ≡ n)) ⊎ Spent p s a b j n
     report-core j a b n e f o = ⊎-elim
-        (λ t. absurd (none-find b (sym (i.marks.m3 j a b e (i.reports.r1j j a b n e o)) ∙ f) (t .6)))
+        (λ t. absurd (none-find b (sym (i.markings.m3 j a b e (i.reports.r1j j a b n e o)) ∙ f) (t .6)))
         (⊎-elim
         (λ t. let z : j ≡ k = sym (t .0) ∙ ap s.gc f ∙ core-v in inl (same-edge e ends z, z, t .4))
         (λ t. inr t))

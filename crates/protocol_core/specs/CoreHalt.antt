@@ -47,7 +47,7 @@ module _ {p : Network} {s : ProtocolState} (i : Inv p s) {u v k w : ℕ} {r : Li
     t .2,
     t .3,
     λ m z. t .4 m (pop-bef s.ch u k q a j z),
-    ⊎-elim (λ l. inl l) (λ l. inr (l .0, l .1, dk-in b (sym (i.marks.m3 j a b e (i.reports.r1j j a b n e (pop-in s.ch u k q a j o))) ∙ f), l .3)) (t .5),
+    ⊎-elim (λ l. inl l) (λ l. inr (l .0, l .1, dk-in b (sym (i.markings.m3 j a b e (i.reports.r1j j a b n e (pop-in s.ch u k q a j o))) ∙ f), l .3)) (t .5),
   )
 
   -- the fragment is undecided: v's own Report waits, and says none
@@ -100,7 +100,7 @@ module _ {p : Network} {s : ProtocolState} (i : Inv p s) {u v k w : ℕ} {r : Li
     halt-yes = i.tokens.d4r k u v ends (ap s.gc inside ∙ over .1) (ap s.dk inside ∙ over .0) level-u;
     spent = λ j a b n e f o.
         let l = pop-in s.ch u k q a j o in
-        still j a b n e f o (decided-report i j a b n e (dk-of b (sym (i.marks.m3 j a b e (i.reports.r1j j a b n e l)) ∙ f)) l);
+        still j a b n e f o (decided-report i j a b n e (dk-of b (sym (i.markings.m3 j a b e (i.reports.r1j j a b n e l)) ∙ f)) l);
   }
     where
       over : (DK s v ≡ 4) × (GC s v ≡ k)

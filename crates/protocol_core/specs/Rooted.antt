@@ -95,7 +95,7 @@ module _ {p : Network} {s : ProtocolState} (i : Inv p s) {u v k : ℕ} {m : Msg}
   }
     where
       within : (j a b n : ℕ) → Edge p j a b → s.fr a ≡ s.fr v → In (report n) (upd2 s.ch u k r a j) → s.fr v ≡ s.fr b
-      within j a b n e f o = sym f ∙ i.marks.m3 j a b e (i.reports.r1j j a b n e (pop-in s.ch u k q a j o))
+      within j a b n e f o = sym f ∙ i.markings.m3 j a b e (i.reports.r1j j a b n e (pop-in s.ch u k q a j o))
 
   pub inv-rooted : Inv p (rooted (pop s u k r) v)
   inv-rooted = inv-rule i q late ruling

@@ -190,7 +190,7 @@ module _ {p : Network} {s : ProtocolState} (i : Inv p s) {u v k d : ℕ} {m : Ms
     r1r = o.r1r;
     r1j = o.r1j;
     r1 = λ j a b n e m. by-eq (s.fr v) (s.fr a) (λ z. inr (inr (h.spent j a b n e (sym z) m))) (λ z. kind j a b n e z m);
-    r1c = λ j a b n e m f z g. let t = dk-old 0 b not0 z in core j a b n (λ x. t .0 (x ∙ i.marks.m3 j a b e (o.r1j j a b n e m))) (o.r1c j a b n e m f (t .1) g);
+    r1c = λ j a b n e m f z g. let t = dk-old 0 b not0 z in core j a b n (λ x. t .0 (x ∙ i.markings.m3 j a b e (o.r1j j a b n e m))) (o.r1c j a b n e m f (t .1) g);
   }
     where
       -- a Report of another fragment is what it was
@@ -203,12 +203,12 @@ module _ {p : Network} {s : ProtocolState} (i : Inv p s) {u v k d : ℕ} {m : Ms
       kind : (j a b n : ℕ) → Edge p j a b → s.fr v ≢ s.fr a → In (report n) (c′ a j) → Child S′ a b j n ⊎ (CoreEnds S′ a b j n ⊎ Spent p S′ a b j n)
       kind j a b n e z m = ⊎-elim (λ t. inl t)
           (⊎-elim (λ t. inr (inl (core j a b n z t)))
-          (λ t. inr (inr (t .0, t .1, t .2, t .3, t .4, ⊎-elim (λ l. inl l) (λ l. inr (l .0, l .1, dk-off b (λ x. z (x ∙ sym (i.marks.m3 j a b e (o.r1j j a b n e m)))) ∙ l .2, l .3)) (t .5)))))
+          (λ t. inr (inr (t .0, t .1, t .2, t .3, t .4, ⊎-elim (λ l. inl l) (λ l. inr (l .0, l .1, dk-off b (λ x. z (x ∙ sym (i.markings.m3 j a b e (o.r1j j a b n e m)))) ∙ l .2, l .3)) (t .5)))))
           (o.r1 j a b n e m)
 
   owing′ : Owing p S′
   owing′ = record {
-    f4y = λ j x c e n. let t = i.owing.f4y j x c e n in (t .0, t .1, t .2, outst j x c (λ z. owing j x c e n (z ∙ sym (i.marks.m3 j x c e (t .1)))) (t .3));
+    f4y = λ j x c e n. let t = i.owing.f4y j x c e n in (t .0, t .1, t .2, outst j x c (λ z. owing j x c e n (z ∙ sym (i.markings.m3 j x c e (t .1)))) (t .3));
     f4n = λ j x c e f b n o. i.owing.f4n j x c e f b n (outst-ch S′ s.ch c j (λ l. omega (arith, pop-le s.ch u k q isR c j)) o);
   }
     where
@@ -237,7 +237,7 @@ module _ {p : Network} {s : ProtocolState} (i : Inv p s) {u v k d : ℕ} {m : Ms
     sizes = i.sizes;
     cores = i.cores;
     sleepers = sleepers′;
-    marks = i.marks;
+    markings = i.markings;
     inbounds = i.inbounds;
     halves = halves′;
     changeRoots = changeRoots′;

@@ -54,7 +54,7 @@ module _ {p : Network} {s : ProtocolState} (i : Inv p s) where
   pub reply-le : (k u v l : ℕ) → Edge p k u v → In (connect l) (s.ch u k) → s.mark v k ≢ 0 → s.lev v + 1 ≤ log2 p.N
   reply-le k u v l e n m =
       let b = i.connects.c1m k u v l e n in
-      let o : s.mark v k ≡ 1 = by-eq (s.mark v k) 1 (λ q. q) (λ q. absurd (i.marks.m1 k v u (flip e) (omega (arith, i.ranges.mark-le v k)) .1 b)) in
+      let o : s.mark v k ≡ 1 = by-eq (s.mark v k) 1 (λ q. q) (λ q. absurd (i.markings.m1 k v u (flip e) (omega (arith, i.ranges.mark-le v k)) .1 b)) in
       let t = i.connects.c1 k u v l e n o in
       omega (arith, t .1, t .2, level-log i u (end-lt p e))
 

@@ -1,5 +1,5 @@
 -- EVERY SMALL STEP KEEPS THE INVARIANT (`inv-step`).
-use Rattle.protocol.specs.Prelude.{Network, ProtocolState, Step, Inv}
+use Rattle.protocol.specs.Prelude.{Network, ProtocolState, SmallStep, Inv}
 use Rattle.protocol.specs.Step.{wake-lone, wake-half, wake-merge, back, absorb, core-reply, tell, accept-test, reject-test, crossed-test, accepted, rejected}
 use Rattle.protocol.specs.Step.{child-report, core-nothing, core-halt, decide, change-root, test-next, test-none, report-now, report-later, root-branch, root-half, root-merge}
 use Rattle.protocol_search.specs.WakeLone.{inv-wake-lone}
@@ -24,7 +24,7 @@ use Rattle.protocol_tell.specs.Tell.{inv-tell}
 use Rattle.protocol_merge.specs.WakeRoot.{inv-wake-half, inv-wake-merge, inv-root-half, inv-root-merge}
 use Rattle.protocol_merge.specs.RootBranch.{inv-root-branch}
 
-pub inv-step : {p : Network} {s s′ : ProtocolState} → Step p s s′ → Inv p s → Inv p s′
+pub inv-step : {p : Network} {s s′ : ProtocolState} → SmallStep p s s′ → Inv p s → Inv p s′
 inv-step (wake-lone idle below asleep lone) i = inv-wake-lone i idle below asleep lone
 inv-step (wake-half idle ends asleep least m) i = inv-wake-half i idle ends asleep least m
 inv-step (wake-merge idle ends asleep least m) i = inv-wake-merge i idle ends asleep least m

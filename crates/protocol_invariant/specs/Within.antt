@@ -84,7 +84,7 @@ tell-count {p} {s} i k u v l f d a idle e q h =
 module _ {p : Network} {s : ProtocolState} (i : Inv p s) where
   -- ONLY TREE EDGES
   pub only-tree : (v k : ℕ) → s.mark v k ≡ 1 → Tree p k
-  only-tree v k m = let t = i.marks.own v k (λ z. omega arith) in i.marks.m5 k v (t .0) (t .1) m
+  only-tree v k m = let t = i.markings.own v k (λ z. omega arith) in i.markings.m5 k v (t .0) (t .1) m
 
   pub inv-within : Within p s
   inv-within = record {
@@ -99,7 +99,7 @@ module _ {p : Network} {s : ProtocolState} (i : Inv p s) where
     count = within-degree i;
     halted = i.ranges.halt-le;
     mark = i.ranges.mark-le;
-    marked = i.marks.own;
+    marked = i.markings.own;
   }
 
   pub carried : Carried p s

@@ -40,7 +40,7 @@ module _ {p : Network} {s : ProtocolState} (i : Inv p s) {v k y : ℕ} where
       let out : s.fr y ≢ s.fr v = λ q. x .4 (sym (ap s.fr at) ∙ q) in
       record {
         ends = e;
-        basic = by-eq (s.mark v k) 2 (λ z. absurd (out (sym (i.marks.m1 k v y e z .0)))) (λ z. omega (arith, i.ranges.mark-le v k));
+        basic = by-eq (s.mark v k) 2 (λ z. absurd (out (sym (i.markings.m1 k v y e z .0)))) (λ z. omega (arith, i.ranges.mark-le v k));
         out = out;
         level = omega (arith, x .5, ap s.lev at);
         bound = λ u j c q f m. omega (arith, r.d3b u j c q f m, ap (key p) w, ends-key p e);
@@ -50,9 +50,9 @@ module _ {p : Network} {s : ProtocolState} (i : Inv p s) {v k y : ℕ} (t : Turn
   -- an edge that leaves the fragment is Basic there, so not earlier
   earliest : (j a b : ℕ) → Edge p j a b → s.fr a ≡ s.fr v → s.fr b ≢ s.fr v → rank p k ≤ rank p j
   earliest j a b e q n = by-eq (s.mark a j) 0 (λ z. h.bound a j b q e z)
-      (λ z. by-eq (s.mark a j) 2 (λ m. absurd (n (sym (i.marks.m1 j a b e m .0) ∙ q)))
+      (λ z. by-eq (s.mark a j) 2 (λ m. absurd (n (sym (i.markings.m1 j a b e m .0) ∙ q)))
       (λ m. let one : s.mark a j ≡ 1 = omega (arith, i.ranges.mark-le a j) in
-      absurd (by-eq (s.mark b j) 1 (λ o. n (sym (i.marks.m3 j a b e (one, o)) ∙ q)) (λ o. omega (arith, i.halves.m2 j a b e one o .0, ap s.dk q, t.fresh)))))
+      absurd (by-eq (s.mark b j) 1 (λ o. n (sym (i.markings.m3 j a b e (one, o)) ∙ q)) (λ o. omega (arith, i.halves.m2 j a b e one o .0, ap s.dk q, t.fresh)))))
 
   -- so it is in the tree, by the cut property (m5)
   pub leave-tree : Tree p k
@@ -97,7 +97,7 @@ module _ {p : Network} {s : ProtocolState} (i : Inv p s) {v k y : ℕ} (t : Turn
     not-r = refl;
     call = inr (h.basic);
     mark-v = λ z. omega (arith, h.basic);
-    mark-y = λ z. h.out (i.marks.m1 k y v (flip (h.ends)) z .0);
+    mark-y = λ z. h.out (i.markings.m1 k y v (flip (h.ends)) z .0);
     rouse = λ z. tt;
     fits = λ n o. fits-connect l n (no-call n o);
   }

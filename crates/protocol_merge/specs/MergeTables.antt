@@ -4,7 +4,7 @@ use Rattle.protocol.specs.Prelude.{upd, upd-elim, upd2-elim, at2, relabel-cases
 use Rattle.protocol.specs.Prelude.{Network, Edge, Tree, key, rank, Way, go, join, both-joined, joins-lt, flip, same-edge, other-end, end-lt, ProtocolState}
 use Rattle.protocol.specs.Prelude.{Both, Decision, GL, GC, DK, Half, waits-find}
 use Rattle.graph.specs.laws.Size.{partSize, size-mono, level-merge}
-use Rattle.protocol.specs.Fragments.{Ranges, Levels, Sizes, Cores, Sleepers, Marks, Inbounds}
+use Rattle.protocol.specs.Fragments.{Ranges, Levels, Sizes, Cores, Sleepers, Markings, Inbounds}
 use Rattle.protocol.specs.Decisions.{Halves, ChangeRoots, Rootings, Finishes}
 use Rattle.protocol.specs.Search.{Parents, LowOk, Kids, Finds, Tests, Weights}
 use Rattle.protocol_merge.specs.Move as M
@@ -33,7 +33,7 @@ module _ {p : Network} {s : ProtocolState} {v k y l : ℕ} (r : MergeReady p s v
   -- beyond a joined edge one is inside too
   in-beyond : (j a b : ℕ) → Edge p j a b → U.InEither r a → Both S′.mark j a b → U.InEither r b
   in-beyond j a b e n x = U.joined-merge r j a b e x (λ q c z. inr (ap s.fr (sym c))) (λ q c z. inl (ap s.fr (sym c)))
-      (λ f. let q = sym (r.inv.marks.m3 j a b e f) in ⊎-elim (λ c. inl (q ∙ c)) (λ c. inr (q ∙ c)) n)
+      (λ f. let q = sym (r.inv.markings.m3 j a b e f) in ⊎-elim (λ c. inl (q ∙ c)) (λ c. inr (q ∙ c)) n)
 
   -- ---- values, levels, sizes, cores, sleepers
 
@@ -102,20 +102,20 @@ module _ {p : Network} {s : ProtocolState} {v k y l : ℕ} (r : MergeReady p s v
 
   -- ---- marks, inbound edges
 
-  pub marks-merge : Marks p S′.fr S′.mark
-  marks-merge = record {
+  pub markings-merge : Markings p S′.fr S′.mark
+  markings-merge = record {
     own = M.own (r.inv) (r.turn) (U.mv r);
     m1 = λ j w u e z. let a = M.beyond-move (r.inv) (r.turn) (U.mv r) j w u e z in (U.keep-merge r w u (a .0), a .1);
     m3 = λ j w u e b. U.joined-merge r j w u e b
         (λ q c z. U.fr-in-merge r w (inl (ap s.fr (sym q))) ∙ sym (U.fr-in-merge r u (inr (ap s.fr (sym c)))))
         (λ q c z. U.fr-in-merge r w (inr (ap s.fr (sym q))) ∙ sym (U.fr-in-merge r u (inl (ap s.fr (sym c)))))
-        (λ f. U.keep-merge r w u (r.inv.marks.m3 j w u e f));
+        (λ f. U.keep-merge r w u (r.inv.markings.m3 j w u e f));
     m4 = λ a b q. relabel-cases s.fr (s.fr y) (s.fr v) a b q
         (λ c. wide a b c)
         (λ c d. join (wide a y c) (go k (flip (r.leave.ends)) core (wide v b (sym d))))
         (λ c d. join (wide a v c) (go k (r.leave.ends) core (wide y b (sym d))));
     m5 = λ j w u e z. M.dn1-move (r.inv) (r.turn) (U.mv r) w j z
-        (λ q c. subst (λ n. Tree p n) c (r.inv.marks.m5 k y v (flip (r.leave.ends)) (r.branch))) (λ f. r.inv.marks.m5 j w u e f);
+        (λ q c. subst (λ n. Tree p n) c (r.inv.markings.m5 k y v (flip (r.leave.ends)) (r.branch))) (λ f. r.inv.markings.m5 j w u e f);
   }
     where
       core : Both S′.mark k (p.g.lo k) (p.g.hi k)

@@ -120,7 +120,7 @@ module _ {p : Network} {s : ProtocolState} {v k y l : ℕ} (r : MergeReady p s v
           i1i = λ a b e. U.keep-merge r a u (q.i1i a b e);
           i1c = λ z. q.i1c (z ∙ g) ∙ sym (U.gc-out r u o);
           i1d = λ z. q.i1d (z ∙ g) ∙ sym (U.due-out-merge r u o);
-          i1s = λ z n. U.inf-new-merge r w (U.like r u w o (r.inv.marks.m3 j w u e (q.i1j))) (q.i1s (z ∙ g) (λ c. n (U.gc-out r u o ∙ c)));
+          i1s = λ z n. U.inf-new-merge r w (U.like r u w o (r.inv.markings.m3 j w u e (q.i1j))) (q.i1s (z ∙ g) (λ c. n (U.gc-out r u o ∙ c)));
           i1z = λ z. q.i1z (omega arith);
         });
   }
@@ -194,7 +194,7 @@ module _ {p : Network} {s : ProtocolState} {v k y l : ℕ} (r : MergeReady p s v
 
   core : (j w u n : ℕ) → Edge p j w u → Jn s j w u → U.Outside r u → CoreEnds s w u j n → CoreEnds S′ w u j n
   core j w u n e b o x =
-      let q = U.like r u w o (r.inv.marks.m3 j w u e b) in (
+      let q = U.like r u w o (r.inv.markings.m3 j w u e b) in (
         U.gc-out r w q ∙ x .0,
         U.dk-out-merge r w q ∙ x .1,
         U.inf-new-merge r w q (x .2),
@@ -232,7 +232,7 @@ module _ {p : Network} {s : ProtocolState} {v k y l : ℕ} (r : MergeReady p s v
     where
       child : (j w u n : ℕ) → Edge p j w u → Jn s j w u → U.Outside r u → Child s w u j n → Child S′ w u j n
       child j w u n e b o x =
-          let q = U.like r u w o (r.inv.marks.m3 j w u e b) in (
+          let q = U.like r u w o (r.inv.markings.m3 j w u e b) in (
             U.inf-new-merge r w q (x .0),
             x .1,
             λ z. x .2 (sym (U.gc-out r w q) ∙ z),

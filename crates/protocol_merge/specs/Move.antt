@@ -192,7 +192,7 @@ module _ {p : Network} {s : ProtocolState} (i : Inv p s) {v y k : ℕ} {m : Msg}
 
   -- ways of joined edges stay
   pub wide : (a b : ℕ) → s.fr a ≡ s.fr b → Way p.g (JoinedEdge p mark′) a b
-  wide a b q = wider (λ j l x. both-up j (p.g.lo j) (p.g.hi j) x) (i.marks.m4 a b q)
+  wide a b q = wider (λ j l x. both-up j (p.g.lo j) (p.g.hi j) x) (i.markings.m4 a b q)
 
   -- a Test: as e1w, with the new marks
   pub asks : (j w u l f : ℕ) → Edge p j w u → In (test l f) (s.ch w j)
@@ -236,10 +236,10 @@ module _ {p : Network} {s : ProtocolState} (i : Inv p s) {v y k : ℕ} {m : Msg}
   -- a mark belongs to an own edge; beyond a Rejected one, inside, there is no Branch
   pub own : (w j : ℕ) → mark′ w j ≢ 0 → (u : ℕ) × Edge p j w u
   own w j = upd2-elim (λ x. x ≢ 0 → (u : ℕ) × Edge p j w u) s.mark v k 1 w j
-      (λ a b n. (y, subst (λ x. Edge p x w y) b (subst (λ x. Edge p k x y) a (h.ends)))) (λ d n. i.marks.own w j n)
+      (λ a b n. (y, subst (λ x. Edge p x w y) b (subst (λ x. Edge p k x y) a (h.ends)))) (λ d n. i.markings.own w j n)
 
   pub beyond-move : (j w u : ℕ) → Edge p j w u → mark′ w j ≡ 2 → (s.fr w ≡ s.fr u) × (mark′ u j ≢ 1)
-  beyond-move j w u e z = let a = i.marks.m1 j w u e (dn2-move w j z) in
+  beyond-move j w u e z = let a = i.markings.m1 j w u e (dn2-move w j z) in
       (a .0, λ f. dn1-move u j f (λ q r. h.mark-y (at2 s.mark (far-end j u w (flip e) q r) r ∙ dn2-move w j z)) (a .1))
 
   -- a Connect: from a Branch

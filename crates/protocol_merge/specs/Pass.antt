@@ -6,7 +6,7 @@ use Rattle.protocol.specs.Prelude.{Msg, connect, report, change}
 use Rattle.protocol.specs.Prelude.{Network, Edge, Tree, flip, ProtocolState, set-st, set-oo, set-ub, sendOver, remarked, decided}
 use Rattle.protocol.specs.Prelude.{isC, isI, isT, isA, isR, isK, Only, In, snoc, snoc-in, snoc-all}
 use Rattle.protocol.specs.Prelude.{Both, Decision, GL, DK, Inf, Jn, Outst, Counting, CoreEnds, Spent, Inv, joined-level}
-use Rattle.protocol.specs.Fragments.{Ranges, Cores, Sleepers, Marks, Inbounds}
+use Rattle.protocol.specs.Fragments.{Ranges, Cores, Sleepers, Markings, Inbounds}
 use Rattle.protocol.specs.Decisions.{HalfOk, Halves, ChangingOk, ChangeRoots, Rootings, Finishes}
 use Rattle.protocol.specs.Search.{Parents, Kids, Finds, Tests}
 use Rattle.protocol.specs.Traffic.{Tokens, Connects, Initiates, Telling, Testing, Answers, Reports, Owing, Bests}
@@ -176,13 +176,13 @@ module _ {p : Network} {s : ProtocolState} (i : Inv p s) {v y k d : ℕ} {m : Ms
       single : GL s v ≡ 0 → d ≡ 3
       single g = o.half (λ z. ⊎-elim (λ a. omega (arith, joined-level i k v y (h.ends) (a, z))) (λ n. n z) (o.joins))
 
-  marks′ : Marks p s.fr S′.mark
-  marks′ = record {
+  markings′ : Markings p s.fr S′.mark
+  markings′ = record {
     own = M.own i t h;
     m1 = M.beyond-move i t h;
-    m3 = λ j w u e b. i.marks.m3 j w u e (joined-was j w u e b);
+    m3 = λ j w u e b. i.markings.m3 j w u e (joined-was j w u e b);
     m4 = M.wide i t h;
-    m5 = λ j w u e z. M.dn1-move i t h w j z (λ q r. subst (λ n. Tree p n) r (o.tree)) (λ f. i.marks.m5 j w u e f);
+    m5 = λ j w u e z. M.dn1-move i t h w j z (λ q r. subst (λ n. Tree p n) r (o.tree)) (λ f. i.markings.m5 j w u e f);
   }
 
   inbounds′ : Inbounds p S′.ub s.ib S′.mark
@@ -227,7 +227,7 @@ module _ {p : Network} {s : ProtocolState} (i : Inv p s) {v y k d : ℕ} {m : Ms
           d2x = b.d2x;
           d2b = b.d2b;
           d2u = M.ub-off i t h u (away u n) ∙ b.d2u;
-          d2v = M.ub-off i t h x (away x (λ q. n (q ∙ sym (i.marks.m3 j u x e (b.d2j))))) ∙ b.d2v;
+          d2v = M.ub-off i t h x (away x (λ q. n (q ∙ sym (i.markings.m3 j u x e (b.d2j))))) ∙ b.d2v;
           d2w = b.d2w;
           d2n = λ w f c q g r. b.d2n w f c q g (M.dn0-move i t h w f r);
         });
@@ -383,7 +383,7 @@ module _ {p : Network} {s : ProtocolState} (i : Inv p s) {v y k d : ℕ} {m : Ms
     sizes = i.sizes;
     cores = cores′;
     sleepers = sleepers′;
-    marks = marks′;
+    markings = markings′;
     inbounds = inbounds′;
     halves = halves′;
     changeRoots = changeRoots′;

@@ -26,7 +26,7 @@ module _ {p : Network} {s : ProtocolState} (i : Inv p s) {v k c : ℕ} (ot : s.o
   inner q =
       let x = i.weights.b1 v (root-ok i oo .d3i) (root-ok i oo .d3w) in
       let e = subst (λ j. Edge p j (x .0) (x .1)) (sym q ∙ best) (x .2) in
-      let f = i.marks.m3 k v c ends joined in
+      let f = i.markings.m3 k v c ends joined in
       ⊎-elim (λ r. x .4 (ap s.fr (sym (r .1)) ∙ sym f)) (λ r. x .4 (ap s.fr (sym (r .0)))) (ends-two ends e)
 
   -- so c is the child that reported it
@@ -61,7 +61,7 @@ module _ {p : Network} {s : ProtocolState} (i : Inv p s) {v k c : ℕ} (ot : s.o
     low = omega arith;
     high = omega arith;
     joins = inl branch;
-    tree = i.marks.m5 k v c ends branch;
+    tree = i.markings.m5 k v c ends branch;
     half = λ n. absurd (n (joined .1));
     changing = λ z. refl;
     half-ok = λ z. absurd (omega arith);
@@ -78,7 +78,7 @@ module _ {p : Network} {s : ProtocolState} (i : Inv p s) {v k c : ℕ} (ot : s.o
       d2w = λ z. root-ok i oo .d3w (sym (child .3) ∙ z);
       d2n = λ u j w q e m. omega (
         arith,
-        root-ok i oo .d3b u j w (q ∙ sym (i.marks.m3 k v c ends joined)) e (M.dn0-move i turn move u j m),
+        root-ok i oo .d3b u j w (q ∙ sym (i.markings.m3 k v c ends joined)) e (M.dn0-move i turn move u j m),
         ap (key p) (child .3),
       );
     };

@@ -50,7 +50,7 @@ module _ {p : Network} {s : ProtocolState} (i : Inv p s) {v : ℕ} where
     -- the node beyond v's in-branch is informed
     pub root-up : (j c : ℕ) → Edge p j v c → s.ib v ≡ j → Inf s c
     root-up j c e q = by-eq (GC s v) j
-        (λ g. let f : s.fr v ≡ s.fr c = i.marks.m3 j v c e (i.inbounds.u1i j v c e q) in
+        (λ g. let f : s.fr v ≡ s.fr c = i.markings.m3 j v c e (i.inbounds.u1i j v c e q) in
         core-informed i j c v (flip e) (ap s.gc (sym f) ∙ g) (omega (arith, ap s.gl f, root-ok.d3i .0)) (root-dk c (sym f)))
         (λ g. i.parents.t1p j v c e (root-ok.d3i) q g .0)
 
@@ -71,4 +71,4 @@ module _ {p : Network} {s : ProtocolState} (i : Inv p s) {v : ℕ} where
     }
       where
         even : (j c : ℕ) → Edge p j v c → Jn s j v c → Inf s c → s.lev v ≡ s.lev c
-        even j c e b h = root-ok.d3i .1 ∙ ap s.gl (i.marks.m3 j v c e b) ∙ sym (h .1)
+        even j c e b h = root-ok.d3i .1 ∙ ap s.gl (i.markings.m3 j v c e b) ∙ sym (h .1)

@@ -177,4 +177,4 @@ module _ {p : Network} {s : ProtocolState} {v k y l : ℕ} (r : MergeReady p s v
   joined-out j a b e o x = joined-merge j a b e x (λ q n z. absurd (o .0 (ap s.fr (sym q)))) (λ q n z. absurd (o .1 (ap s.fr (sym q)))) (λ f. f)
 
   pub beyond-merge : (j a b : ℕ) → Edge p j a b → Outside a → Jn s j a b → Outside b
-  beyond-merge j a b e o x = like a b o (sym (r.inv.marks.m3 j a b e x))
+  beyond-merge j a b e o x = like a b o (sym (r.inv.markings.m3 j a b e x))

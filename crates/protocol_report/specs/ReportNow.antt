@@ -45,7 +45,7 @@ module _ {p : Network} {s : ProtocolState} (i : Inv p s) {v k u : ℕ} (ot : s.o
   nj = (jn .1, jn .0)
 
   pub frs : s.fr v ≡ s.fr u
-  frs = i.marks.m3 k v u ends jn
+  frs = i.markings.m3 k v u ends jn
 
   -- the other end is informed, or the edge is the core
   beyond : GC s v ≢ k → Inf s u
@@ -365,7 +365,7 @@ module _ {p : Network} {s : ProtocolState} (i : Inv p s) {v k u : ℕ} (ot : s.o
     sizes = i.sizes;
     cores = i.cores;
     sleepers = sleepers′;
-    marks = i.marks;
+    markings = i.markings;
     inbounds = i.inbounds;
     halves = i.halves;
     changeRoots = i.changeRoots;

@@ -42,7 +42,7 @@ module _ {p : Network} {s : ProtocolState} (i : Inv p s) {u v k l f : ℕ} {r : 
   basic : s.mark u k ≡ 0
   basic = ⊎-elim
       (λ t. by-eq (s.mark u k) 0 (λ z. z)
-      (λ n. let o : s.mark u k ≡ 1 = omega (arith, i.ranges.mark-le u k, t .1) in absurd (tester-apart (i.marks.m3 k u v ends (o, t .2 o)))))
+      (λ n. let o : s.mark u k ≡ 1 = omega (arith, i.ranges.mark-le u k, t .1) in absurd (tester-apart (i.markings.m3 k u v ends (o, t .2 o)))))
       (λ t. absurd (tester-apart (t .3))) (i.testing.e1w k u v l f ends head)
 
   -- of u's Test, an answer to it and a Test of v that crossed it just one is under way (e2c): this Test

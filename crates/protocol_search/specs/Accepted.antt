@@ -105,7 +105,7 @@ module _ {p : Network} {s : ProtocolState} (i : Inv p s) {u v k b e : ℕ} {r : 
       out j w x f m y t =
           let z = waited j (subst (λ a. Waits s a j) (sym y) t) in
           let n = other-end (flip ends) (flip f) y z in
-          said .a1f (ap s.fr n ∙ i.marks.m1 j w x f m .0 ∙ ap s.fr (sym y))
+          said .a1f (ap s.fr n ∙ i.markings.m1 j w x f m .0 ∙ ap s.fr (sym y))
 
   testing′ : Testing p S′
   testing′ = record {

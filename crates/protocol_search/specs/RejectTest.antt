@@ -57,7 +57,7 @@ module _ {p : Network} {s : ProtocolState} (i : Inv p s) {u v k l f c : ℕ} {r 
 
   pub open-v : s.mark v k ≢ 2
   open-v z =
-      let o : s.mark u k ≡ 0 = omega (arith, i.ranges.mark-le u k, open-u, i.marks.m1 k v u (flip ends) z .1) in
+      let o : s.mark u k ≡ 0 = omega (arith, i.ranges.mark-le u k, open-u, i.markings.m1 k v u (flip ends) z .1) in
       omega (arith, one, i.testing.m6t k v u (flip ends) z o)
 
   basic : s.mark u k ≡ 0 → c ≡ 2

@@ -2,7 +2,7 @@
 use Rattle.protocol.specs.Prelude.{ℕ, _≤_, arith, _≡_, refl, sym, ap, subst, _∙_, _≢_, _⊎_, inl, inr, ⊎-elim}
 use Rattle.protocol.specs.Prelude.{upd2, upd2-elim, by-eq, Network, Edge, key, rank, flip, other-end, wider, ProtocolState, Strike, set-mark, set-ch, set-ot, List, Msg}
 use Rattle.protocol.specs.Prelude.{Both, Bounding, Inv, Flow, inv-search, init-ok, at2}
-use Rattle.protocol.specs.Fragments.{Ranges, Cores, Sleepers, Marks, Inbounds}
+use Rattle.protocol.specs.Fragments.{Ranges, Cores, Sleepers, Markings, Inbounds}
 use Rattle.protocol.specs.Decisions.{Halves, ChangeRoots, Rootings, Finishes}
 use Rattle.protocol.specs.Search.{Kids, Pending, Tests}
 use Rattle.protocol.specs.Traffic.{Connects, Initiates, Telling, Testing, Answers, Reports, Owing, Bests}
@@ -118,17 +118,17 @@ module _ {p : Network} {s : ProtocolState} (i : Inv p s) {u v k c : ℕ} (ends :
     g7n = i.sleepers.g7n;
   }
 
-  marks-strike : Marks p s.fr m′
-  marks-strike = record {
+  markings-strike : Markings p s.fr m′
+  markings-strike = record {
     own = λ w j n. upd2-elim (λ x. x ≢ 0 → (y : ℕ) × Edge p j w y) s.mark v k c w j
-        (λ a b m. (u, subst (λ x. Edge p j x u) a (subst (λ x. Edge p x v u) b ends))) (λ d m. i.marks.own w j m) n;
-    m1 = λ j w x e h. ⊎-elim (λ o. let t = i.marks.m1 j w x e o in (t .0, λ z. t .1 (dn1-strike p s v k c strike x j z)))
+        (λ a b m. (u, subst (λ x. Edge p j x u) a (subst (λ x. Edge p x v u) b ends))) (λ d m. i.markings.own w j m) n;
+    m1 = λ j w x e h. ⊎-elim (λ o. let t = i.markings.m1 j w x e o in (t .0, λ z. t .1 (dn1-strike p s v k c strike x j z)))
         (λ t. let y = other-end ends e (t .0) (t .1) in
         (ap s.fr (sym (t .0)) ∙ inside ∙ ap s.fr y, λ z. free (t .2) (ap (λ a. s.mark a k) y ∙ ap (s.mark x) (t .1) ∙ dn1-strike p s v k c strike x j z)))
         (dn2-strike p s v k c strike w j h);
-    m3 = λ j w x e h. i.marks.m3 j w x e (dn-both-strike p s v k c strike j w x h);
-    m4 = λ w x e. wider (λ j l h. up-both-strike p s v k c strike j (p.g.lo j) (p.g.hi j) h) (i.marks.m4 w x e);
-    m5 = λ j w x e h. i.marks.m5 j w x e (dn1-strike p s v k c strike w j h);
+    m3 = λ j w x e h. i.markings.m3 j w x e (dn-both-strike p s v k c strike j w x h);
+    m4 = λ w x e. wider (λ j l h. up-both-strike p s v k c strike j (p.g.lo j) (p.g.hi j) h) (i.markings.m4 w x e);
+    m5 = λ j w x e h. i.markings.m5 j w x e (dn1-strike p s v k c strike w j h);
   }
 
   inbounds-strike : Inbounds p s.ub s.ib m′
@@ -208,7 +208,7 @@ module _ {p : Network} {s : ProtocolState} (i : Inv p s) {u v k c : ℕ} (ends :
       ranges = ranges-strike;
       cores = cores-strike;
       sleepers = sleepers-strike;
-      marks = marks-strike;
+      markings = markings-strike;
       inbounds = inbounds-strike;
       halves = halves-strike;
       changeRoots = change-roots-strike;

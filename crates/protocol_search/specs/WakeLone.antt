@@ -166,7 +166,7 @@ module _ {p : Network} {s : ProtocolState} (i : Inv p s) {v : ℕ} (idle : Idle 
     sizes = i.sizes;
     cores = i.cores;
     sleepers = sleepers′;
-    marks = i.marks;
+    markings = i.markings;
     inbounds = i.inbounds;
     halves = halves′;
     changeRoots = changeRoots′;

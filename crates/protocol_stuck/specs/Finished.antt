@@ -32,7 +32,7 @@ module _ {p : Network} {s : ProtocolState} (i : Inv p s) (t : Stuck p s) where
 
   -- within a fragment
   mates : (v w : ℕ) → s.fr v ≡ s.fr w → Way p.g Any v w
-  mates v w q = wider (λ e l h. tt) (i.marks.m4 v w q)
+  mates v w q = wider (λ e l h. tt) (i.markings.m4 v w q)
 
   far : {v w : ℕ} → Way p.g Any v w → Goal w → Goal v
   far a g = (g .0, join a (g .1), g .2, g .3)
@@ -79,8 +79,8 @@ module _ {p : Network} {s : ProtocolState} (i : Inv p s) (t : Stuck p s) where
   -- no edge leaves a finished fragment
   inner : (k v u : ℕ) → Edge p k v u → DK s v ≡ 4 → s.fr v ≡ s.fr u
   inner k v u e d = by-eq (s.mark v k) 1
-      (λ a. by-eq (s.mark u k) 1 (λ b. i.marks.m3 k v u e (a, b)) (λ b. absurd (omega (arith, i.halves.m2 k v u e a b .0))))
-      (λ a. i.marks.m1 k v u e (omega (arith, i.ranges.mark-le v k, i.finishes.d4 k v u e d)) .0)
+      (λ a. by-eq (s.mark u k) 1 (λ b. i.markings.m3 k v u e (a, b)) (λ b. absurd (omega (arith, i.halves.m2 k v u e a b .0))))
+      (λ a. i.markings.m1 k v u e (omega (arith, i.ranges.mark-le v k, i.finishes.d4 k v u e d)) .0)
 
   pub closed : {w x : ℕ} → Way p.g Any w x → DK s w ≡ 4 → s.fr w ≡ s.fr x
   closed stop d = refl

@@ -37,7 +37,7 @@ module _ {p : Network} {s : ProtocolState} (i : Inv p s) (t : Stuck p s) where
     where
       next-inf : (a b j : ℕ) → Edge p j a b → Jn s j a b → Inf s a → Inf s b
       next-inf a b j e o h =
-          let q = i.marks.m3 j a b e o in
+          let q = i.markings.m3 j a b e o in
           by-eq (s.ib a) j
           (λ z. by-eq (GC s a) j (λ g. core-inf j b a (flip e) (o .1, o .0) (ap s.gc (sym q) ∙ g)) (λ g. i.parents.t1p j a b e h z g .0))
           (λ z. inf-cases i b (λ y. y)
@@ -49,7 +49,7 @@ module _ {p : Network} {s : ProtocolState} (i : Inv p s) (t : Stuck p s) where
       let k = GC s v in
       let e : Edge p k (p.g.lo k) (p.g.hi k) = up (i.cores.g5r v l) refl refl in
       let h = i.cores.g5 v (p.g.lo k) (p.g.hi k) l e in
-      spread (i.marks.m4 (p.g.lo k) v (h .1)) (core-inf k (p.g.lo k) (p.g.hi k) e (h .0) (ap s.gc (h .1)))
+      spread (i.markings.m4 (p.g.lo k) v (h .1)) (core-inf k (p.g.lo k) (p.g.hi k) e (h .0) (ap s.gc (h .1)))
 
   pub stuck-level : (v : ℕ) → s.lev v ≡ GL s v
   stuck-level v = by-eq (GL s v) 0 (λ z. omega (arith, i.levels.g2 v)) (λ n. all-inf v (omega arith) .1)

@@ -46,7 +46,7 @@ pub record AsAtSetup (s : ProtocolState) (v : ℕ) : Type 0 where
   pub branch : s.ib v ≡ setupState.ib v
   pub count : s.fc v ≡ setupState.fc v
   pub halted : s.halt v ≡ setupState.halt v
-  pub marks : (k : ℕ) → s.mark v k ≡ setupState.mark v k
+  pub markings : (k : ℕ) → s.mark v k ≡ setupState.mark v k
 
 -- v's part is as at setup, its channels with it
 pub record PartAsleep (p : Network) (s : ProtocolState) (v : ℕ) : Type 0 where
@@ -75,7 +75,7 @@ part-asleep {p} {s} i v z = record { nodes = λ u w. node u (z u w); channels = 
       branch = sleep-ib i u e;
       count = sleep-fc i u e;
       halted = sleep-halt i u e;
-      marks = λ k. i.sleepers.g6m u k e;
+      markings = λ k. i.sleepers.g6m u k e;
     }
 
 -- ---- a part with an awake node, in a stuck state
@@ -116,7 +116,7 @@ module _ {p : Network} {s : ProtocolState} (i : Inv p s) (t : Stuck p s) (w : �
       edge = core;
       within = i.cores.g5r w level;
       tree = core-tree i t w (p.g.lo core) (p.g.hi core) level core-ends;
-      inside = wider (λ e l h. tt) (i.marks.m4 w (p.g.lo core) (sym (i.cores.g5 w (p.g.lo core) (p.g.hi core) level core-ends .1)));
+      inside = wider (λ e l h. tt) (i.markings.m4 w (p.g.lo core) (sym (i.cores.g5 w (p.g.lo core) (p.g.hi core) level core-ends .1)));
       apart = p.no-loop core (i.cores.g5r w level);
       halted = λ v y. (is-end v y, end-halted v);
     }

@@ -29,7 +29,7 @@ module _ {p : Network} {s : ProtocolState} (i : Inv p s) (t : Stuck p s) where
   find-end : (k a b : ℕ) → Edge p k a b → Jn s k a b → GC s a ≡ k → DK s a ≡ 0 → Inf s a → (x : ℕ) × (x < p.N) × (s.fr x ≡ s.fr a) × (s.st x ≡ 1)
   find-end k a b e j g d f = by-eq (s.st a) 1 (λ z. (a, end-lt p e, refl, z))
       (λ z. ⊎-elim
-      (λ n. (b, end-lt p (flip e), sym (i.marks.m3 k a b e j), report-find k a b e n .1))
+      (λ n. (b, end-lt p (flip e), sym (i.markings.m3 k a b e j), report-find k a b e n .1))
       (λ n. absurd (z (report-find k b a (flip e) (n .3) .1)))
       (i.tokens.d7 k a b e g d f (omega (arith, i.ranges.st-le a, awake a f))))
 
@@ -79,14 +79,14 @@ module _ {p : Network} {s : ProtocolState} (i : Inv p s) (t : Stuck p s) where
       let y = i.owing.f4y k a c (e .1) (o .2) in
       absurd (⊎-elim
       (λ r. ⊎-elim
-      (λ f. child k a c (e .1) (y .0) (y .1) (y .2) (r .0) (x.deep c (end-lt p (flip (e .1))) (sym (i.marks.m3 k a c (e .1) (y .1)) ∙ x.mate) f))
+      (λ f. child k a c (e .1) (y .0) (y .1) (y .2) (r .0) (x.deep c (end-lt p (flip (e .1))) (sym (i.markings.m3 k a c (e .1) (y .1)) ∙ x.mate) f))
       (λ f. y .2 (report-find k c a (flip (e .1)) f .0)) (r .1))
       (λ r. not-low i t c (r .0)) (y .3)))
     where
       -- a child is one deeper
       child : (k a c : ℕ) → Edge p k a c → Inf s a → Jn s k a c → s.ib a ≢ k → Inf s c → s.dep c ≤ s.dep a → ⊥
       child k a c e h j n g l =
-          let q = i.marks.m3 k a c e j in
+          let q = i.markings.m3 k a c e j in
           let m : GC s c ≢ k = λ z. down-core i k a c e h n (ap s.gc q ∙ z) in
           omega (arith, i.parents.t1p k c a (flip e) g (i.kids.t2 k a c e j h n g) m .1)
 

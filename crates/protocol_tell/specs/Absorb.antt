@@ -53,7 +53,7 @@ module _ {p : Network} {s : ProtocolState} (i : Inv p s) {u v k l x : ℕ} {r : 
         let n = F.inf-out-absorb i act a h in
         let o = F.fr-out-absorb i act a n in
         let c : GC s a ≡ j = ap s.gc (sym o) ∙ g in
-        let m : s.fr b ≢ s.fr u = λ z. n (i.marks.m3 j a b e (core-joined j a b e c (F.inf-old-absorb i act a h .0)) ∙ z) in
+        let m : s.fr b ≢ s.fr u = λ z. n (i.markings.m3 j a b e (core-joined j a b e c (F.inf-old-absorb i act a h .0)) ∙ z) in
         ⊎-elim (λ t. inl (omega (arith, same isR refl refl a j)))
         (λ t. inr (F.inf-new-absorb i act b m (t .0), t .1, t .2, omega (arith, t .3, same isR refl refl b j)))
         (i.tokens.d7 j a b e c (ap s.dk (sym o) ∙ d) (F.inf-old-absorb i act a h) f);
@@ -126,7 +126,7 @@ module _ {p : Network} {s : ProtocolState} (i : Inv p s) {u v k l x : ℕ} {r : 
           let t = i.initiates.i1 j w y a f b e h in
           let o = F.fr-out-absorb i act y n in
           let g = ap s.gl o in
-          let m : s.fr w ≢ s.fr u = λ z. n (sym (i.marks.m3 j w y e (t.i1j)) ∙ z) in
+          let m : s.fr w ≢ s.fr u = λ z. n (sym (i.markings.m3 j w y e (t.i1j)) ∙ z) in
           record {
             i1j = F.up-both-absorb i act j w y (t.i1j);
             i1u = t.i1u;
@@ -154,7 +154,7 @@ module _ {p : Network} {s : ProtocolState} (i : Inv p s) {u v k l x : ℕ} {r : 
         (λ y z o. absurd (F.inf-out-absorb i act w h (ap s.fr (sym y))))
         (λ d o.
         let a = F.inf-out-absorb i act w h in
-        let f : s.fr c ≢ s.fr u = λ z. a (i.marks.m3 j w c e o ∙ z) in
+        let f : s.fr c ≢ s.fr u = λ z. a (i.markings.m3 j w c e o ∙ z) in
         subst (λ z. In z (c′ w j)) (init-eq (ap s.gl (sym (F.fr-out-absorb i act w a))) (ap s.gc (sym (F.fr-out-absorb i act w a))) (sym (F.due-out-absorb i act c f)))
         (kept isI refl (omega arith) w j (i.telling.t2i j w c e o (F.inf-old-absorb i act w h) n (omega (arith, ap s.gl (F.fr-out-absorb i act c f))))));
     t4 = λ j a b e h g.
@@ -242,7 +242,7 @@ module _ {p : Network} {s : ProtocolState} (i : Inv p s) {u v k l x : ℕ} {r : 
     r1 = λ j w y n e h. let o = old isR refl (omega arith) w j h in
         by-eq (s.fr y) (s.fr u)
         (λ d. inr (inr (spent j w y n (far j w y n e o) (λ z. absurd (omega (arith, F.half i act .0, ap s.dk d))) (decided-report i j w y n e (λ z. omega (arith, F.half i act .0, ap s.dk d)) o))))
-        (λ d. let a : s.fr w ≢ s.fr u = λ z. d (sym (i.marks.m3 j w y e (i.reports.r1j j w y n e o)) ∙ z) in
+        (λ d. let a : s.fr w ≢ s.fr u = λ z. d (sym (i.markings.m3 j w y e (i.reports.r1j j w y n e o)) ∙ z) in
         let f = far j w y n e o in
         ⊎-elim
         (λ t. inl (F.inf-new-absorb i act w a (t .0), t .1, λ z. t .2 (ap s.gc (sym (F.fr-out-absorb i act w a)) ∙ z), t .3, t .4, F.inf-new-absorb i act y d (t .5), t .6, ap (sumL isCI) f ∙ t .7))
@@ -252,7 +252,7 @@ module _ {p : Network} {s : ProtocolState} (i : Inv p s) {u v k l x : ℕ} {r : 
         let o = old isR refl (omega arith) w j h in
         let d = F.inf-out-absorb i act y a in
         let z = F.fr-out-absorb i act y d in
-        core j w y n (λ m. d (sym (i.marks.m3 j w y e (i.reports.r1j j w y n e o)) ∙ m)) d (far j w y n e o)
+        core j w y n (λ m. d (sym (i.markings.m3 j w y e (i.reports.r1j j w y n e o)) ∙ m)) d (far j w y n e o)
         (i.reports.r1c j w y n e o (F.inf-old-absorb i act y a) (ap s.dk (sym z) ∙ b) (ap s.gc (sym z) ∙ g));
   }
     where
@@ -286,14 +286,14 @@ module _ {p : Network} {s : ProtocolState} (i : Inv p s) {u v k l x : ℕ} {r : 
         (λ m n. let t = i.owing.f4y j w c e n in
         let f = fc-find i w (λ z. omega (arith, i.findCounts.f4 w, le-sum p.g.L j (s.owe w) (joins-lt e))) in
         let d = F.find-out-absorb i act w f in
-        (F.inf-new-absorb i act w d (t .0), F.up-both-absorb i act j w c (t .1), t .2, outst-new c j (λ z. d (i.marks.m3 j w c e (t .1) ∙ z)) (t .3)));
+        (F.inf-new-absorb i act w d (t .0), F.up-both-absorb i act j w c (t .1), t .2, outst-new c j (λ z. d (i.markings.m3 j w c e (t .1) ∙ z)) (t .3)));
     f4n = λ j w c e h b n o. F.jn-absorb i act j w c e b
         (λ y z d. ⊎-elim (λ t. absurd (F.inf-out-absorb i act c (t .0) (ap s.fr (sym z))))
         (λ t. let f = i.finds.f1d v (subst (λ a. Inf s a) (sym y) (F.inf-old-absorb i act w h)) (sym (F.due-in-absorb i act u refl) ∙ ap S′.due z ∙ t .1) in
         upd2-elim (λ z. z ≡ 1) s.owe v k x w j (λ a b. F.find-bit i act f) (λ m. absurd (⊎-elim (λ a. a y) (λ a. a d) m))) o)
         (λ y z d. absurd (F.inf-out-absorb i act w h (ap s.fr (sym y))))
         (λ d a. upd2-elim (λ z. z ≡ 1) s.owe v k x w j (λ f g. absurd (d g))
-        (λ f. i.owing.f4n j w c e (F.inf-old-absorb i act w h) a n (outst-old c j (λ z. F.inf-out-absorb i act w h (i.marks.m3 j w c e a ∙ z)) o)));
+        (λ f. i.owing.f4n j w c e (F.inf-old-absorb i act w h) a n (outst-old c j (λ z. F.inf-out-absorb i act w h (i.markings.m3 j w c e a ∙ z)) o)));
   }
 
   cover : (w z n m : ℕ) → s.fr w ≢ s.fr u → S′.fr z ≡ s.fr w → n ≤ m → Covered p s w n → Covered p S′ z m
@@ -305,7 +305,7 @@ module _ {p : Network} {s : ProtocolState} (i : Inv p s) {u v k l x : ℕ} {r : 
   bests′ : Bests p S′
   bests′ = record {
     b1e = λ w h n d. let t = i.bests.b1e w (F.inf-old-absorb i act w h) n d in
-        let m : s.fr (t .0) ≢ s.fr u = λ z. F.inf-out-absorb i act w h (i.marks.m3 (s.be w) w (t .0) (t .1) (t .2) ∙ z) in
+        let m : s.fr (t .0) ≢ s.fr u = λ z. F.inf-out-absorb i act w h (i.markings.m3 (s.be w) w (t .0) (t .1) (t .2) ∙ z) in
         (t .0, t .1, F.up-both-absorb i act (s.be w) w (t .0) (t .2), t .3, F.inf-new-absorb i act (t .0) m (t .4), t .5, t .6, t .7, same isR refl refl (t .0) (s.be w) ∙ t .8);
     b2 = λ j w y e m d g. by-eq (s.fr w) (s.fr u)
         (λ a. by-eq (s.due v) 1
@@ -335,7 +335,7 @@ module _ {p : Network} {s : ProtocolState} (i : Inv p s) {u v k l x : ℕ} {r : 
     sizes = T.sizes-absorb i act;
     cores = T.cores-absorb i act;
     sleepers = T.sleepers-absorb i act;
-    marks = T.marks-absorb i act;
+    markings = T.markings-absorb i act;
     inbounds = T.inbounds-absorb i act;
     halves = T.halves-absorb i act;
     changeRoots = T.changeRoots-absorb i act;

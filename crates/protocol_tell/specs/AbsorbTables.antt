@@ -7,7 +7,7 @@ use Rattle.protocol.specs.Prelude.{bulk-elim, sum-row, row-else, both-joined}
 use Rattle.protocol.specs.Prelude.{at2}
 use Rattle.protocol.specs.Prelude.{Both, JoinedEdge, members, GL, Inv}
 use Rattle.protocol.specs.Prelude.{waits-find, no-waits}
-use Rattle.protocol.specs.Fragments.{Ranges, Levels, Sizes, Cores, Sleepers, Marks, Inbounds}
+use Rattle.protocol.specs.Fragments.{Ranges, Levels, Sizes, Cores, Sleepers, Markings, Inbounds}
 use Rattle.protocol.specs.Decisions.{Halves, ChangeRoots, Rootings, Finishes}
 use Rattle.protocol.specs.Search.{Parents, Kids, Finds, Pending, FindCounts, Tests, Weights}
 use Rattle.protocol_tell.specs.Sunk.{Absorbs}
@@ -74,11 +74,11 @@ module _ {p : Network} {s : ProtocolState} (i : Inv p s) {u v k l x : ℕ} {r : 
         (λ n. subst (λ b. s.gl b ≡ 0 → ((j y : ℕ) → Edge p j w y → ⊥) → (s.dk b ≡ 4) × (s.halt w ≡ 1)) (sym (F.fr-out-absorb i act w n)) (i.sleepers.g7n w a));
   }
 
-  pub marks-absorb : Marks p S′.fr S′.mark
-  marks-absorb = record {
+  pub markings-absorb : Markings p S′.fr S′.mark
+  markings-absorb = record {
     own = λ w j. upd2-elim (λ y. y ≢ 0 → (z : ℕ) × Edge p j w z) s.mark v k 1 w j
-        (λ a b n. (u, subst (λ y. Edge p y w u) b (subst (λ y. Edge p k y u) a (flip act.ends)))) (λ m n. i.marks.own w j n);
-    m1 = λ j w y e h. let t = i.marks.m1 j w y e (F.dn2-absorb i act w j h) in (
+        (λ a b n. (u, subst (λ y. Edge p y w u) b (subst (λ y. Edge p k y u) a (flip act.ends)))) (λ m n. i.markings.own w j n);
+    m1 = λ j w y e h. let t = i.markings.m1 j w y e (F.dn2-absorb i act w j h) in (
       F.fr-keep i act w y (t .0),
       upd2-elim (λ z. z ≢ 1) s.mark v k 1 y j
           (λ a b z. absurd (omega (arith, F.dn2-absorb i act w j h, F.mark-u i act, at j w y e a b))) (λ n. t .1),
@@ -86,13 +86,13 @@ module _ {p : Network} {s : ProtocolState} (i : Inv p s) {u v k l x : ℕ} {r : 
     m3 = λ j w y e h. F.jn-absorb i act j w y e h
         (λ a b z. sym (ap S′.fr a) ∙ F.fr-out-absorb i act v (F.apart-absorb i act) ∙ sym (F.fr-in-absorb i act u refl) ∙ ap S′.fr b)
         (λ a b z. sym (ap S′.fr a) ∙ F.fr-in-absorb i act u refl ∙ sym (F.fr-out-absorb i act v (F.apart-absorb i act)) ∙ ap S′.fr b)
-        (λ n o. F.fr-keep i act w y (i.marks.m3 j w y e o));
+        (λ n o. F.fr-keep i act w y (i.markings.m3 j w y e o));
     m4 = λ a b e. F.fr-cases i act a b e
-        (λ y. wide (i.marks.m4 a b y))
-        (λ y y′. join (wide (i.marks.m4 a u y)) (join (hop act.ends (both-joined p S′.mark act.ends (F.joined-absorb i act .1, F.joined-absorb i act .0))) (wide (i.marks.m4 v b (sym y′)))))
-        (λ y y′. join (wide (i.marks.m4 a v y)) (join (hop (flip act.ends) (both-joined p S′.mark (flip act.ends) (F.joined-absorb i act))) (wide (i.marks.m4 u b (sym y′)))));
+        (λ y. wide (i.markings.m4 a b y))
+        (λ y y′. join (wide (i.markings.m4 a u y)) (join (hop act.ends (both-joined p S′.mark act.ends (F.joined-absorb i act .1, F.joined-absorb i act .0))) (wide (i.markings.m4 v b (sym y′)))))
+        (λ y y′. join (wide (i.markings.m4 a v y)) (join (hop (flip act.ends) (both-joined p S′.mark (flip act.ends) (F.joined-absorb i act))) (wide (i.markings.m4 u b (sym y′)))));
     m5 = λ j w y e. upd2-elim (λ z. z ≡ 1 → Tree p j) s.mark v k 1 w j
-        (λ a b h. subst (λ z. Tree p z) b (i.marks.m5 k u v act.ends (F.mark-u i act))) (λ n h. i.marks.m5 j w y e h);
+        (λ a b h. subst (λ z. Tree p z) b (i.markings.m5 k u v act.ends (F.mark-u i act))) (λ n h. i.markings.m5 j w y e h);
   }
     where
       at : (j w y : ℕ) → Edge p j w y → v ≡ y → k ≡ j → s.mark w j ≡ s.mark u k
@@ -141,7 +141,7 @@ module _ {p : Network} {s : ProtocolState} (i : Inv p s) {u v k l x : ℕ} {r : 
     d2 = λ j a y e h.
         let n = F.changing-out i act a j h in
         let t = i.changeRoots.d2 j a y e (F.changing-old i act a j h) in
-        let m : s.fr y ≢ s.fr u = λ d. n (i.marks.m3 j a y e (t.d2j) ∙ d) in
+        let m : s.fr y ≢ s.fr u = λ d. n (i.markings.m3 j a y e (t.d2j) ∙ d) in
         record {
           d2j = F.up-both-absorb i act j a y (t.d2j);
           d2g = λ d. t.d2g (ap s.gc (sym (F.fr-out-absorb i act a n)) ∙ d);
@@ -185,7 +185,7 @@ module _ {p : Network} {s : ProtocolState} (i : Inv p s) {u v k l x : ℕ} {r : 
     t1p = λ j w y e h b g.
         let n = F.inf-out-absorb i act w h in
         let t = i.parents.t1p j w y e (F.inf-old-absorb i act w h) b (λ z. g (ap s.gc (F.fr-out-absorb i act w n) ∙ z)) in
-        (F.inf-new-absorb i act y (λ z. n (i.marks.m3 j w y e (i.inbounds.u1i j w y e b) ∙ z)) (t .0), t .1, t .2);
+        (F.inf-new-absorb i act y (λ z. n (i.markings.m3 j w y e (i.inbounds.u1i j w y e b) ∙ z)) (t .0), t .1, t .2);
     t1e = λ j w y e h g. i.parents.t1e j w y e (F.inf-old-absorb i act w h) (ap s.gc (sym (F.fr-out-absorb i act w (F.inf-out-absorb i act w h))) ∙ g);
     t1u = λ w h d. i.parents.t1u w (F.inf-old-absorb i act w h) (ap s.dk (sym (F.fr-out-absorb i act w (F.inf-out-absorb i act w h))) ∙ d);
   }
@@ -199,7 +199,7 @@ module _ {p : Network} {s : ProtocolState} (i : Inv p s) {u v k l x : ℕ} {r : 
     t3 = λ j a b e h m n. F.jn-absorb i act j a b e h
         (λ y z o. sym (ap S′.due y) ∙ F.due-out-absorb i act v (F.apart-absorb i act) ∙ sym (F.due-in-absorb i act u refl) ∙ ap S′.due z)
         (λ y z o. sym (ap S′.due y) ∙ F.due-in-absorb i act u refl ∙ sym (F.due-out-absorb i act v (F.apart-absorb i act)) ∙ ap S′.due z)
-        (λ d o. let f = i.marks.m3 j a b e o in
+        (λ d o. let f = i.markings.m3 j a b e o in
         by-eq (s.fr a) (s.fr u)
         (λ z. F.due-in-absorb i act a z ∙ sym (F.due-in-absorb i act b (sym f ∙ z)))
         (λ z. let z′ : s.fr b ≢ s.fr u = λ y. z (f ∙ y) in

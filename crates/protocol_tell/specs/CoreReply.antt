@@ -29,13 +29,13 @@ module _ {p : Network} {s : ProtocolState} (i : Inv p s) {u v k l : ℕ} {r : Li
   mark-u = i.connects.c1m k u v l ends head
 
   mark-v : s.mark v k ≡ 1
-  mark-v = by-eq (s.mark v k) 1 (λ e. e) (λ n. absurd (i.marks.m1 k v u (flip ends) (omega (arith, i.ranges.mark-le v k)) .1 mark-u))
+  mark-v = by-eq (s.mark v k) 1 (λ e. e) (λ n. absurd (i.markings.m1 k v u (flip ends) (omega (arith, i.ranges.mark-le v k)) .1 mark-u))
 
   joined : Jn s k u v
   joined = (mark-u, mark-v)
 
   inside : s.fr u ≡ s.fr v
-  inside = i.marks.m3 k u v ends joined
+  inside = i.markings.m3 k u v ends joined
 
   core : GC s u ≡ k
   core = i.connects.c1 k u v l ends head mark-v .0

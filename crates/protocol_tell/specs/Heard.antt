@@ -101,7 +101,7 @@ module _ {p : Network} {s : ProtocolState} (i : Inv p s) {u v k l f x a b d e : 
     kid-joined = (m, by-eq (s.mark c j) 1 (λ z. z) (λ z. absurd (omega (arith, low, i.halves.d1 j v c g (i.halves.m2 j v c g m z) .d1l))))
 
     pub kid-fr : s.fr v ≡ s.fr c
-    kid-fr = i.marks.m3 j v c g kid-joined
+    kid-fr = i.markings.m3 j v c g kid-joined
 
     pub kid-core : GC s v ≢ j
     kid-core z = n (core-k j c g z .0)
@@ -135,7 +135,7 @@ module _ {p : Network} {s : ProtocolState} (i : Inv p s) {u v k l f x a b d e : 
   pub report-to : (j w n : ℕ) → Edge p j w v → In (report n) (s.ch w j) → (k ≡ j) × (u ≡ w) × (GC s v ≡ j) × CoreEnds s w v j n
   report-to j w n g h = ⊎-elim (λ t. absurd (not-find (t .6)))
       (⊎-elim
-      (λ t. let c : GC s v ≡ j = ap s.gc (sym (i.marks.m3 j w v g (i.reports.r1j j w v n g h))) ∙ t .0 in
+      (λ t. let c : GC s v ≡ j = ap s.gc (sym (i.markings.m3 j w v g (i.reports.r1j j w v n g h))) ∙ t .0 in
       let y = core-k j w (flip g) c in
       (y .0, y .1, c, t))
       (λ t. let z : k ≡ j = sym (ok.i1u) ∙ t .2 in
@@ -153,7 +153,7 @@ module _ {p : Network} {s : ProtocolState} (i : Inv p s) {u v k l f x a b d e : 
       (λ t. (
         t,
         λ o.
-            let z = i.marks.m3 j v y g (i.reports.r1j j v y n g h) in
+            let z = i.markings.m3 j v y g (i.reports.r1j j v y n g h) in
             let c : GC s y ≡ j = sym (i.levels.g2i y o) ∙ t .1 in
             let w = core-low j y g (ap s.gc z ∙ c) in
             let m : DK s v ≡ 0 = by-eq (DK s v) 0 (λ m. m) (λ m. absurd (omega (arith, i.finishes.d5 v m, w.t4d))) in

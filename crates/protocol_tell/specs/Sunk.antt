@@ -35,7 +35,7 @@ module _ {p : Network} {s : ProtocolState} (i : Inv p s) {u v k l x : ℕ} {r : 
   mark-v = by-eq (s.mark v k) 0 (λ e. e)
       (λ n. by-eq (s.mark v k) 1
       (λ e. absurd (omega (arith, i.connects.c1 k u v l act.ends head e .2)))
-      (λ m. absurd (i.marks.m1 k v u (flip act.ends) (omega (arith, i.ranges.mark-le v k)) .1 mark-u)))
+      (λ m. absurd (i.markings.m1 k v u (flip act.ends) (omega (arith, i.ranges.mark-le v k)) .1 mark-u)))
 
   pub half : Half s u k
   half = half-at i k u v act.ends mark-u mark-v

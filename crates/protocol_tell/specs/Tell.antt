@@ -69,7 +69,7 @@ module _ {p : Network} {s : ProtocolState} (i : Inv p s) {u v k l f x a b d e : 
       -- a Connect to v over a joined edge would be over the core, behind the Initiate
       no-call : (j w y n : ℕ) → Edge p j w y → In (connect n) (S′.ch w j) → s.mark y j ≡ 1 → v ≡ y → GC s w ≡ j → ⊥
       no-call j w y n g h o z c =
-          let fr = i.marks.m3 j w y g (i.connects.c1m j w y n g (old isC refl (omega arith) w j h), o) in
+          let fr = i.markings.m3 j w y g (i.connects.c1m j w y n g (old isC refl (omega arith) w j h), o) in
           let t = F.core-k i act j w (ends-at z (flip g)) (ap (λ n. GC s n) z ∙ ap s.gc (sym fr) ∙ c) in
           F.behind-tell i act (connect n) (subst (λ t. In (connect n) t) (sym (at2 S′.ch (t .1) (t .0))) h)
 
@@ -141,7 +141,7 @@ module _ {p : Network} {s : ProtocolState} (i : Inv p s) {u v k l f x a b d e : 
         (λ z q. let y = i.telling.t2i j w c g h q (λ e. n (F.ib-else i act w z ∙ e)) (F.was-low i act c t) in
         by-eq v c
         (λ e. in-fan c₁ v kid m w j (in-pop s.ch u k act.q w j
-        (λ z. omega (arith, ap arg1 z, t, ap S′.lev e, F.lev-v i act, ap s.gl (i.marks.m3 j w c g h))) y))
+        (λ z. omega (arith, ap arg1 z, t, ap S′.lev e, F.lev-v i act, ap s.gl (i.markings.m3 j w c g h))) y))
         (λ e. F.hold i act j w c g e y));
     t4 = λ j y z g h c. by-eq v y
         (λ w. inr (inr (subst (λ n. Inf S′ n) w (F.inf-v-tell i act (F.core-full i act j z (ends-at w g) (ap (λ n. GC s n) w ∙ c))))))
@@ -225,7 +225,7 @@ module _ {p : Network} {s : ProtocolState} (i : Inv p s) {u v k l f x a b d e : 
     sizes = i.sizes;
     cores = i.cores;
     sleepers = T.sleepers-tell i act;
-    marks = i.marks;
+    markings = i.markings;
     inbounds = T.inbounds-tell i act;
     halves = T.halves-tell i act;
     changeRoots = T.changeRoots-tell i act;

@@ -221,7 +221,7 @@ module _ {p : Network} {s : ProtocolState} (i : Inv p s) {u v k l f x a b d e : 
         (λ n. i.findCounts.f4 w ∙ sum-eq p.g.L (s.owe w) (S′.owe w) (λ j h. sym (fill-else s.owe v kid x w j n)));
     f4l = λ w j. fill-elim (λ y. y ≤ 1) s.owe v kid x w j (λ z h. F.bit-le-tell i act) (λ n. i.findCounts.f4l w j);
     f4o = λ w j. fill-elim (λ y. y ≢ 0 → (c : ℕ) × Edge p j w c) s.owe v kid x w j
-        (λ z h n. subst (λ y. (c : ℕ) × Edge p j y c) z (i.marks.own v j (λ o. omega (arith, o, F.kid-yes i act j h .1)))) (λ n. i.findCounts.f4o w j);
+        (λ z h n. subst (λ y. (c : ℕ) × Edge p j y c) z (i.markings.own v j (λ o. omega (arith, o, F.kid-yes i act j h .1)))) (λ n. i.findCounts.f4o w j);
   }
     where
       none-owed : sum p.g.L (s.owe v) ≡ 0
