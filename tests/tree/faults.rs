@@ -176,11 +176,13 @@ pub fn crates(tree: &Tree) -> Vec<Fault> {
     gone.chain(unlisted.map(|name| fault(&format!("crates/{name}"), 1, name))).collect()
 }
 
-/// Public names that two crates or more define, in antt or as a type or constant of code, each where it stands.
+/// Public names that two crates or more define, in antt or as a type of code, each where it stands. (A constant of code has the name of its
+/// definition.)
 pub fn shared(tree: &Tree) -> Vec<Fault> {
     let mut by: BTreeMap<&str, Vec<(&File, usize)>> = BTreeMap::new();
     let counts = |file: &File, item: &scan::antt::Item| {
-        item.public && item.sort != Sort::Function && !file.path.ends_with("/Proof.antt")
+        let constant = item.sort == Sort::Declared && !item.name.contains(char::is_lowercase);
+        item.public && item.sort != Sort::Function && !constant && !file.path.ends_with("/Proof.antt")
     };
     for (_, _, file, item) in tree.all().filter(|(_, _, file, item)| counts(file, item)) {
         by.entry(&item.name).or_default().push((file, item.line));

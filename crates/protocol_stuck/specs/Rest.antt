@@ -14,8 +14,8 @@ leaves (go {v = u} k j h w) d = (k, u, j)
 
 module _ {p : Network} {s : ProtocolState} (i : Inv p s) (t : Stuck p s) where
   -- MARKS: Branch at both ends, or Rejected at both
-  pub markings : (k v u : ℕ) → Edge p k v u → s.st v ≢ 0 → Jn s k v u ⊎ ((s.mark v k ≡ 2) × (s.mark u k ≡ 2))
-  markings k v u e a =
+  pub joined-or-rejected : (k v u : ℕ) → Edge p k v u → s.st v ≢ 0 → Jn s k v u ⊎ ((s.mark v k ≡ 2) × (s.mark u k ≡ 2))
+  joined-or-rejected k v u e a =
       let d = awake-finished i t v a in
       let f = awake-finished i t u (part-awake i t v u a (hop e tt)) in
       by-eq (s.mark v k) 1
@@ -32,10 +32,10 @@ module _ {p : Network} {s : ProtocolState} (i : Inv p s) (t : Stuck p s) where
 
   -- so both ends of a tree edge say branch, of another rejected
   pub tree-branch : (k v u : ℕ) → Edge p k v u → s.st v ≢ 0 → Tree p k → Jn s k v u
-  tree-branch k v u e a h = ⊎-elim (λ j. j) (λ m. absurd (not-tree k v u e (m .0) h)) (markings k v u e a)
+  tree-branch k v u e a h = ⊎-elim (λ j. j) (λ m. absurd (not-tree k v u e (m .0) h)) (joined-or-rejected k v u e a)
 
   pub other-rejected : (k v u : ℕ) → Edge p k v u → s.st v ≢ 0 → ¬ Tree p k → (s.mark v k ≡ 2) × (s.mark u k ≡ 2)
-  other-rejected k v u e a n = ⊎-elim (λ j. absurd (n (i.markings.m5 k v u e (j .0)))) (λ m. m) (markings k v u e a)
+  other-rejected k v u e a n = ⊎-elim (λ j. absurd (n (i.markings.m5 k v u e (j .0)))) (λ m. m) (joined-or-rejected k v u e a)
 
   -- a part with an edge has a core, a tree edge, whose ends have halted
   pub level-pos : (k v u : ℕ) → Edge p k v u → s.st v ≢ 0 → 1 ≤ GL s v
