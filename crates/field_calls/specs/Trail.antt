@@ -104,16 +104,11 @@ consumedAt p t =
 abbrev pub consumedIn : Plan → List Taken → List Message
 consumedIn p l = map carriedBy (flatMap (consumedAt p) l)
 
--- "A module is woken by a wake step that is taken, or by serving a Connect or Test asleep."
-abbrev pub connectOrTest : ℕ → Bool
-connectOrTest x = eqb (kindAt (headerIn x)) 1 || eqb (kindAt (headerIn x)) 3
-
-abbrev pub asleep : State → ℕ → Bool
-asleep s v = eqb (nodeAt s v .status) ASLEEP
-
+-- "A module is woken by a wake step that is taken, or by serving a Connect or Test asleep." kind: the message's, 1 Connect, 3 Test
 unfoldable pub wakesOne : Plan → Taken → Bool
 wakesOne p t =
-    eqb (t .kind) 1 || (eqb (t .kind) 3 && asleep (t .at) (t .number) && connectOrTest (servedWord p (t .number) (t .at)))
+    let kind = kindAt (headerIn (servedWord p (t .number) (t .at))) in
+    eqb (t .kind) 1 || (eqb (t .kind) 3 && eqb (nodeAt (t .at) (t .number) .status) ASLEEP && (eqb kind 1 || eqb kind 3))
 
 -- the modules woken, in order
 unfoldable pub wokenIn : Plan → List Taken → List ℕ
