@@ -67,18 +67,15 @@ serveWork p v x s = respond (ownOf p v) (limitOf p) (msgIn x) (linkOf (linkIn x)
 unfoldable pub backOf : Work → ℕ → List ℕ
 backOf w x = cond (eqb (w .answer) BACK) (x ∷ []) []
 
-abbrev pub serveAt : Plan → ℕ → ℕ → State → After State
-serveAt p v i s =
-    let x = getD (s .words) i 0 in
-    let w = serveWork p v x s in
-    carryOut p v w s (without i (s .words)) (backOf w x)
-
 -- "41 module not below N; .. 45 empty queue"
 unfoldable pub serve : Plan → ℕ → State → After State
 serve p v s =
     cond (leb (modulesOf p) v) (refusedBy 41 s)
     (cond (absent (inQueue p v) (s .words)) (refusedBy 45 s)
-    (serveAt p v (place (inQueue p v) (s .words)) s))
+    (let i = place (inQueue p v) (s .words) in
+    let x = getD (s .words) i 0 in
+    let w = serveWork p v x s in
+    carryOut p v w s (without i (s .words)) (backOf w x)))
 
 -- "kind (1 wake, 2 hand over, 3 serve) and a number"; "54 a kind not 1 to 3"
 unfoldable pub step : Plan → ℕ → ℕ → State → After State
