@@ -3,7 +3,7 @@ use Prim.Native.Nat.{ℕ, zero, suc, _-_}
 use mathlib.Core.Bool.{Bool, cond, not, _&&_}
 use mathlib.Core.List.{List, [], _++_}
 use lib.ListN.{length, replicate}
-use lib.Dec.{eqb, ltb}
+use lib.Dec.{eqb, ltb, leb}
 use Rattle.base.specs.Limits.{maxModules, maxEnds}
 use Rattle.base.specs.Loop.{After, takenTo, refusedBy}
 use Rattle.plan.specs.Refusal.{planRefusal}
@@ -13,7 +13,7 @@ use Rattle.field.specs.declared.Field.{Field}
 use Rattle.field.specs.Edges.{ceilingOf}
 use Rattle.field.specs.State.{State, CELLS, values}
 use Rattle.field.specs.Step.{step}
-use Rattle.field.specs.Valid.{waitingIn, zeroAfter, enough, fits}
+use Rattle.field.specs.Valid.{waitingIn, zeroAfter, fits}
 
 pub record Held : Type 0 where
   pub field : Field
@@ -35,10 +35,11 @@ heldOf h s =
       words = layout (length (h .words)) (s .words);
     }
 
--- 31 does not apply
+-- 31 does not apply: no plan that is refused, no words fewer than M, none but 0 behind those that wait, a state that fits
 unfoldable pub valid : Held → Bool
 valid h =
-    eqb (planRefusal (h .field .plan)) 0 && enough (h .field .plan) (h .words) && zeroAfter (h .words) && fits (h .field .plan) (stateOf h)
+    eqb (planRefusal (h .field .plan)) 0 && leb (ceilingOf (h .field .plan)) (length (h .words)) && zeroAfter (h .words)
+    && fits (h .field .plan) (stateOf h)
 
 -- "Setup gives zeros and nones": the cells of n modules
 unfoldable pub freshCells : ℕ → List ℕ

@@ -33,7 +33,7 @@ without i l = take i l ++ drop (suc i) l
 -- "32 ..; 33 sent would pass M": all sends of the response are counted
 unfoldable pub carryOut : Plan → ℕ → Work → State → List ℕ → List ℕ → After State
 carryOut p v w s words back =
-    cond (eqb (w .answer) REFUSED) (refusedBy 32 s)
+    cond (eqb (w .answer) REFUSED) (refusedBy REFUSED s)
     (cond (ltb (ceilingOf p) (s .sent + length (w .sends))) (refusedBy 33 s)
     (takenTo (placed p v w s words back)))
 
@@ -67,22 +67,28 @@ serveWork p v x s = respond (ownOf p v) (limitOf p) (msgIn x) (linkOf (linkIn x)
 unfoldable pub backOf : Work → ℕ → List ℕ
 backOf w x = cond (eqb (w .answer) BACK) (x ∷ []) []
 
-abbrev pub serveAt : Plan → ℕ → ℕ → State → After State
-serveAt p v i s =
-    let x = getD (s .words) i 0 in
-    let w = serveWork p v x s in
-    carryOut p v w s (without i (s .words)) (backOf w x)
-
 -- "41 module not below N; .. 45 empty queue"
 unfoldable pub serve : Plan → ℕ → State → After State
 serve p v s =
     cond (leb (modulesOf p) v) (refusedBy 41 s)
     (cond (absent (inQueue p v) (s .words)) (refusedBy 45 s)
-    (serveAt p v (place (inQueue p v) (s .words)) s))
+    (let i = place (inQueue p v) (s .words) in
+    let x = getD (s .words) i 0 in
+    let w = serveWork p v x s in
+    carryOut p v w s (without i (s .words)) (backOf w x)))
 
 -- "kind (1 wake, 2 hand over, 3 serve) and a number"; "54 a kind not 1 to 3"
+abbrev pub WAKE : ℕ
+WAKE = 1
+
+abbrev pub HAND : ℕ
+HAND = 2
+
+abbrev pub SERVE : ℕ
+SERVE = 3
+
 unfoldable pub step : Plan → ℕ → ℕ → State → After State
 step p kind number s =
-    cond (eqb kind 1) (wake p number s)
-    (cond (eqb kind 2) (hand p number s)
-    (cond (eqb kind 3) (serve p number s) (refusedBy 54 s)))
+    cond (eqb kind WAKE) (wake p number s)
+    (cond (eqb kind HAND) (hand p number s)
+    (cond (eqb kind SERVE) (serve p number s) (refusedBy 54 s)))

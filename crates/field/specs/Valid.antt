@@ -30,25 +30,13 @@ waitingIn (x ∷ l) = cond (eqb x 0) [] (x ∷ waitingIn l)
 abbrev pub zeroAfter : List ℕ → Bool
 zeroAfter lent = allOf (λ x. eqb x 0) (drop (length (waitingIn lent)) lent)
 
--- "Setup needs M words or more"
-abbrev pub enough : Plan → List ℕ → Bool
-enough p lent = leb (ceilingOf p) (length lent)
-
--- a word: as laid out; its carried link below L; its directed link below 2 × L; its level at most ⌊log2 N⌋
 abbrev pub linkOrNone : Plan → ℕ → Bool
 linkOrNone p x = eqb x none || ltb x (linksOf p)
 
-abbrev pub carriedFits : Plan → ℕ → Bool
-carriedFits p w = linkOrNone p (carriedIn w)
-
-abbrev pub linkFits : Plan → ℕ → Bool
-linkFits p w = ltb (linkIn w) (2 * linksOf p)
-
-abbrev pub levelFits : Plan → ℕ → Bool
-levelFits p w = leb (levelAt (headerIn w)) (limitOf p)
-
+-- a word: as laid out; its carried link below L; its directed link below 2 × L; its level at most ⌊log2 N⌋
 unfoldable pub wordFits : Plan → ℕ → Bool
-wordFits p w = laidOut w && carriedFits p w && linkFits p w && levelFits p w
+wordFits p w =
+    laidOut w && linkOrNone p (carriedIn w) && ltb (linkIn w) (2 * linksOf p) && leb (levelAt (headerIn w)) (limitOf p)
 
 -- a module's values: "status (0 asleep, 1 Find, 2 Found), level, identity, best weight (the last two are link numbers or none), best edge, test
 -- edge, in-branch (own links or none), find-count, halted (0 or 1)"
@@ -60,25 +48,19 @@ valuesListed p v n =
     leb (n .status) FOUND && linkOrNone p (n .identity) && linkOrNone p (n .weight) && ownOrNone p v (n .best) && ownOrNone p v (n .test)
     && ownOrNone p v (n .branch) && leb (n .halted) 1
 
-abbrev pub levelWithin : Plan → Node → Bool
-levelWithin p n = leb (n .level) (limitOf p)
-
-abbrev pub countWithin : Plan → ℕ → Node → Bool
-countWithin p v n = leb (n .count) (degree (ownOf p v))
-
 -- identity none exactly at level 0
 abbrev pub identityFits : Node → Bool
 identityFits n = cond (eqb (n .level) 0) (eqb (n .identity) none) (not (eqb (n .identity) none))
 
+-- a module: its values listed; its level at most ⌊log2 N⌋; its find-count at most its links
 unfoldable pub nodeFits : Plan → ℕ → Node → Bool
-nodeFits p v n = valuesListed p v n && levelWithin p n && countWithin p v n && identityFits n
+nodeFits p v n =
+    valuesListed p v n && leb (n .level) (limitOf p) && leb (n .count) (degree (ownOf p v)) && identityFits n
 
+-- All that 31 asks of the state, the words that wait among it.
 -- "a mark for each own link: 0 Basic, 1 Branch, 2 Rejected": link k's marks stand at 2 × k and 2 × k + 1
-abbrev pub markFits : State → ℕ → Bool
-markFits s d = leb (getD (s .marks) d 0) REJECTED
-
--- all that 31 asks of the state, the words that wait among it
 unfoldable pub fits : Plan → State → Bool
 fits p s =
-    allOf (wordFits p) (s .words) && every (modulesOf p) (λ v. nodeFits p v (nodeAt s v)) && every (2 * linksOf p) (markFits s)
+    allOf (wordFits p) (s .words) && every (modulesOf p) (λ v. nodeFits p v (nodeAt s v))
+    && every (2 * linksOf p) (λ d. leb (getD (s .marks) d 0) REJECTED)
     && leb (length (s .words)) (s .sent) && leb (s .sent) (ceilingOf p)

@@ -10,7 +10,7 @@ use Rattle.base.specs.Loop.{After, Ran, runs}
 use Rattle.base.specs.Refuse.{orElse}
 use Rattle.plan.specs.Links.{Plan}
 use Rattle.field.specs.State.{State}
-use Rattle.field.specs.Step.{step}
+use Rattle.field.specs.Step.{WAKE, SERVE, step}
 use Rattle.field_calls.specs.declared.Step.{Step}
 
 -- "A schedule is version byte 1, the length of what follows, and 3 bytes a step: kind (1 wake, 2 hand over, 3 serve) and a number."
@@ -27,7 +27,7 @@ abbrev pub lengthFits : List ℕ → Bool
 lengthFits bytes = eqb (at16 bytes 1 + 3) (length bytes) && eqb (at16 bytes 1 % 3) 0
 
 abbrev pub kindListed : ℕ → Bool
-kindListed kind = leb 1 kind && leb kind 3
+kindListed kind = leb WAKE kind && leb kind SERVE
 
 -- the first that applies: "51 fewer than 3 bytes; 52 version; 53 length wrong or not a multiple of 3; 54 a kind not 1 to 3 (checked throughout
 -- before any step ..)"

@@ -11,7 +11,7 @@ use Rattle.format_message.specs.Header.{kindAt, headerOf, carriedOf}
 use Rattle.format_word.specs.Word.{headerIn, carriedIn, linkIn}
 use Rattle.node.specs.Work.{Send, ASLEEP, BACK}
 use Rattle.field.specs.State.{State, nodeAt}
-use Rattle.field.specs.Step.{place, inAir, inQueue, wakeWork, serveWork, hand, serve, step}
+use Rattle.field.specs.Step.{place, inAir, inQueue, wakeWork, serveWork, hand, serve, WAKE, HAND, SERVE, step}
 use Rattle.field.specs.Held.{Held, stateOf, valid}
 use Rattle.field_calls.specs.Schedule.{scheduleRefusal, stepsIn, kindOf, numberOf, stepAt, never}
 use Rattle.base.specs.Keep.{many}
@@ -33,10 +33,10 @@ ifTaken p kind number s =
 
 -- the steps of a round, in the shape of `round`
 unfoldable pub handTurnSteps : Plan → ℕ → State → List Taken
-handTurnSteps p d s = loopTrace (many (inAir d) (s .words)) (λ j. hand p d) (λ j. ifTaken p 2 d) s
+handTurnSteps p d s = loopTrace (many (inAir d) (s .words)) (λ j. hand p d) (λ j. ifTaken p HAND d) s
 
 unfoldable pub serveTurnSteps : Plan → ℕ → State → List Taken
-serveTurnSteps p v s = loopTrace (many (inQueue p v) (s .words)) (λ j. serve p v) (λ j. ifTaken p 3 v) s
+serveTurnSteps p v s = loopTrace (many (inQueue p v) (s .words)) (λ j. serve p v) (λ j. ifTaken p SERVE v) s
 
 unfoldable pub roundSteps : Plan → State → List Taken
 roundSteps p s =
@@ -84,8 +84,8 @@ timesIn m l = sumL (λ n. bit (sameMessage m n)) l
 -- the sends of the response to a step
 unfoldable pub sendsAt : Plan → Taken → List Send
 sendsAt p t =
-    cond (eqb (t .kind) 1) (wakeWork p (t .number) (t .at) .sends)
-    (cond (eqb (t .kind) 3) (serveWork p (t .number) (servedWord p (t .number) (t .at)) (t .at) .sends) [])
+    cond (eqb (t .kind) WAKE) (wakeWork p (t .number) (t .at) .sends)
+    (cond (eqb (t .kind) SERVE) (serveWork p (t .number) (servedWord p (t .number) (t .at)) (t .at) .sends) [])
 
 -- "Messages sent are the sends of the responses to the steps taken, in runs too; a put-back is no send."
 abbrev pub sentIn : Plan → List Taken → List Message
@@ -98,22 +98,17 @@ messagesSent p l = length (sentIn p l)
 unfoldable pub consumedAt : Plan → Taken → List ℕ
 consumedAt p t =
     let x = servedWord p (t .number) (t .at) in
-    cond (eqb (t .kind) 3 && not (eqb (serveWork p (t .number) x (t .at) .answer) BACK)) (x ∷ []) []
+    cond (eqb (t .kind) SERVE && not (eqb (serveWork p (t .number) x (t .at) .answer) BACK)) (x ∷ []) []
 
 -- the messages consumed
 abbrev pub consumedIn : Plan → List Taken → List Message
 consumedIn p l = map carriedBy (flatMap (consumedAt p) l)
 
--- "A module is woken by a wake step that is taken, or by serving a Connect or Test asleep."
-abbrev pub connectOrTest : ℕ → Bool
-connectOrTest x = eqb (kindAt (headerIn x)) 1 || eqb (kindAt (headerIn x)) 3
-
-abbrev pub asleep : State → ℕ → Bool
-asleep s v = eqb (nodeAt s v .status) ASLEEP
-
+-- "A module is woken by a wake step that is taken, or by serving a Connect or Test asleep." kind: the message's, 1 Connect, 3 Test
 unfoldable pub wakesOne : Plan → Taken → Bool
 wakesOne p t =
-    eqb (t .kind) 1 || (eqb (t .kind) 3 && asleep (t .at) (t .number) && connectOrTest (servedWord p (t .number) (t .at)))
+    let kind = kindAt (headerIn (servedWord p (t .number) (t .at))) in
+    eqb (t .kind) WAKE || (eqb (t .kind) SERVE && eqb (nodeAt (t .at) (t .number) .status) ASLEEP && (eqb kind 1 || eqb kind 3))
 
 -- the modules woken, in order
 unfoldable pub wokenIn : Plan → List Taken → List ℕ

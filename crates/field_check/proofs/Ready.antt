@@ -5,7 +5,7 @@ use mathlib.Core.Path.{_≡_, sym, ap, subst, _∙_}
 use mathlib.Core.Bool.{true, _&&_, and-eq-true-iff}
 use mathlib.Core.List.{List}
 use lib.ListN.{length}
-use lib.Dec.{eqb}
+use lib.Dec.{eqb, leb}
 use borrow.Author.Tests.{leb-true}
 use Rattle.plan.specs.Refusal.{planRefusal}
 use Rattle.base.specs.Limits.{maxEnds}
@@ -13,7 +13,7 @@ use Rattle.plan.specs.Links.{planSize}
 use Rattle.field.specs.declared.Field.{Field}
 use Rattle.field.specs.Edges.{ceilingOf}
 use Rattle.field.specs.State.{CELLS}
-use Rattle.field.specs.Valid.{zeroAfter, enough, fits}
+use Rattle.field.specs.Valid.{zeroAfter, fits}
 use Rattle.field.specs.Held.{Held, layout, valid}
 use Rattle.field.specs.Held as H
 use Rattle.field_laws.specs.Keeps.{Sound}
@@ -43,9 +43,9 @@ module _ (f : Field) (lent : List ℕ) (c : Checked) (full : Full f) (e : c ≡ 
   enough-words : ceilingOf (f .plan) ≤ length lent
   unfolding valid
   enough-words =
-      let a = and-eq-true-iff (eqb (planRefusal (f .plan)) 0 && enough (f .plan) lent && zeroAfter lent) (fits (f .plan) (H.stateOf h)) .0 passes in
-      let b = and-eq-true-iff (eqb (planRefusal (f .plan)) 0 && enough (f .plan) lent) (zeroAfter lent) .0 (a .0) in
-      leb-true _ _ (and-eq-true-iff (eqb (planRefusal (f .plan)) 0) (enough (f .plan) lent) .0 (b .0) .1)
+      let a = and-eq-true-iff (eqb (planRefusal (f .plan)) 0 && leb (ceilingOf (f .plan)) (length lent) && zeroAfter lent) (fits (f .plan) (H.stateOf h)) .0 passes in
+      let b = and-eq-true-iff (eqb (planRefusal (f .plan)) 0 && leb (ceilingOf (f .plan)) (length lent)) (zeroAfter lent) .0 (a .0) in
+      leb-true _ _ (and-eq-true-iff (eqb (planRefusal (f .plan)) 0) (leb (ceilingOf (f .plan)) (length lent)) .0 (b .0) .1)
 
   pub ready : Ready (f .plan) (f .cells) (f .marks) lent (c .waiting) (f .sent)
   ready = record {

@@ -66,7 +66,7 @@ pub data StepOutcome (s : State) (Took : State → Type 0) : After State → Typ
 module _ (p : Plan) (v : ℕ) (w : Work) (s : State) (words back : List ℕ) where
   pub carried-out : StepOutcome s (Placed p v w s words back) (carryOut p v w s words back)
   unfolding carryOut
-  carried-out = eqb-cases (w .answer) REFUSED (λ b. StepOutcome s (Placed p v w s words back) (cond b (refusedBy 32 s) (cond (ltb (ceilingOf p) (s .sent + length (w .sends))) (refusedBy 33 s) (takenTo (placed p v w s words back)))))
+  carried-out = eqb-cases (w .answer) REFUSED (λ b. StepOutcome s (Placed p v w s words back) (cond b (refusedBy REFUSED s) (cond (ltb (ceilingOf p) (s .sent + length (w .sends))) (refusedBy 33 s) (takenTo (placed p v w s words back)))))
       (λ e. kept 32 (inl refl))
       (λ n. ltb-cases (ceilingOf p) (s .sent + length (w .sends)) (λ b. StepOutcome s (Placed p v w s words back) (cond b (refusedBy 33 s) (takenTo (placed p v w s words back))))
       (λ l. kept 33 (inr (inl refl)))

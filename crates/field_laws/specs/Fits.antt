@@ -23,10 +23,10 @@ use Rattle.format_message.specs.laws.Means.{Means, means, in-bits}
 use Rattle.format_word.specs.Word.{headerIn, carriedIn, linkIn, laidOut, shaped, handOver}
 use Rattle.format_word.specs.laws.Word.{over, over-laid-out, packs-laid-out}
 use Rattle.node.specs.declared.Node.{Node}
-use Rattle.node.specs.Work.{Own, Send, FOUND, REJECTED}
+use Rattle.node.specs.Work.{Own, Send, FOUND, REJECTED, degree}
 use Rattle.field.specs.Edges.{isOwn, ownOf, limitOf, ceilingOf, endOf}
 use Rattle.field.specs.State.{State, nodeAt, msgIn, wordOf, posted}
-use Rattle.field.specs.Valid.{allOf, linkOrNone, ownOrNone, carriedFits, linkFits, levelFits, wordFits, valuesListed, levelWithin, countWithin, identityFits, nodeFits, markFits, fits}
+use Rattle.field.specs.Valid.{allOf, linkOrNone, ownOrNone, wordFits, valuesListed, identityFits, nodeFits, fits}
 use Rattle.plan.specs.laws.Accepted.{Accepted}
 use Rattle.plan.specs.laws.Ceiling.{level-small}
 use Rattle.plan.specs.Links.{Plan, modulesOf, linksOf}
@@ -109,7 +109,7 @@ module _ (p : Plan) (v : ℕ) (n : Node) where
   pub node-facts : nodeFits p v n ≡ true → NodeOk (ownOf p v) (limitOf p) n
   unfolding nodeFits
   node-facts e =
-      let a = four (valuesListed p v n) (levelWithin p n) (countWithin p v n) (identityFits n) e in
+      let a = four (valuesListed p v n) (leb (n .level) (limitOf p)) (leb (n .count) (degree (ownOf p v))) (identityFits n) e in
       let b = four (leb (n .status) FOUND && linkOrNone p (n .identity) && linkOrNone p (n .weight) && ownOrNone p v (n .best)) (ownOrNone p v (n .test)) (ownOrNone p v (n .branch)) (leb (n .halted) 1) (a .0) in
       let c = four (leb (n .status) FOUND) (linkOrNone p (n .identity)) (linkOrNone p (n .weight)) (ownOrNone p v (n .best)) (b .0) in
       let d = identity-facts (a .3) in
@@ -139,9 +139,9 @@ module _ (p : Plan) (v : ℕ) (n : Node) where
 -- ---- a word
 
 module _ (p : Plan) (w : ℕ) (e : wordFits p w ≡ true) where
-  parts : (laidOut w ≡ true) × (carriedFits p w ≡ true) × (linkFits p w ≡ true) × (levelFits p w ≡ true)
+  parts : (laidOut w ≡ true) × (linkOrNone p (carriedIn w) ≡ true) × (ltb (linkIn w) (2 * linksOf p) ≡ true) × (leb (levelAt (headerIn w)) (limitOf p) ≡ true)
   unfolding wordFits
-  parts = four (laidOut w) (carriedFits p w) (linkFits p w) (levelFits p w) e
+  parts = four (laidOut w) (linkOrNone p (carriedIn w)) (ltb (linkIn w) (2 * linksOf p)) (leb (levelAt (headerIn w)) (limitOf p)) e
 
   pub word-shaped : shaped w ≡ true
   word-shaped = two (shaped w) (listed (headerIn w) (carriedIn w)) (parts .0) .0
@@ -253,12 +253,12 @@ module _ (p : Plan) (s : State) where
   pub fits-facts : fits p s ≡ true → FieldFits p s
   unfolding fits
   fits-facts e =
-      let a = two (allOf (wordFits p) (s .words) && every (modulesOf p) (λ v. nodeFits p v (nodeAt s v)) && every (2 * linksOf p) (markFits s) && leb (length (s .words)) (s .sent)) (leb (s .sent) (ceilingOf p)) e in
-      let b = four (allOf (wordFits p) (s .words)) (every (modulesOf p) (λ v. nodeFits p v (nodeAt s v))) (every (2 * linksOf p) (markFits s)) (leb (length (s .words)) (s .sent)) (a .0) in
+      let a = two (allOf (wordFits p) (s .words) && every (modulesOf p) (λ v. nodeFits p v (nodeAt s v)) && every (2 * linksOf p) (λ d. leb (getD (s .marks) d 0) REJECTED) && leb (length (s .words)) (s .sent)) (leb (s .sent) (ceilingOf p)) e in
+      let b = four (allOf (wordFits p) (s .words)) (every (modulesOf p) (λ v. nodeFits p v (nodeAt s v))) (every (2 * linksOf p) (λ d. leb (getD (s .marks) d 0) REJECTED)) (leb (length (s .words)) (s .sent)) (a .0) in
       record {
         words = all-of (wordFits p) (s .words) (b .0);
         nodes = λ v l. node-facts p v (nodeAt s v) (every-all (modulesOf p) (λ u. nodeFits p u (nodeAt s u)) (b .1) v l);
-        marks = λ d l. leb-true _ _ (every-all (2 * linksOf p) (markFits s) (b .2) d l);
+        marks = λ d l. leb-true _ _ (every-all (2 * linksOf p) (λ d. leb (getD (s .marks) d 0) REJECTED) (b .2) d l);
         waiting = leb-true _ _ (b .3);
         ceiling = leb-true _ _ (a .1);
       }
@@ -268,5 +268,5 @@ module _ (p : Plan) (s : State) where
   facts-fits h =
       pair _ _
       (all-four _ _ _ _ (of-all (wordFits p) (h .words)) (all-every (modulesOf p) (λ u. nodeFits p u (nodeAt s u)) (λ v l. facts-node p v (nodeAt s v) (h .nodes v l)))
-      (all-every (2 * linksOf p) (markFits s) (λ d l. le-leb _ _ (h .marks d l))) (le-leb _ _ (h .waiting)))
+      (all-every (2 * linksOf p) (λ d. leb (getD (s .marks) d 0) REJECTED) (λ d l. le-leb _ _ (h .marks d l))) (le-leb _ _ (h .waiting)))
       (le-leb _ _ (h .ceiling))

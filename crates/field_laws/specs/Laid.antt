@@ -20,7 +20,7 @@ use Rattle.plan.specs.laws.Accepted.{Accepted, accepted}
 use Rattle.plan.specs.Links.{Plan}
 use Rattle.field.specs.Edges.{ceilingOf}
 use Rattle.field.specs.State.{State, CELLS}
-use Rattle.field.specs.Valid.{allOf, waitingIn, zeroAfter, enough, fits}
+use Rattle.field.specs.Valid.{allOf, waitingIn, zeroAfter, fits}
 use Rattle.field.specs.Held.{Held, layout, stateOf, heldOf, valid, stepAlone}
 use Rattle.field_calls.specs.Schedule.{scheduleRefusal, scheduleRun}
 use Rattle.field_calls.specs.Call.{Call, one, run, rounds, refusedRun, laidBack, runBytes, runRounds, does}
@@ -84,12 +84,12 @@ module _ (h : Held) (i : Live h) where
   abbrev pub plan : Plan
   plan = h .field .plan
 
-  checks : (planRefusal plan ≡ 0) × (enough plan (h .words) ≡ true) × (zeroAfter (h .words) ≡ true) × (fits plan (stateOf h) ≡ true)
+  checks : (planRefusal plan ≡ 0) × (leb (ceilingOf plan) (length (h .words)) ≡ true) × (zeroAfter (h .words) ≡ true) × (fits plan (stateOf h) ≡ true)
   unfolding valid
   checks =
-      let a = and-eq-true-iff (eqb (planRefusal plan) 0 && enough plan (h .words) && zeroAfter (h .words)) (fits plan (stateOf h)) .0 (i .valid) in
-      let b = and-eq-true-iff (eqb (planRefusal plan) 0 && enough plan (h .words)) (zeroAfter (h .words)) .0 (a .0) in
-      let c = and-eq-true-iff (eqb (planRefusal plan) 0) (enough plan (h .words)) .0 (b .0) in
+      let a = and-eq-true-iff (eqb (planRefusal plan) 0 && leb (ceilingOf plan) (length (h .words)) && zeroAfter (h .words)) (fits plan (stateOf h)) .0 (i .valid) in
+      let b = and-eq-true-iff (eqb (planRefusal plan) 0 && leb (ceilingOf plan) (length (h .words))) (zeroAfter (h .words)) .0 (a .0) in
+      let c = and-eq-true-iff (eqb (planRefusal plan) 0) (leb (ceilingOf plan) (length (h .words))) .0 (b .0) in
       (eqb-true _ _ (c .0), c .1, b .1, a .1)
 
   pub live-plan : Accepted plan

@@ -7,7 +7,7 @@ use Rattle.base.specs.Loop.{Ran, then, countedTurn, loopTrace, runsTrace}
 use Rattle.base.specs.laws.Loop.{by-test, loop-tells, runs-tell}
 use Rattle.plan.specs.Links.{Plan, modulesOf, linksOf}
 use Rattle.field.specs.State.{State}
-use Rattle.field.specs.Step.{inAir, inQueue, hand, serve, step}
+use Rattle.field.specs.Step.{inAir, inQueue, hand, serve, HAND, SERVE, step}
 use Rattle.field_calls.specs.Schedule.{scheduleRefusal, scheduleRun, stepsIn, kindOf, numberOf, stepAt, never}
 use Rattle.base.specs.Keep.{many}
 use Rattle.field_calls.specs.Rounds.{handTurn, handPhase, serveTurn, servePhase, round, atRest, roundsRun}
@@ -25,21 +25,21 @@ onState p (rounds limit) s = roundsRun p limit s
 module _ (p : Plan) (R : State → List Taken → State → Type 0) (none : (x : State) → R x [] x)
     (more : (x y z : State) (l m : List Taken) → R x l y → R y m z → R x (l ++ m) z)
     (turn : (kind number : ℕ) (s : State) → R s (ifTaken p kind number s) (step p kind number s .state)) where
-  hand-one : (d : ℕ) (s : State) → R s (ifTaken p 2 d s) (hand p d s .state)
+  hand-one : (d : ℕ) (s : State) → R s (ifTaken p HAND d s) (hand p d s .state)
   unfolding step
-  hand-one d s = turn 2 d s
+  hand-one d s = turn HAND d s
 
-  serve-one : (v : ℕ) (s : State) → R s (ifTaken p 3 v s) (serve p v s .state)
+  serve-one : (v : ℕ) (s : State) → R s (ifTaken p SERVE v s) (serve p v s .state)
   unfolding step
-  serve-one v s = turn 3 v s
+  serve-one v s = turn SERVE v s
 
   pub hand-turn-tells : (d : ℕ) (s : State) → R s (handTurnSteps p d s) (handTurn p d s .state)
   unfolding handTurnSteps handTurn
-  hand-turn-tells d s = loop-tells R none more (λ j. hand p d) (λ j. ifTaken p 2 d) (many (inAir d) (s .words)) s (λ k y l. hand-one d y)
+  hand-turn-tells d s = loop-tells R none more (λ j. hand p d) (λ j. ifTaken p HAND d) (many (inAir d) (s .words)) s (λ k y l. hand-one d y)
 
   pub serve-turn-tells : (v : ℕ) (s : State) → R s (serveTurnSteps p v s) (serveTurn p v s .state)
   unfolding serveTurnSteps serveTurn
-  serve-turn-tells v s = loop-tells R none more (λ j. serve p v) (λ j. ifTaken p 3 v) (many (inQueue p v) (s .words)) s (λ k y l. serve-one v y)
+  serve-turn-tells v s = loop-tells R none more (λ j. serve p v) (λ j. ifTaken p SERVE v) (many (inQueue p v) (s .words)) s (λ k y l. serve-one v y)
 
   pub round-tells : (s : State) → R s (roundSteps p s) (round p s .state)
   unfolding roundSteps round then

@@ -21,10 +21,10 @@ use Rattle.node.specs.declared.Node.{Node}
 use Rattle.node.specs.Work.{ASLEEP, start}
 use Rattle.field.specs.Edges.{ownOf, linkOf, limitOf}
 use Rattle.field.specs.State.{State, nodeAt, markAt}
-use Rattle.field.specs.Step.{wakeWork, step}
+use Rattle.field.specs.Step.{wakeWork, SERVE, step}
 use Rattle.field.specs.Held.{Held, stateOf, setUp}
 use Rattle.field_calls.specs.Call.{Call, after}
-use Rattle.field_calls.specs.Trail.{Taken, ifTaken, trail, connectOrTest, wakesOne, wokenIn}
+use Rattle.field_calls.specs.Trail.{Taken, ifTaken, trail, wakesOne, wokenIn}
 use Rattle.field_laws.specs.Cases.{Woke, Served, refusal-not-0, StepOutcome, took, kept, FieldStep, wake-step, hand-step, serve-step, step-outcome}
 use Rattle.field_laws.specs.Places.{node-same, node-other}
 use Rattle.field_laws.specs.Keeps.{Sound, step-keeps}
@@ -68,14 +68,14 @@ module _ (p : Plan) (a : Accepted p) (s s′ : State) (i : Sound p s) where
   before v r u n k = record { within = k .within; awake = λ e. k .awake (ap (λ (m : Node). m .status) (r .other u n) ∙ e) }
 
 -- a sleeper whose service is taken is woken by it: a message of another kind would be refused
-serve-wakes : (p : Plan) (s s′ : State) (v : ℕ) → Served p v s s′ → nodeAt s v .status ≡ ASLEEP → wakesOne p (record { kind = 3; number = v; at = s }) ≡ true
+serve-wakes : (p : Plan) (s s′ : State) (v : ℕ) → Served p v s s′ → nodeAt s v .status ≡ ASLEEP → wakesOne p (record { kind = SERVE; number = v; at = s }) ≡ true
 unfolding wakesOne
-serve-wakes p s s′ v h e = rw (eq-eqb _ ASLEEP e) (subst (λ x. connectOrTest x ≡ true) (h .at) listed)
+serve-wakes p s s′ v h e = rw (eq-eqb _ ASLEEP e) (subst (λ x. (eqb (kindAt (headerIn x)) 1 || eqb (kindAt (headerIn x)) 3) ≡ true) (h .at) listed)
   where
     header : ℕ
     header = headerIn (h .word)
 
-    listed : connectOrTest (h .word) ≡ true
+    listed : (eqb (kindAt header) 1 || eqb (kindAt header) 3) ≡ true
     listed = by-eq (kindAt header) 1 (λ q. rw (eq-eqb (kindAt header) 1 q) refl)
         (λ n₁. by-eq (kindAt header) 3 (λ q. ap₂ _||_ (ne-eqb (kindAt header) 1 n₁) (eq-eqb (kindAt header) 3 q))
         (λ n₃. absurd (h .responds .fine (refused-asleep (ownOf p v) (limitOf p) (linkOf (linkIn (h .word))) (start (nodeAt s v) (markAt p s v)) e (kindAt header) (levelAt header) (carriedIn (h .word)) (findAt header) n₁ n₃))))
@@ -126,7 +126,7 @@ module _ (p : Plan) (a : Accepted p) where
       }
   took-wakes s _ _ s′ i j (serve-step {v} h) =
       let r = served-responds p a s s′ i v h in
-      let t : Taken = record { kind = 3; number = v; at = s } in
+      let t : Taken = record { kind = SERVE; number = v; at = s } in
       record {
         sound = j;
         woken = by-test (wakesOne p t) (λ b. All (Awake p s′) (cond b (v ∷ []) [])) (All-one (r .now)) nil;

@@ -25,7 +25,7 @@ use Rattle.field_serve.proofs.Holds.{holds-on}
 
 -- by its three outcomes
 module _ (p : Plan) (v : ℕ) (w : Work) (s : State) (words back : List ℕ) where
-  carry-32 : w .answer ≡ REFUSED → carryOut p v w s words back ≡ refusedBy 32 s
+  carry-32 : w .answer ≡ REFUSED → carryOut p v w s words back ≡ refusedBy REFUSED s
   unfolding carryOut
   carry-32 h = rw (eq-eqb (w .answer) REFUSED h)
 

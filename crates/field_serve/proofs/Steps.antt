@@ -1,5 +1,5 @@
 -- The two steps, outcome by outcome, as the code meets them: `waking-41`, `waking-43`, `waking`; `serving-41`, `serving-45`, `serving`.
-use Prim.Native.Nat.{ℕ, _≤_, _<_}
+use Prim.Native.Nat.{ℕ, _*_, _≤_, _<_}
 use native.Mathlib.Omega.{arith}
 use mathlib.Core.Path.{_≡_, refl, sym, ap, subst, _∙_}
 use mathlib.Core.Logic.{_≢_, _⊎_, inl, inr, ⊎-elim}
@@ -7,7 +7,7 @@ use mathlib.Core.Bool.{true, and-eq-true-iff}
 use mathlib.Core.List.{List, []}
 use lib.ListN.{length, getD, take}
 use lib.Seq.{length-take-le, getD-take}
-use lib.Dec.{eqb, ltb}
+use lib.Dec.{eqb, ltb, leb}
 use borrow.Author.Tests.{le-leb, lt-leb, eq-eqb, ne-eqb}
 use Rattle.base.specs.laws.Cond.{bool-cases}
 use Rattle.base.specs.Loop.{After, refusedBy}
@@ -19,7 +19,7 @@ use Rattle.format_message.specs.Header.{kindAt, levelAt, findAt}
 use Rattle.format_message.specs.Listed.{bare, listedAs, listed}
 use Rattle.format_message.specs.laws.Means.{Means, means}
 use Rattle.format_word.specs.Word.{headerIn, carriedIn, linkIn, laidOut, shaped}
-use Rattle.plan.specs.Links.{Plan, modulesOf}
+use Rattle.plan.specs.Links.{Plan, modulesOf, linksOf}
 use Rattle.node.specs.declared.Node.{Node}
 use Rattle.node.specs.Work.{Own, Work, Send, BACK, ASLEEP, TAKEN, earliest, anyEdge}
 use Rattle.node.specs.Rules.{respond, wakeOn, wakes}
@@ -30,8 +30,8 @@ use Rattle.node_joining.specs.laws.Copies.{copiesIn}
 use Rattle.node_dispatch.specs.Receives.{Receives}
 use Rattle.field.specs.Edges.{ownOf, linkOf, limitOf}
 use Rattle.field.specs.State.{State, nodeIn, nodeAt, markAt, msgIn}
-use Rattle.field.specs.Step.{inQueue, without, carryOut, backOf, wakeWork, wake, serveWork, serveAt, serve}
-use Rattle.field.specs.Valid.{carriedFits, linkFits, levelFits, wordFits}
+use Rattle.field.specs.Step.{inQueue, without, carryOut, backOf, wakeWork, wake, serveWork, serve}
+use Rattle.field.specs.Valid.{linkOrNone, wordFits}
 use Rattle.field_laws.specs.Lists.{WorkOk}
 use Rattle.field_laws.specs.Keeps.{wake-ok, served-own, serve-ok}
 use Rattle.field_check.specs.Ready.{Ready}
@@ -45,6 +45,13 @@ use Rattle.field_serve.proofs.Packets.{first-ok, second-ok}
 -- ---- the definitions, by their outcomes
 
 module _ (p : Plan) (v : ℕ) (s : State) where
+  -- the word at place i is served
+  abbrev servedAt : ℕ → After State
+  servedAt i =
+      let x = getD (s .words) i 0 in
+      let w = serveWork p v x s in
+      carryOut p v w s (without i (s .words)) (backOf w x)
+
   wake-41 : modulesOf p ≤ v → wake p v s ≡ refusedBy 41 s
   unfolding wake
   wake-41 h = rw (le-leb _ _ h)
@@ -66,7 +73,7 @@ module _ (p : Plan) (v : ℕ) (s : State) where
     unfolding serve
     serve-45 h = rw (lt-leb _ _ l, le-leb _ _ h)
 
-    serve-on : place (inQueue p v) (s .words) < length (s .words) → serve p v s ≡ serveAt p v (place (inQueue p v) (s .words)) s
+    serve-on : place (inQueue p v) (s .words) < length (s .words) → serve p v s ≡ servedAt (place (inQueue p v) (s .words))
     unfolding serve
     serve-on h = rw (lt-leb _ _ l, lt-leb _ _ h)
 
@@ -93,9 +100,9 @@ parts-listed x t = and-eq-true-iff (ltb (headerIn x) 128) _ .0 t .1
 word-listed : (p : Plan) (x : ℕ) → wordFits p x ≡ true → listed (headerIn x) (carriedIn x) ≡ true
 unfolding wordFits
 word-listed p x e =
-    let a = and-eq-true-iff _ (levelFits p x) .0 e in
-    let b = and-eq-true-iff _ (linkFits p x) .0 (a .0) in
-    let c = and-eq-true-iff (laidOut x) (carriedFits p x) .0 (b .0) in
+    let a = and-eq-true-iff _ (leb (levelAt (headerIn x)) (limitOf p)) .0 e in
+    let b = and-eq-true-iff _ (ltb (linkIn x) (2 * linksOf p)) .0 (a .0) in
+    let c = and-eq-true-iff (laidOut x) (linkOrNone p (carriedIn x)) .0 (b .0) in
     and-eq-true-iff (shaped x) (listed (headerIn x) (carriedIn x)) .0 (c .0) .1
 
 -- the same under equal names
@@ -236,7 +243,7 @@ module _ (p : Plan) (cells marks lent : List ℕ) (b : Done) (v : ℕ) (r : Read
               ∙ sym (serve-on p v before l (omega (arith, many)) ∙ there))
               (t .laid)
             where
-              there : serveAt p v (place (inQueue p v) (take n lent)) before ≡ carryOut p v (serveWork p v served before) before (without i (take n lent)) (backOf (serveWork p v served before) served)
+              there : servedAt p v before (place (inQueue p v) (take n lent)) ≡ carryOut p v (serveWork p v served before) before (without i (take n lent)) (backOf (serveWork p v served before) served)
               there =
                   ap (λ (y : ℕ). carryOut p v (serveWork p v y before) before (without (place (inQueue p v) (take n lent)) (take n lent)) (backOf (serveWork p v y before) y)) read
                   ∙ ap (λ (y : ℕ). carryOut p v (serveWork p v served before) before (without y (take n lent)) (backOf (serveWork p v served before) served)) (sym ei)

@@ -103,7 +103,7 @@ fn carry_out<'a>(
     ensures { λ r. ⌜ CarriedOut (now (plan .entry)) v i a (now (cells .entry)) (now (marks .entry)) (now (lent .entry)) b r (now (cells .exit)) (now (marks .exit)) (now (lent .exit)) ⌝ }
 {
     if a.answer == REFUSED {
-        return refused(32, b);
+        return refused(REFUSED, b);
     }
     let x = word_at(lent, b.waiting, i);
     let c = field_place::many(plan, marks, v, x, a);

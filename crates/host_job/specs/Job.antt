@@ -6,12 +6,17 @@ use mathlib.Core.List.{List}
 use lib.Dec.{eqb}
 use Rattle.base.specs.Loop.{After, Ran}
 use Rattle.plan.specs.Links.{Plan}
+use Rattle.field.specs.Step.{WAKE}
 use Rattle.field.specs.Held.{Held, setUp, stepAlone}
 use Rattle.field_calls.specs.Call.{refusedRun, runRounds}
+
+-- "rounds with limit 65535"
+abbrev pub maxRounds : ℕ
+maxRounds = 65535
 
 -- the next call, where this one was not refused
 unfoldable pub next : After Held → (Held → Ran Held) → Ran Held
 next a f = cond (not (eqb (a .refusal) 0)) (refusedRun (a .refusal) (a .state)) (f (a .state))
 
 unfoldable pub jobRun : Plan → List ℕ → Ran Held
-jobRun p lent = next (setUp p lent) (λ h. next (stepAlone 1 0 h) (runRounds 65535))
+jobRun p lent = next (setUp p lent) (λ h. next (stepAlone WAKE 0 h) (runRounds maxRounds))

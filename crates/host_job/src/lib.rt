@@ -1,8 +1,12 @@
 // The whole job on one plan: setup, a wake of module 0, rounds until the field is at rest.
 use field::Field;
+use field_calls::WAKE;
 use plan::Plan;
 ghost use mathlib.Core.Path.{_≡_};
 ghost use Rattle.host_job.specs.Job.{jobRun};
+
+// "rounds with limit 65535"
+const MAX_ROUNDS: u16 = 65535;
 
 // rounds: rounds completed. refusal: 14 to 19, 21 or 0; no other can occur (specs/laws/Agrees).
 pub struct JobDone {
@@ -24,7 +28,7 @@ pub fn run_job(p: &Plan, words: &mut [u64]) -> JobDone
             field: start,
         };
     }
-    let w = host_run::step(start, words, 1, 0);
+    let w = host_run::step(start, words, WAKE, 0);
     let woken = w.field;
     if w.refusal != 0 {
         return JobDone {
@@ -33,7 +37,7 @@ pub fn run_job(p: &Plan, words: &mut [u64]) -> JobDone
             field: woken,
         };
     }
-    let r = host_rounds::run(woken, words, 65535);
+    let r = host_rounds::run(woken, words, MAX_ROUNDS);
     let end = r.field;
     JobDone {
         rounds: r.rounds,

@@ -176,16 +176,13 @@ unfoldable pub onReport : Own → ℕ → ℕ → Work → Work
 onReport o x j w =
     cond (eqb j (w .node .branch)) (cond (eqb (w .node .status) FIND) (putBack w) (coreReport o x w)) (childReport o x j w)
 
--- (12) Response to receipt of Change-root: execute procedure change-root
-abbrev pub onChange : Work → Work
-onChange w = changeRoot w
-
 -- 32: "a sleeper serves kind 2, 4, 5, 6 or 7"
 unfoldable pub unlessAsleep : Work → Work → Work
 unlessAsleep w r = cond (eqb (w .node .status) ASLEEP) (refused w) r
 
 -- THE RESPONSE of an awake or sleeping node to a message on its edge j; limit is ⌊log2 N⌋
 -- "Connect and Test wake a sleeper first; a put-back after that keeps the wake."
+-- (12) Response to receipt of Change-root: execute procedure change-root
 unfoldable pub respondTo : Own → ℕ → Msg → ℕ → Work → Work
 respondTo o limit (connect l) j w = onConnect o limit l j (awake o w)
 respondTo o limit (initiate l f find) j w = unlessAsleep w (onInitiate o l f find j w)
@@ -193,7 +190,7 @@ respondTo o limit (test l f) j w = onTest o l f j (awake o w)
 respondTo o limit accept j w = unlessAsleep w (onAccept o j w)
 respondTo o limit reject j w = unlessAsleep w (onReject o j w)
 respondTo o limit (report x) j w = unlessAsleep w (onReport o x j w)
-respondTo o limit change j w = unlessAsleep w (onChange w)
+respondTo o limit change j w = unlessAsleep w (changeRoot w)
 
 abbrev pub respond : Own → ℕ → Msg → ℕ → Node → (ℕ → ℕ) → Work
 respond o limit m j n mark = respondTo o limit m j (start n mark)

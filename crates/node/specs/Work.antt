@@ -85,47 +85,28 @@ setMark k c w = record { answer = w .answer; node = w .node; mark = upd (w .mark
 abbrev pub withNode : Node → Work → Work
 withNode n w = record { answer = w .answer; node = n; mark = w .mark; sends = w .sends }
 
--- value number j ← x
+-- value number j ← x; the numbers below are those of `values`
 abbrev pub setValue : ℕ → ℕ → Node → Node
 setValue j x n = nodeBy (λ i. getD (set (values n) j x) i 0)
 
--- the numbers of the values that are set alone
-abbrev pub statusAt : ℕ
-statusAt = 0
-
-abbrev pub weightAt : ℕ
-weightAt = 3
-
-abbrev pub bestAt : ℕ
-bestAt = 4
-
-abbrev pub testAt : ℕ
-testAt = 5
-
-abbrev pub countAt : ℕ
-countAt = 7
-
-abbrev pub haltedAt : ℕ
-haltedAt = 8
-
 -- SN ← x
 abbrev pub setStatus : ℕ → Node → Node
-setStatus = setValue statusAt
+setStatus = setValue 0
 
 -- best-edge ← e, best-wt ← x
 abbrev pub setBest : ℕ → ℕ → Node → Node
-setBest e x n = setValue bestAt e (setValue weightAt x n)
+setBest e x n = setValue 4 e (setValue 3 x n)
 
 -- test-edge ← x
 abbrev pub setTest : ℕ → Node → Node
-setTest = setValue testAt
+setTest = setValue 5
 
 -- find-count ← x
 abbrev pub setCount : ℕ → Node → Node
-setCount = setValue countAt
+setCount = setValue 7
 
 abbrev pub setHalted : ℕ → Node → Node
-setHalted = setValue haltedAt
+setHalted = setValue 8
 
 -- Of the own edges that pass test f, those numbered below n. A loop that has looked at edges 0 to n - 1 holds the value at n.
 

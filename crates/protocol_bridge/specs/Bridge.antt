@@ -11,7 +11,7 @@ use Rattle.base.specs.Log.{log2}
 use Rattle.format_message.specs.Msg.{Msg, none, connect, initiate, test, accept, reject, report, change}
 use Rattle.node.specs.declared.Node.{Node}
 use Rattle.node.specs.Work.{Own, Work, start, putBack, earliest, anyEdge}
-use Rattle.node.specs.Rules.{wakeup, wakes, respond, respondTo, onConnect, onInitiate, onTest, onAccept, onReject, onReport, onChange}
+use Rattle.node.specs.Rules.{wakeup, wakes, respond, respondTo, onConnect, onInitiate, onTest, onAccept, onReject, onReport, changeRoot}
 use Rattle.node.specs.laws.Rules.{wake-alone, wake-edge, awake-wakes, awake-is, asleep-not}
 use Rattle.protocol.specs.Prelude.{Network, Edge, flip, end-lt, ends-irr, ProtocolState, Idle, Blocked, Inv, Rouse, pop, pop-head}
 use Rattle.protocol.specs.Step.{back}
@@ -34,7 +34,7 @@ onAwake o limit (test l f) j w = onTest o l f j w
 onAwake o limit accept j w = onAccept o j w
 onAwake o limit reject j w = onReject o j w
 onAwake o limit (report x) j w = onReport o x j w
-onAwake o limit change j w = onChange w
+onAwake o limit change j w = changeRoot w
 
 module _ (o : Own) (limit j : ℕ) (w : Work) where
   pub respond-awake : (m : Msg) → w .node .status ≢ 0 → respondTo o limit m j w ≡ onAwake o limit m j w
@@ -45,7 +45,7 @@ module _ (o : Own) (limit j : ℕ) (w : Work) where
   respond-awake accept n = asleep-not w (onAccept o j w) n
   respond-awake reject n = asleep-not w (onReject o j w) n
   respond-awake (report x) n = asleep-not w (onReport o x j w) n
-  respond-awake change n = asleep-not w (onChange w) n
+  respond-awake change n = asleep-not w (changeRoot w) n
 
   -- a sleeper wakes first, for Connect and Test
   pub respond-asleep : (m : Msg) → Rouse m → w .node .status ≡ 0 → respondTo o limit m j w ≡ onAwake o limit m j (wakeup o w)

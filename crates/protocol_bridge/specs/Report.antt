@@ -11,7 +11,7 @@ use Rattle.base.specs.laws.Cond.{by-eq, bool-cases}
 use Rattle.graph.specs.laws.Ways.{joins-lt}
 use Rattle.format_message.specs.Msg.{Msg, none, accept, report, change}
 use Rattle.node.specs.Work.{Work, putBack, before, withNode, setCount, Own}
-use Rattle.node.specs.Rules.{onAccept, onReport, onChange, coreReport, better, doReport, changeRoot}
+use Rattle.node.specs.Rules.{onAccept, onReport, coreReport, better, doReport, changeRoot}
 use Rattle.node.specs.laws.Rules.{child-reports, report-child, report-waits, report-core, core-decides, core-halts, core-edge, core-idle}
 use Rattle.protocol.specs.Prelude.{Network, key, ProtocolState, SmallStep, Blocked, Better, In, pop-head, pop, rooted, bested, set-te, set-op, set-owe, set-fc}
 use Rattle.protocol.specs.Step.{accepted, child-report, core-nothing, core-halt, decide, change-root}
@@ -59,7 +59,7 @@ rooted-fin keeps sv t n = fin-step t (omega arith) (root-fin (keeps _ _ t sv.inv
 
 -- (12) Change-root
 pub change-fin : {p : Network} → Keeps p → {s : ProtocolState} {r : Real} {u v k : ℕ} {rest : List Msg} {w : Work} → Serving p s r u v k change rest w
-    → Fin p r v 0 (length (w .sends)) (onChange w) s
+    → Fin p r v 0 (length (w .sends)) (changeRoot w) s
 change-fin keeps sv = rooted-fin keeps sv (change-root sv.idle sv.ends sv.head) refl
 
 -- (10) Report

@@ -10,6 +10,7 @@ use Rattle.plan.specs.Weights.{cost}
 use Rattle.base.specs.Ceiling.{ceiling}
 use Rattle.plan.specs.Links.{Plan, modulesOf, linksOf, lowerOf, higherOf}
 use Rattle.base.specs.Limits.{maxModules, maxLinks}
+use Rattle.node.specs.Work.{BRANCH}
 use Rattle.field.specs.declared.Field.{Field}
 use Rattle.field.specs.State.{nodeIn}
 use Rattle.text_report.specs.Total.{total}
@@ -17,12 +18,12 @@ use Rattle.text_report.specs.Total.{total}
 abbrev pub sizesText : ℕ → ℕ → List ℕ
 sizesText n l = line "modules " n ++ line "links " l
 
--- "Branch lines give lower, higher and cost": one for a link whose mark is 1
+-- "Branch lines give lower, higher and cost": one for a link whose mark is Branch
 abbrev pub branchLine : ℕ → ℕ → ℕ → List ℕ
 branchLine lower higher c = named "branch " lower ++ named " " higher ++ line " " c
 
 unfoldable pub branchText : ℕ → ℕ → ℕ → ℕ → List ℕ
-branchText mark lower higher c = cond (eqb mark 1) (branchLine lower higher c) []
+branchText mark lower higher c = cond (eqb mark BRANCH) (branchLine lower higher c) []
 
 -- "by link number": of the links below k, by the lower end's mark. At rest both ends say the same (demand 3).
 unfoldable pub branchLines : Plan → List ℕ → ℕ → List ℕ

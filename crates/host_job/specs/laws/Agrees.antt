@@ -16,7 +16,7 @@ use Rattle.plan.specs.laws.Ceiling.{ceiling-small}
 use Rattle.node.specs.Work.{Work, ASLEEP, REFUSED, BRANCH, REJECTED}
 use Rattle.field.specs.Edges.{ceilingOf}
 use Rattle.field.specs.State.{State, nodeAt}
-use Rattle.field.specs.Step.{carryOut, wake, step}
+use Rattle.field.specs.Step.{carryOut, wake, WAKE, step}
 use Rattle.field.specs.Held.{Held, stateOf, setUp, stepAlone}
 use Rattle.field_calls.specs.Call.{Call, one, rounds, after, answers, does, runRounds}
 use Rattle.field_calls.specs.Trail.{trail, stepsOf, ifTaken, messagesSent, wokenIn, wakesOne}
@@ -26,11 +26,11 @@ use Rattle.field_laws.specs.Laid.{Live}
 use Rattle.demand.specs.Demand.{demand3}
 use Rattle.plan_tree.specs.Tree.{centralTree}
 use Rattle.plan_tree.specs.laws.Theorems.{written-tree, tree-written}
-use Rattle.host_job.specs.Job.{next, jobRun}
+use Rattle.host_job.specs.Job.{maxRounds, next, jobRun}
 
 -- the calls that it makes
 abbrev pub calls : List Call
-calls = one 1 0 ∷ rounds 65535 ∷ []
+calls = one WAKE 0 ∷ rounds maxRounds ∷ []
 
 -- 0, 32 or 33
 abbrev CarriedAs : ℕ → Type 0
@@ -42,12 +42,12 @@ unfolding carryOut
 carry-only p v w s words back = bool-cases (eqb (w .answer) REFUSED) (λ e. rw e (inr (inl refl)))
     (λ e. rw e (bool-cases (ltb (ceilingOf p) (s .sent + length (w .sends))) (λ b. rw b (inr (inr refl))) (λ b. rw b (inl refl))))
 
-wake-only : (h : Held) → Live h → 0 < modulesOf (h .field .plan) → nodeAt (stateOf h) 0 .status ≡ ASLEEP → CarriedAs (stepAlone 1 0 h .refusal)
+wake-only : (h : Held) → Live h → 0 < modulesOf (h .field .plan) → nodeAt (stateOf h) 0 .status ≡ ASLEEP → CarriedAs (stepAlone WAKE 0 h .refusal)
 unfolding stepAlone step wake
 wake-only h i l e = rw (i .valid, lt-leb (modulesOf (h .field .plan)) 0 l, eq-eqb _ ASLEEP e) (carry-only (h .field .plan) 0 _ (stateOf h) (stateOf h .words) [])
 
 -- what demand 3 leaves of these
-unrefused : (r : ℕ) → CarriedAs r → Allowed (one 1 0) r → r ≡ 0
+unrefused : (r : ℕ) → CarriedAs r → Allowed (one WAKE 0) r → r ≡ 0
 unrefused r (inl e) a = e
 unrefused r (inr (inl e)) (inl z) = z
 unrefused r (inr (inl e)) (inr (inl h)) = omega (arith, h .0)
@@ -60,7 +60,7 @@ head : {A : Type 0} {P : A → Type 0} {x : A} {l : List A} → All P (x ∷ l) 
 head (con h t) = h
 
 -- then a module was woken
-woken : (p : Plan) (h : Held) → Live h → stepAlone 1 0 h .refusal ≡ 0 → (cs : List Call) → wokenIn p (trail (one 1 0 ∷ cs) h) ≢ []
+woken : (p : Plan) (h : Held) → Live h → stepAlone WAKE 0 h .refusal ≡ 0 → (cs : List Call) → wokenIn p (trail (one WAKE 0 ∷ cs) h) ≢ []
 unfolding stepAlone trail stepsOf ifTaken wokenIn wakesOne
 woken p h i z cs e =
     let y : step (h .field .plan) 1 0 (stateOf h) .refusal ≡ 0 = rw (i .valid) at z in
@@ -74,14 +74,14 @@ module _ (p : Plan) (lent : List ℕ) (ok : setUp p lent .refusal ≡ 0) where
   live : Live start
   live = let q = started p lent ok in subst Live (sym (q .is)) (begun-live p lent (q .plan) (q .room))
 
-  first : Claim p start (one 1 0 ∷ [])
-  first = demand3 p lent ok (one 1 0 ∷ [])
+  first : Claim p start (one WAKE 0 ∷ [])
+  first = demand3 p lent ok (one WAKE 0 ∷ [])
 
   whole : Claim p start calls
   whole = demand3 p lent ok calls
 
   -- module 0 is there and asleep: the wake is taken
-  wakes : stepAlone 1 0 start .refusal ≡ 0
+  wakes : stepAlone WAKE 0 start .refusal ≡ 0
   unfolding answers does
   wakes =
       let q = started p lent ok in
@@ -90,11 +90,11 @@ module _ (p : Plan) (lent : List ℕ) (ok : setUp p lent .refusal ≡ 0) where
       unrefused _ (wake-only start live some asleep) (head (first .refusals))
 
   -- M + N is below the limit
-  room : ceilingOf p + modulesOf p ≤ 65535
+  room : ceilingOf p + modulesOf p ≤ maxRounds
   room = let k = started p lent ok .plan in omega (arith, ceiling-small p k, accepted p k .modulesOk)
 
   -- so the job is that list of calls
-  pub job-is : jobRun p lent ≡ runRounds 65535 (stepAlone 1 0 start .state)
+  pub job-is : jobRun p lent ≡ runRounds maxRounds (stepAlone WAKE 0 start .state)
   unfolding jobRun next
   job-is = rw (ok, wakes) refl
 
@@ -109,10 +109,10 @@ module _ (p : Plan) (lent : List ℕ) (ok : setUp p lent .refusal ≡ 0) where
   pub job-outcome : JobOutcome
   unfolding after does
   job-outcome = record {
-    rests = rw job-is (first .rests 65535 room);
+    rests = rw job-is (first .rests maxRounds room);
     exact = rw job-is (whole .exact);
     ceiling = rw job-is (whole .ceiling);
-    agreed = rw job-is (whole .agreed (woken p start live wakes _) (first .rests 65535 room .rest));
+    agreed = rw job-is (whole .agreed (woken p start live wakes _) (first .rests maxRounds room .rest));
   }
 
   -- THE TREE OF THE CENTRAL BUILDER: both ends of a link say branch where its byte is 1, rejected where it is 0

@@ -15,6 +15,7 @@ use Rattle.format_text.specs.Ascii.{ascii}
 use Rattle.graph.specs.laws.Decide.{inTree-tree, tree-inTree}
 use Rattle.graph.specs.Least.{totalCost}
 use Rattle.plan.specs.Links.{graphOf, Plan, modulesOf, linksOf, lowerOf, higherOf}
+use Rattle.node.specs.Work.{BRANCH}
 use Rattle.plan.specs.Weights.{cost, earlier}
 use Rattle.plan.specs.laws.Accepted.{Accepted, accepted}
 use Rattle.plan_file.specs.Reading.{readPlan}
@@ -71,8 +72,8 @@ module _ (s : List ℕ) (z : readPlan s .refusal ≡ 0) where
   -- the lower end of a link marks it 1 where the tree has it, 2 elsewhere
   marked : MarksTree p (ran .state .field .marks) (linksOf p)
   marked k l = bool-cases (treeLink p k)
-      (λ t. rw t (ap (λ m. eqb m 1) (own-mark ∙ job-outcome p lent set .agreed .tree k l (inTree-tree (graphOf p) (earlier p) k t) .lower)))
-      (λ f. rw f (ap (λ m. eqb m 1) (own-mark ∙ job-outcome p lent set .agreed .others k l (λ t. true≢false (sym (tree-inTree (graphOf p) (earlier p) k t) ∙ f)) .lower)))
+      (λ t. rw t (ap (λ m. eqb m BRANCH) (own-mark ∙ job-outcome p lent set .agreed .tree k l (inTree-tree (graphOf p) (earlier p) k t) .lower)))
+      (λ f. rw f (ap (λ m. eqb m BRANCH) (own-mark ∙ job-outcome p lent set .agreed .others k l (λ t. true≢false (sym (tree-inTree (graphOf p) (earlier p) k t) ∙ f)) .lower)))
     where
       own-mark : getD (ran .state .field .marks) (2 * k) 0 ≡ markAt p (stateOf (ran .state)) (lowerOf p k) k
       own-mark = sym (lower-mark p (stateOf (ran .state)) k l)

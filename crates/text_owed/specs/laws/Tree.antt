@@ -15,6 +15,7 @@ use Rattle.plan.specs.Weights.{cost}
 use Rattle.plan_tree.specs.Tree.{treeLink}
 use Rattle.plan.specs.Links.{Plan}
 use Rattle.base.specs.Limits.{maxModules}
+use Rattle.node.specs.Work.{BRANCH}
 use Rattle.field.specs.State.{nodeIn}
 use Rattle.text_report.specs.Total.{total}
 use Rattle.text_report.specs.Text.{branchText, branchLines, endsText, coreText}
@@ -25,7 +26,7 @@ use Rattle.text_owed.specs.Tree.{treeLines, coreLine}
 module _ (p : Plan) (marks : List ℕ) where
   -- of the links below n, lower ends mark those of the tree
   abbrev pub MarksTree : ℕ → Type 0
-  MarksTree n = (k : ℕ) → k < n → eqb (getD marks (2 * k) 0) 1 ≡ treeLink p k
+  MarksTree n = (k : ℕ) → k < n → eqb (getD marks (2 * k) 0) BRANCH ≡ treeLink p k
 
   pub lines-tree : (n : ℕ) → MarksTree n → branchLines p marks n ≡ treeLines p n
   unfolding branchLines branchText treeLines

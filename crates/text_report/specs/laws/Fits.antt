@@ -14,13 +14,14 @@ use Rattle.format_text.specs.laws.Lines.{both, named-length, line-length}
 use Rattle.plan.specs.Links.{Plan, modulesOf, linksOf, lowerOf, higherOf}
 use Rattle.plan.specs.Weights.{cost}
 use Rattle.field.specs.declared.Field.{Field}
+use Rattle.node.specs.Work.{BRANCH}
 use Rattle.field.specs.State.{nodeIn}
 use Rattle.text_report.specs.Total.{total}
 use Rattle.text_report.specs.Text.{sizesText, branchText, branchLines, endText, endsText, coreText, tailText, reportText}
 
 branch-length : (mark lower higher c : ℕ) → length (branchText mark lower higher c) ≤ 70
 unfolding branchText
-branch-length mark lower higher c = by-test (eqb mark 1) (λ b. length (cond b (named "branch " lower ++ named " " higher ++ line " " c) []) ≤ 70)
+branch-length mark lower higher c = by-test (eqb mark BRANCH) (λ b. length (cond b (named "branch " lower ++ named " " higher ++ line " " c) []) ≤ 70)
     (both (named "branch " lower ++ named " " higher) (line " " c) (both (named "branch " lower) (named " " higher) (named-length "branch " lower) (named-length " " higher)) (line-length " " c))
     (omega arith)
 

@@ -17,6 +17,7 @@ use Rattle.base.specs.Ceiling.{ceiling}
 use Rattle.plan.specs.Links.{Plan, modulesOf, linksOf, lowerOf, higherOf}
 use Rattle.base.specs.Limits.{maxModules, maxLinks}
 use Rattle.node.specs.declared.Node.{Node}
+use Rattle.node.specs.Work.{BRANCH}
 use Rattle.field.specs.declared.Field.{Field}
 use Rattle.field.specs.State.{nodeIn}
 use Rattle.text_report.specs.Total.{total}
@@ -48,11 +49,11 @@ report-of f rounds p e l eb et ek = let all : min (linksOf p) maxLinks ≡ links
 
 -- For code: which line, one turn more.
 module _ (mark lower higher c : ℕ) where
-  pub branch-none : mark ≢ 1 → branchText mark lower higher c ≡ []
+  pub branch-none : mark ≢ BRANCH → branchText mark lower higher c ≡ []
   unfolding branchText
   branch-none h = simp (ne-eqb _ _ h)
 
-  pub branch-one : mark ≡ 1 → branchText mark lower higher c ≡ branchLine lower higher c
+  pub branch-one : mark ≡ BRANCH → branchText mark lower higher c ≡ branchLine lower higher c
   unfolding branchText
   branch-one h = simp (eq-eqb _ _ h)
 
