@@ -1,2 +1,3 @@
 pub mod Schedule
 pub mod Samples
+pub mod Allowed

@@ -1,14 +1,14 @@
--- Small runs, computed: the reporting program's two modules, document 01's sleeper that serves a Test, and refusals (`samples`).
+-- Small runs, computed: the reporting program's two modules, document 01's sleeper that serves a Test, and refusals (`call-samples`); times of a message (`times-samples`).
 use Prim.Native.Nat.{ℕ}
 use mathlib.Core.Path.{_≡_, refl}
-use mathlib.Core.List.{List, [], _∷_, map, flatMap}
+use mathlib.Core.List.{List, [], _∷_, _++_, map, flatMap}
 use lib.ListN.{length, take}
 use Rattle.base.specs.None.{none}
 use Rattle.format_word.specs.Word.{packed}
 use Rattle.field.specs.State.{nodeAt}
 use Rattle.field.specs.Held.{Held, stateOf, setUp}
-use Rattle.field_calls.specs.Call.{Call, one, run, rounds, does, after}
-use Rattle.field_calls.specs.Trail.{Message, trail, sentIn, consumedIn, wokenIn}
+use Rattle.field_calls.specs.Call.{Call, one, run, rounds, does, after, answers}
+use Rattle.field_calls.specs.Trail.{Message, timesIn, trail, sentIn, consumedIn, wokenIn}
 use Rattle.base.specs.Cond as base1
 use Rattle.base.specs.Keep as base2
 use Rattle.base.specs.Log as base3
@@ -80,17 +80,13 @@ unfoldable pub dones : List Call → Held → List ℕ
 dones [] h = []
 dones (c ∷ cs) h = does c h .done ∷ dones cs (does c h .state)
 
-unfoldable pub refusals : List Call → Held → List ℕ
-refusals [] h = []
-refusals (c ∷ cs) h = does c h .refusal ∷ refusals cs (does c h .state)
-
 abbrev pub shown : List Call → Held → Shown
 shown cs h =
     let l = after cs h in
     let t = trail cs h in
     record {
       done = dones cs h;
-      refusals = refusals cs h;
+      refusals = map (λ a. a .refusal) (answers cs h);
       sent = l .field .sent;
       sends = sentIn (h .field .plan) t;
       consumed = consumedIn (h .field .plan) t;
@@ -134,6 +130,8 @@ table =
     ∷ row begun (rounds 9 ∷ []) (0 ∷ []) (0 ∷ []) [] [] [] (0 ∷ 0 ∷ []) (0 ∷ 0 ∷ []) []
     -- refusals of steps given alone, and of a run: the steps before the refused one stand
     ∷ row begun (one 1 2 ∷ one 2 2 ∷ one 2 0 ∷ one 3 1 ∷ one 4 0 ∷ []) (0 ∷ 0 ∷ 0 ∷ 0 ∷ 0 ∷ []) (41 ∷ 42 ∷ 44 ∷ 45 ∷ 54 ∷ []) [] [] [] (0 ∷ 0 ∷ []) (0 ∷ 0 ∷ []) []
+    -- the second wake meets what the first left
+    ∷ row begun (one 1 0 ∷ one 1 0 ∷ []) (1 ∷ 0 ∷ []) (0 ∷ 43 ∷ []) (take 1 six) [] (0 ∷ []) (1 ∷ 0 ∷ []) (0 ∷ 0 ∷ []) (packed 1 none 0 0 ∷ [])
     ∷ row begun (run (1 ∷ 0 ∷ 9 ∷ 1 ∷ 0 ∷ 0 ∷ 2 ∷ 0 ∷ 0 ∷ 1 ∷ 0 ∷ 0 ∷ []) ∷ []) (2 ∷ []) (43 ∷ []) (take 1 six) [] (0 ∷ []) (1 ∷ 0 ∷ []) (0 ∷ 0 ∷ []) (packed 1 none 0 1 ∷ [])
     ∷ row begun (run [] ∷ run (2 ∷ 0 ∷ 0 ∷ []) ∷ run (1 ∷ 0 ∷ 2 ∷ 1 ∷ 0 ∷ []) ∷ run (1 ∷ 0 ∷ 3 ∷ 9 ∷ 0 ∷ 0 ∷ []) ∷ run (1 ∷ 0 ∷ 0 ∷ []) ∷ []) (0 ∷ 0 ∷ 0 ∷ 0 ∷ 0 ∷ []) (51 ∷ 52 ∷ 53 ∷ 54 ∷ 0 ∷ []) [] [] [] (0 ∷ 0 ∷ []) (0 ∷ 0 ∷ []) []
     ∷ []
@@ -164,5 +162,12 @@ abbrev wants : List CallRow → List Shown
 wants l = map (λ r. r .want) l
 
 pub call-samples : gots (sleeper ∷ table) ≡ wants (sleeper ∷ table)
-unfolding dones refusals base1.upd base2.place base3.log2-to base3.log2 base4.then base4.loop base4.runs base4.loopTrace base4.runsTrace base5.every graph1.label graph1.joinedOver graph1.connected message1.partsOf message1.msgOf message2.bare message2.listedAs message2.listed plan1.ascends plan1.inOrder plan1.linkVerdict plan1.linksRefusal plan1.planRefusal base7.beforeBy plan2.cost plan2.earlier node1.wakeOn node1.awake node1.doReport node1.testOn node1.changeRoot node1.countUp node1.absorb node1.coreEnd node1.onConnect node1.seek node1.onInitiate node1.onTest node1.childReport node1.coreReport node1.onReport node1.unlessAsleep node1.respondTo node2.earliest node2.number node2.onEach field0.isOwn field0.endOf field0.marksIn field1.newMarks field2.carryOut field2.wake field2.hand field2.backOf field2.serve field2.step field3.allOf field3.waitingIn field3.wordFits field3.nodeFits field3.fits field4.valid field4.freshCells field4.setUp field4.stepAlone calls1.scheduleRefusal base2.many calls2.handTurn calls2.serveTurn calls2.round calls3.runBytes calls3.runRounds calls3.does calls3.after calls3.answers calls4.ifTaken calls4.handTurnSteps calls4.serveTurnSteps calls4.roundSteps calls4.stepsOf calls4.trail flatMap calls4.sendsAt calls4.consumedAt calls4.wakesOne calls4.wokenIn
+unfolding dones base1.upd base2.place base3.log2-to base3.log2 base4.then base4.loop base4.runs base4.loopTrace base4.runsTrace base5.every graph1.label graph1.joinedOver graph1.connected message1.partsOf message1.msgOf message2.bare message2.listedAs message2.listed plan1.ascends plan1.inOrder plan1.linkVerdict plan1.linksRefusal plan1.planRefusal base7.beforeBy plan2.cost plan2.earlier node1.wakeOn node1.awake node1.doReport node1.testOn node1.changeRoot node1.countUp node1.absorb node1.coreEnd node1.onConnect node1.seek node1.onInitiate node1.onTest node1.childReport node1.coreReport node1.onReport node1.unlessAsleep node1.respondTo node2.earliest node2.number node2.onEach field0.isOwn field0.endOf field0.marksIn field1.newMarks field2.carryOut field2.wake field2.hand field2.backOf field2.serve field2.step field3.allOf field3.waitingIn field3.wordFits field3.nodeFits field3.fits field4.valid field4.freshCells field4.setUp field4.stepAlone calls1.scheduleRefusal base2.many calls2.handTurn calls2.serveTurn calls2.round calls3.runBytes calls3.runRounds calls3.does calls3.after calls3.answers calls4.ifTaken calls4.handTurnSteps calls4.serveTurnSteps calls4.roundSteps calls4.stepsOf calls4.trail flatMap calls4.sendsAt calls4.consumedAt calls4.wakesOne calls4.wokenIn
 call-samples = refl
+
+-- one of the six twice: a message that differs in its link, its header or its carried number alone is another
+abbrev others : List Message
+others = aMessage 2 6 none ∷ aMessage 1 7 none ∷ aMessage 1 6 0 ∷ []
+
+pub times-samples : map (λ m. timesIn m (aMessage 0 1 none ∷ six)) (six ++ others) ≡ 2 ∷ 1 ∷ 1 ∷ 1 ∷ 1 ∷ 1 ∷ 0 ∷ 0 ∷ 0 ∷ []
+times-samples = refl
