@@ -217,7 +217,7 @@ module _ (o : Own) (limit : ℕ) where
         (λ b. rw b (ok-send j _ w mine (let q = leb-false limit (w .node .level) b in (omega arith, omega arith, below, omega arith)) i))))
 
     ok-told : (l f find : ℕ) (w : Work) → MsgOk o limit (initiate l f find) → f ≢ none → WorkOk o limit w → WorkOk o limit (told o l f find j w)
-    ok-told l f find w h n i = ok-copied _ _ (each-own (branches j w) (initiate l f find) (o.edges) h)
+    ok-told l f find w h n i = ok-copied _ _ (each-own (branches j (w .mark)) (initiate l f find) (o.edges) h)
         (ok-node _ w
         (record {
           status = by-test (eqb find 1) (λ b. cond b FIND FOUND ≤ FOUND) (omega arith) (omega arith);
@@ -236,7 +236,7 @@ module _ (o : Own) (limit : ℕ) where
     ok-initiate : (l f find : ℕ) (w : Work) → MsgOk o limit (initiate l f find) → f ≢ none → WorkOk o limit w → WorkOk o limit (onInitiate o l f find j w)
     unfolding onInitiate seek
     ok-initiate l f find w h n i =
-        let c = w .node .count + number o (branches j w) (o.edges) in
+        let c = w .node .count + number o (branches j (w .mark)) (o.edges) in
         let t = told o l f find j w in
         let k = ok-told l f find w h n i in
         ok-cond (eqb find 1) _ t

@@ -2,16 +2,15 @@
 use Prim.Native.Nat.{ℕ, _+_, _<_}
 use mathlib.Core.Path.{_≡_}
 use mathlib.Core.Logic.{_⊎_}
-use mathlib.Core.Bool.{Bool, not, _&&_}
+use mathlib.Core.Bool.{Bool, _&&_}
 use mathlib.Core.List.{List, _++_}
 use lib.ListN.{length, take}
-use lib.Dec.{eqb}
 use Rattle.base.specs.None.{none}
 use Rattle.base.specs.Limits.{maxLinks}
 use Rattle.format_message.specs.Listed.{Listed}
 use Rattle.format_word.specs.Word.{linkIn}
 use Rattle.plan.specs.Links.{Plan, linksOf}
-use Rattle.node.specs.Work.{Send, BRANCH, onEach}
+use Rattle.node.specs.Work.{Send, onEach, branches}
 use Rattle.node_response.specs.declared.Packet.{Packet}
 use Rattle.node_response.specs.declared.Response.{Response}
 use Rattle.node_response.specs.Response.{packetFor, packetMsg, packetSends, copiesOf}
@@ -22,7 +21,7 @@ use Rattle.field_words.specs.Laid.{Laid}
 
 -- link k gets a copy of the message that v had as word x: "for all i ≠ j such that SE(i) = Branch"
 abbrev pub copyTest : Plan → List ℕ → ℕ → ℕ → ℕ → Bool
-copyTest p marks v x k = not (eqb k (linkOf (linkIn x))) && eqb (marksIn p marks v k) BRANCH
+copyTest p marks v x = branches (linkOf (linkIn x)) (marksIn p marks v)
 
 abbrev pub copiedAt : Plan → List ℕ → ℕ → ℕ → ℕ → Bool
 copiedAt p marks v x k = isOwn p v k && copyTest p marks v x k

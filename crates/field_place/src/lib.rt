@@ -158,7 +158,7 @@ fn post_all<'a>(
 }
 
 // 1 for a message, 0 for none.
-fn one(x: Packet) -> u32
+fn count_packet(x: Packet) -> u32
     ensures { λ r. ⌜ (r ≡ length (packetSends x)) × (r ≤ 1) ⌝ }
 {
     if x.edge == NONE {
@@ -168,7 +168,7 @@ fn one(x: Packet) -> u32
 }
 
 // How many copies the response makes.
-fn told<'a>(plan: &'a Plan, marks: &'a Marks, v: u16, x: u64, copies: u8) -> u32
+fn count_copies<'a>(plan: &'a Plan, marks: &'a Marks, v: u16, x: u64, copies: u8) -> u32
     requires { ⌜ linksOf (now plan) ≤ maxLinks ⌝ }
     ensures { λ r. ⌜ (r ≡ length (copiesOf copies (copiesTo (now (plan .entry)) (now (marks .entry)) v x (linksOf (now (plan .entry)))))) × (r ≤ maxLinks) ⌝ }
 {
@@ -179,11 +179,11 @@ fn told<'a>(plan: &'a Plan, marks: &'a Marks, v: u16, x: u64, copies: u8) -> u32
 }
 
 // How many messages a response to word x sends.
-pub fn many<'a>(plan: &'a Plan, marks: &'a Marks, v: u16, x: u64, a: Response) -> u32
+pub fn count_sends<'a>(plan: &'a Plan, marks: &'a Marks, v: u16, x: u64, a: Response) -> u32
     requires { ⌜ linksOf (now plan) ≤ maxLinks ⌝ }
     ensures { λ r. ⌜ (r ≡ length (sendsBy (now (plan .entry)) (now (marks .entry)) v x a)) × (r ≤ maxLinks + 2) ⌝ }
 {
-    told(plan, marks, v, x, a.copies) + one(a.first) + one(a.second)
+    count_copies(plan, marks, v, x, a.copies) + count_packet(a.first) + count_packet(a.second)
 }
 
 // A response to word x in place: its messages behind the n words that wait, its node and its mark. Answers how many words then wait.

@@ -82,7 +82,7 @@ module _ (o : Own) (limit j : ℕ) (w : Work) (h : Steady w) where
   steady-initiate l f find =
       let t = told o l f find j w in
       let k : Steady t = record { unblocked = h .unblocked; awake = by-test (eqb find 1) (λ b. cond b FIND FOUND ≢ ASLEEP) (λ e. omega arith) (λ e. omega arith) } in
-      let c = w .node .count + number o (branches j w) (o.edges) in
+      let c = w .node .count + number o (branches j (w .mark)) (o.edges) in
       either (eqb find 1) _ t (either (ltb (degree o) c) _ _ (stopped t k) (steady-test _ _ (now (setCount c (t .node)) t (k .awake) k))) k
 
   -- a Test that is not above the node's level is answered

@@ -7,7 +7,7 @@ use mathlib.Core.Bool.{Bool, true, false}
 use mathlib.Core.List.{List}
 use lib.ListN.{length}
 use Rattle.base.specs.Loop.{After, Ran, runs}
-use Rattle.base.specs.laws.Loop.{went, rests, goes, breaks, limit}
+use Rattle.base.specs.laws.Loop.{went, runs-rest, runs-taken, runs-refused, runs-done}
 use Rattle.plan.specs.Links.{Plan}
 use Rattle.field.specs.State.{State}
 use Rattle.field_words.specs.Hands.{lentState}
@@ -36,10 +36,10 @@ module _ (rest : State → Bool) (g : Plan → ℕ → State → After State) (p
     still e = ap (λ (a : ℕ). record { done = k; refusal = a; state = lentState cells marks lent (s .waiting) (s .sent) }) (t .0) ∙ sym e
 
     pub goes-over : (m : ℕ) → m ≤ k → k ≤ m → Runs (λ p. runs rest m (g p)) p cells₀ marks₀ lent₀ b k s cells marks lent
-    goes-over m l r = record { is = still (limit rest (g p) m k start _ were l r); ready = t .2 .ready }
+    goes-over m l r = record { is = still (runs-done rest (g p) m k start _ were l r); ready = t .2 .ready }
 
     pub goes-rest : (m : ℕ) → k ≤ m → rest (lentState cells marks lent (s .waiting) (s .sent)) ≡ true → Runs (λ p. runs rest m (g p)) p cells₀ marks₀ lent₀ b k s cells marks lent
-    goes-rest m l h = record { is = still (rests rest (g p) k start _ were m l h); ready = t .2 .ready }
+    goes-rest m l h = record { is = still (runs-rest rest (g p) k start _ were m l h); ready = t .2 .ready }
 
     -- z is what the next turn left
     module _ (more : rest (lentState cells marks lent (s .waiting) (s .sent)) ≡ false) {z : Done} {cells′ marks′ lent′ : List ℕ}
@@ -49,10 +49,10 @@ module _ (rest : State → Bool) (g : Plan → ℕ → State → After State) (p
         h,
         e ∙ t .1,
         record {
-          is = ap (λ (a : ℕ). record { done = k + 1; refusal = a; state = lentState cells′ marks′ lent′ (z .waiting) (z .sent) }) h ∙ sym (goes rest (g p) k start _ were _ (x .is) more h);
+          is = ap (λ (a : ℕ). record { done = k + 1; refusal = a; state = lentState cells′ marks′ lent′ (z .waiting) (z .sent) }) h ∙ sym (runs-taken rest (g p) k start _ were _ (x .is) more h);
           ready = x .ready;
         },
       )
 
       pub goes-off : (m : ℕ) → k < m → z .refusal ≢ 0 → Runs (λ p. runs rest m (g p)) p cells₀ marks₀ lent₀ b k z cells′ marks′ lent′
-      goes-off m l h = record { is = sym (breaks rest (g p) k start _ were _ (x .is) more m l h); ready = x .ready }
+      goes-off m l h = record { is = sym (runs-refused rest (g p) k start _ were _ (x .is) more m l h); ready = x .ready }

@@ -7,7 +7,7 @@ use mathlib.Core.Logic.{_≢_}
 use mathlib.Core.List.{List}
 use lib.ListN.{length}
 use Rattle.base.specs.Loop.{After, takenTo, loop}
-use Rattle.base.specs.laws.Loop.{loop-zero, on, off}
+use Rattle.base.specs.laws.Loop.{loop-zero, loop-taken, loop-refused}
 use Rattle.plan.specs.Links.{Plan}
 use Rattle.field.specs.State.{State}
 use Rattle.field_words.specs.Hands.{lentState}
@@ -47,10 +47,10 @@ module _ (g : Plan → ℕ → State → After State) (p : Plan) (cells₀ marks
         h,
         e ∙ t .1,
         record {
-          is = ap (λ (a : ℕ). record { refusal = a; state = lentState cells′ marks′ lent′ (z .waiting) (z .sent) }) h ∙ sym (on (g p) k start _ _ were (x .is) h);
+          is = ap (λ (a : ℕ). record { refusal = a; state = lentState cells′ marks′ lent′ (z .waiting) (z .sent) }) h ∙ sym (loop-taken (g p) k start _ _ were (x .is) h);
           ready = x .ready;
         },
       )
 
       pub turn-off : (m : ℕ) → k < m → z .refusal ≢ 0 → Advances (λ p. loop m (g p)) p cells₀ marks₀ lent₀ b z cells′ marks′ lent′
-      turn-off m l h = record { is = sym (off (g p) k start _ _ were (x .is) m l h); ready = x .ready }
+      turn-off m l h = record { is = sym (loop-refused (g p) k start _ _ were (x .is) m l h); ready = x .ready }

@@ -43,7 +43,7 @@ pub fn left(refusal: u32, waiting: usize, sent: u32) -> Done
 }
 
 // What the step before left, refused by this number.
-pub fn refused(number: u32, b: Done) -> Done
+pub fn refused_by(number: u32, b: Done) -> Done
     ensures { λ r. ⌜ r ≡ record { refusal = number; waiting = b .waiting; sent = b .sent } ⌝ }
 {
     left(number, b.waiting, b.sent)
@@ -62,7 +62,7 @@ fn take_out(lent: &mut [u64], n: usize, i: usize) -> usize
 }
 
 // The served word x once more, at the end, if the answer puts it back.
-fn put_back(lent: &mut [u64], n: usize, answer: u32, x: u64) -> usize
+fn requeue(lent: &mut [u64], n: usize, answer: u32, x: u64) -> usize
     requires { ⌜ Laid (now lent) n × (answer ≡ BACK → n < length (now lent)) ⌝ }
     ensures { λ r. ⌜ ((w : Work) → w .answer ≡ answer → Holds (now (lent .exit)) r (length (now (lent .entry))) (take n (now (lent .entry)) ++ backOf w x)) ⌝ }
 {
@@ -103,16 +103,16 @@ fn carry_out<'a>(
     ensures { λ r. ⌜ CarriedOut (now (plan .entry)) v i a (now (cells .entry)) (now (marks .entry)) (now (lent .entry)) b r (now (cells .exit)) (now (marks .exit)) (now (lent .exit)) ⌝ }
 {
     if a.answer == REFUSED {
-        return refused(REFUSED, b);
+        return refused_by(REFUSED, b);
     }
     let x = word_at(lent, b.waiting, i);
-    let c = field_place::many(plan, marks, v, x, a);
+    let c = field_place::count_sends(plan, marks, v, x, a);
     if plan::ceiling_of(plan) - b.sent < c {
-        return refused(33, b);
+        return refused_by(33, b);
     }
     let l = take_out(lent, b.waiting, i);
     let m = field_place::place(plan, cells, marks, lent, l, v, x, a);
-    let w = put_back(lent, m, a.answer, x);
+    let w = requeue(lent, m, a.answer, x);
     left(0, w, b.sent + c)
 }
 
@@ -160,13 +160,13 @@ pub fn wake<'a>(
     ensures { λ r. ⌜ Advances (λ p. wake p v) (now (plan .entry)) (now (cells .entry)) (now (marks .entry)) (now (lent .entry)) b r (now (cells .exit)) (now (marks .exit)) (now (lent .exit)) ⌝ }
 {
     if no_module(plan, v) {
-        return refused(41, b);
+        return refused_by(41, b);
     }
     let node = field_cells::load(cells, v);
     if node.status != ASLEEP {
-        return refused(43, b);
+        return refused_by(43, b);
     }
-    let a = node_dispatch::wakeup(plan, marks, v, node);
+    let a = node_dispatch::wakes(plan, marks, v, node);
     carry_out(plan, cells, marks, lent, b, v, b.waiting, a)
 }
 
@@ -183,12 +183,12 @@ pub fn serve<'a>(
     ensures { λ r. ⌜ Advances (λ p. serve p v) (now (plan .entry)) (now (cells .entry)) (now (marks .entry)) (now (lent .entry)) b r (now (cells .exit)) (now (marks .exit)) (now (lent .exit)) ⌝ }
 {
     if no_module(plan, v) {
-        return refused(41, b);
+        return refused_by(41, b);
     }
     let n = b.waiting;
     let i = field_words::first_in_queue(plan, &lent[..n], v);
     if n <= i {
-        return refused(45, b);
+        return refused_by(45, b);
     }
     let a = response(plan, cells, marks, v, lent[i]);
     carry_out(plan, cells, marks, lent, b, v, i, a)

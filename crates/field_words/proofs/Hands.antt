@@ -7,7 +7,7 @@ use mathlib.Core.Logic.{_≢_}
 use mathlib.Core.List.{List}
 use lib.ListN.{length}
 use Rattle.base.specs.Loop.{After, loop}
-use Rattle.base.specs.laws.Loop.{loop-zero, on, off}
+use Rattle.base.specs.laws.Loop.{loop-zero, loop-taken, loop-refused}
 use Rattle.field.specs.State.{State}
 use Rattle.field_words.specs.Laid.{Laid}
 use Rattle.field_words.specs.Hands.{lentState, Hands}
@@ -36,13 +36,13 @@ module _ (g : ℕ → State → After State) (n : ℕ) (lent₀ : List ℕ) wher
       handed-on e h = (
         e ∙ t .0,
         record {
-          is = λ cells marks sent. sym (on g k _ _ _ (sym (t .1 .is cells marks sent)) (x .is cells marks sent) h);
+          is = λ cells marks sent. sym (loop-taken g k _ _ _ (sym (t .1 .is cells marks sent)) (x .is cells marks sent) h);
           laid = x .laid;
         },
       )
 
       pub handed-off : (m : ℕ) → k < m → a ≢ 0 → Hands (loop m g) n lent₀ a lent′
       handed-off m l h = record {
-        is = λ cells marks sent. sym (off g k _ _ _ (sym (t .1 .is cells marks sent)) (x .is cells marks sent) m l h);
+        is = λ cells marks sent. sym (loop-refused g k _ _ _ (sym (t .1 .is cells marks sent)) (x .is cells marks sent) m l h);
         laid = x .laid;
       }

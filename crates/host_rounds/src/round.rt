@@ -40,7 +40,7 @@ fn round<'a>(
 {
     let a = air::hand_phase(plan, lent, b.waiting);
     if a != 0 {
-        return field_serve::refused(a, b);
+        return field_serve::refused_by(a, b);
     }
     queue::serve_phase(plan, cells, marks, lent, b)
 }

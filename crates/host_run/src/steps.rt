@@ -41,9 +41,9 @@ pub fn step<'a>(
 {
     match kind {
         1 => field_serve::wake(plan, cells, marks, lent, b, number),
-        2 => field_serve::refused(field_words::hand(plan, lent, b.waiting, number), b),
+        2 => field_serve::refused_by(field_words::hand(plan, lent, b.waiting, number), b),
         3 => field_serve::serve(plan, cells, marks, lent, b, number),
-        0 | 4..=255 => field_serve::refused(54, b),
+        0 | 4..=255 => field_serve::refused_by(54, b),
     }
 }
 

@@ -67,7 +67,7 @@ fn fresh_field(p: &Plan) -> Field
 }
 
 // A refusal's number, beside a field of zeros.
-fn refused(number: u32) -> NewField
+fn refused_by(number: u32) -> NewField
     ensures { λ r. ⌜ r ≡ record { refusal = number; field = blankField } ⌝ }
 {
     NewField {
@@ -94,10 +94,10 @@ pub fn setup(p: &Plan, words: &mut [u64]) -> NewField
 {
     let bad = plan_check::check(p);
     if bad != 0 {
-        return refused(bad);
+        return refused_by(bad);
     }
     if words.len() < plan::ceiling_of(p) as usize {
-        return refused(21);
+        return refused_by(21);
     }
     zero_all(words);
     NewField {

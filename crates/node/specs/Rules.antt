@@ -100,7 +100,7 @@ informed l f find j n =
 -- Slip: the copy lacks this end, which closes the loop before procedure test.
 -- "An Initiate's copies go out by rising link number, before any Test or Report"
 abbrev pub copies : Own → ℕ → Msg → Work → List Send
-copies o j m w = onEach o (branches j w) m (o.edges)
+copies o j m w = onEach o (branches j (w .mark)) m (o.edges)
 
 abbrev pub copied : List Send → Work → Work
 copied cs w = record { answer = w .answer; node = w .node; mark = w .mark; sends = w .sends ++ cs }
@@ -119,7 +119,7 @@ seek o c w = cond (ltb (degree o) c) (refused w) (doTest o (withNode (setCount c
 unfoldable pub onInitiate : Own → ℕ → ℕ → ℕ → ℕ → Work → Work
 onInitiate o l f find j w =
     cond (eqb find 1)
-    (seek o (w .node .count + number o (branches j w) (o.edges)) (told o l f find j w))
+    (seek o (w .node .count + number o (branches j (w .mark)) (o.edges)) (told o l f find j w))
     (told o l f find j w)
 
 -- (6), (8): if SE(j) = Basic then SE(j) ← Rejected

@@ -1,13 +1,13 @@
 -- What a response works on: a node, its own edges with their marks and order, the messages sent.
 -- A module of document 01 is a node, a link an edge.
 use Prim.Native.Nat.{ℕ, zero, suc, _+_}
-use mathlib.Core.Bool.{Bool, true, not, cond, _&&_}
+use mathlib.Core.Bool.{Bool, true, cond, _&&_}
 use mathlib.Core.List.{List, [], _∷_, _++_}
 use lib.Dec.{eqb}
 use lib.ListN.{getD, set}
 use Rattle.base.specs.Cond.{bit, upd}
 use Rattle.base.specs.None.{beforeBy}
-pub use Rattle.base.specs.Names.{ASLEEP, FIND, FOUND, BASIC, BRANCH, REJECTED}
+pub use Rattle.base.specs.Names.{ASLEEP, FIND, FOUND, BASIC, BRANCH, REJECTED, branches}
 use Rattle.format_message.specs.Msg.{Msg, none}
 use Rattle.node.specs.declared.Node.{Node}
 
@@ -132,10 +132,6 @@ anyEdge k = true
 -- "adjacent edges in the state Basic"
 abbrev pub basic : Work → ℕ → Bool
 basic w k = eqb (w .mark k) BASIC
-
--- "all i ≠ j such that SE(i) = Branch"
-abbrev pub branches : ℕ → Work → ℕ → Bool
-branches j w k = not (eqb k j) && eqb (w .mark k) BRANCH
 
 -- the number of own edges
 abbrev pub degree : Own → ℕ

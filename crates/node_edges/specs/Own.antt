@@ -1,10 +1,10 @@
 -- Marks with one changed (`marked`); the edges that a search (`looked`) or a count (`counts`) of one node's own edges looks at.
 use Prim.Native.Nat.{ℕ}
-use mathlib.Core.Bool.{Bool, not, cond, _&&_, _||_}
+use mathlib.Core.Bool.{Bool, cond, _||_}
 use lib.Dec.{eqb}
 use Rattle.base.specs.Cond.{upd}
 use Rattle.base.specs.None.{none}
-use Rattle.node.specs.Work.{BASIC, BRANCH}
+use Rattle.node.specs.Work.{BASIC, branches}
 
 -- marks with edge e's mark changed to x; nothing is changed where e is none
 unfoldable pub marked : (ℕ → ℕ) → ℕ → ℕ → ℕ → ℕ
@@ -16,4 +16,4 @@ looked all m k = all || eqb (m k) BASIC
 
 -- the edges that a count counts: all, or the branches other than j
 unfoldable pub counts : Bool → ℕ → (ℕ → ℕ) → ℕ → Bool
-counts all j m k = all || (not (eqb k j) && eqb (m k) BRANCH)
+counts all j m k = all || branches j m k

@@ -5,7 +5,7 @@ use node::BASIC;
 use node::BRANCH;
 use plan::Plan;
 ghost use mathlib.Core.Path.{_≡_};
-ghost use mathlib.Core.Bool.{true, not, cond, _&&_};
+ghost use mathlib.Core.Bool.{true, cond, _&&_};
 ghost use mathlib.Core.Logic.{_⊎_};
 ghost use Prim.Native.Nat.{_<_, _≤_};
 ghost use lib.Dec.{eqb};
@@ -15,7 +15,7 @@ ghost use Rattle.base.specs.Limits.{maxLinks};
 ghost use Rattle.plan.specs.Links.{linksOf};
 ghost use Rattle.plan.specs.Weights.{earlier};
 ghost use Rattle.field.specs.Edges.{isOwn, ownOf, endOf, marksIn};
-ghost use Rattle.node.specs.Work.{BASIC, BRANCH, earliest, number, anyEdge, degree};
+ghost use Rattle.node.specs.Work.{BASIC, earliest, number, anyEdge, branches, degree};
 ghost use Rattle.node_edges.specs.Own.{marked, looked, counts};
 
 // Whether edge k ends at node v.
@@ -176,7 +176,7 @@ pub fn degree<'a>(plan: &'a Plan, marks: &'a Marks, v: u16) -> u16
 pub fn branches<'a>(plan: &'a Plan, marks: &'a Marks, v: u16, j: u16) -> u16
     requires { ⌜ linksOf (now plan) ≤ maxLinks ⌝ }
     ensures { λ r. ⌜ (r ≡ number (ownOf (now (plan .entry)) v)
-        (λ k. not (eqb k j) && eqb (marksIn (now (plan .entry)) (now (marks .entry)) v k) BRANCH) (linksOf (now (plan .entry)))) × (r ≤ maxLinks) ⌝ }
+        (branches j (marksIn (now (plan .entry)) (now (marks .entry)) v)) (linksOf (now (plan .entry)))) × (r ≤ maxLinks) ⌝ }
 {
     count(plan, marks, v, false, j)
 }

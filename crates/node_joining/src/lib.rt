@@ -77,7 +77,7 @@ pub fn on_connect<'a>(plan: &'a Plan, marks: &'a Marks, v: u16, x: Packet, a: Re
         return absorb(plan, marks, v, x.edge, a);
     }
     if node_edges::mark_of(plan, marks, v, a.edge, a.mark, x.edge) == BASIC {
-        return node_response::back(a);
+        return node_response::put_back(a);
     }
     core_end(plan, x.edge, a)
 }

@@ -96,7 +96,7 @@ fn wake_on(k: u16, a: Response) -> Response
 }
 
 // Procedure wakeup. Nothing was done before it.
-pub fn wake<'a>(plan: &'a Plan, marks: &'a Marks, v: u16, a: Response) -> Response
+pub fn wakeup<'a>(plan: &'a Plan, marks: &'a Marks, v: u16, a: Response) -> Response
     requires { ⌜ (linksOf (now plan) ≤ maxLinks) × (a .edge ≡ none) × (a .first .edge ≡ none) × (a .second .edge ≡ none) ⌝ }
     ensures { λ r. ⌜ ((m : ℕ → ℕ) (cs : List Send) → Does m cs (wakeup (ownOf (now (plan .entry)) v)) a r)
         × (r .second .edge ≡ none) × (r .node .level ≡ 0) ⌝ }
@@ -105,13 +105,13 @@ pub fn wake<'a>(plan: &'a Plan, marks: &'a Marks, v: u16, a: Response) -> Respon
 }
 
 // A sleeper wakes.
-pub fn wakened<'a>(plan: &'a Plan, marks: &'a Marks, v: u16, a: Response) -> Response
+pub fn awake<'a>(plan: &'a Plan, marks: &'a Marks, v: u16, a: Response) -> Response
     requires { ⌜ (linksOf (now plan) ≤ maxLinks) × (a .edge ≡ none) × (a .first .edge ≡ none) × (a .second .edge ≡ none) ⌝ }
     ensures { λ r. ⌜ ((m : ℕ → ℕ) (cs : List Send) → Does m cs (awake (ownOf (now (plan .entry)) v)) a r)
         × (r .second .edge ≡ none) × ((r .edge ≡ none) ⊎ (r .node .level ≡ 0)) ⌝ }
 {
     if a.node.status == ASLEEP {
-        return wake(plan, marks, v, a);
+        return wakeup(plan, marks, v, a);
     }
     a
 }

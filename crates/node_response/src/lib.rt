@@ -153,7 +153,7 @@ pub fn refuse(a: Response) -> Response
 }
 
 // The served message is put back behind those that wait.
-pub fn back(a: Response) -> Response
+pub fn put_back(a: Response) -> Response
     ensures { λ r. ⌜ ((m : ℕ → ℕ) (cs : List Send) → Does m cs putBack a r) ⌝ }
 {
     let mut r = a;

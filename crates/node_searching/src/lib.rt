@@ -56,7 +56,7 @@ pub fn on_test<'a>(plan: &'a Plan, marks: &'a Marks, v: u16, x: Packet, a: Respo
 {
     let j = x.edge;
     if a.node.level < x.level {
-        return node_response::back(a);
+        return node_response::put_back(a);
     }
     if x.carried != a.node.identity {
         return node_response::say(a, node_response::an_accept(j));
@@ -152,7 +152,7 @@ pub fn on_report<'a>(plan: &'a Plan, marks: &'a Marks, v: u16, x: Packet, a: Res
         return child_report(plan, x.carried, x.edge, a);
     }
     if a.node.status == FIND {
-        return node_response::back(a);
+        return node_response::put_back(a);
     }
     core_report(plan, marks, v, x.carried, a)
 }

@@ -9,9 +9,13 @@ use Rattle.graph.specs.Graph.{Graph}
 abbrev pub Plan : Type 0
 Plan = List ℕ
 
--- how many numbers an array for any plan has
+-- how many numbers that are
+abbrev pub planNumbers : ℕ → ℕ
+planNumbers links = 2 + 4 * links
+
+-- the most: an array for any plan has as many
 abbrev pub planSize : ℕ
-planSize = 2 + 4 * maxLinks
+planSize = planNumbers maxLinks
 
 -- the plan of zeros that stands beside a refusal
 abbrev pub blank : Plan

@@ -2,15 +2,10 @@
 use Prim.Native.Nat.{ℕ, suc, _+_, _*_, _-_}
 use mathlib.Core.List.{List, [], _∷_, _++_}
 use lib.ListN.{getD, replicate}
-use Rattle.base.specs.Limits.{maxLinks}
 use Rattle.base.specs.Table.{tabulate}
 use Rattle.format_int16.specs.Int16.{at16, bytes16}
-use Rattle.plan.specs.Links.{Plan, linksOf}
-pub use Rattle.plan.specs.Links.{blank}
-
--- "N; L; for each link lower module, higher module, reading at the lower, reading at the higher": how many numbers
-abbrev pub planNumbers : ℕ → ℕ
-planNumbers links = 2 + 4 * links
+use Rattle.plan.specs.Links.{Plan, linksOf, planSize}
+pub use Rattle.plan.specs.Links.{blank, planNumbers}
 
 -- "Integers are 16-bit big-endian."
 unfoldable pub bytesOf : List ℕ → List ℕ
@@ -27,7 +22,7 @@ numberAt s i = at16 s (1 + 2 * i)
 
 -- a plan value of n numbers, zeros past them
 unfoldable pub padded : ℕ → (ℕ → ℕ) → Plan
-padded n f = tabulate n f ++ replicate (planNumbers maxLinks - n) 0
+padded n f = tabulate n f ++ replicate (planSize - n) 0
 
 -- the plan that bytes mean: the numbers after the length
 unfoldable pub decode : List ℕ → Plan

@@ -16,7 +16,7 @@ pub use Rattle.base.specs.Sum.{sum}
 pub use Rattle.base.specs.laws.Sum.{sum-le, sum-eq, sum-add, le-sum}
 pub use Rattle.base.specs.laws.Search.{strong}
 pub use Rattle.graph.specs.Graph.{Graph, Joins, up, down, Way, stop, go}
-pub use Rattle.graph.specs.laws.Ways.{joins-lt, flip, ends-two, ends-same, join, hop, wider}
+pub use Rattle.graph.specs.laws.Ways.{joins-lt, flip, ends-two, ends-same, way-append, edge-way, wider}
 pub use Rattle.graph.specs.laws.Cut.{cut-rank}
 pub use Rattle.graph.specs.laws.Size.{size-mono}
 pub use Rattle.format_message.specs.Msg.{Msg, none, connect, initiate, test, accept, reject, report, change}

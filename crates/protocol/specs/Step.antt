@@ -3,12 +3,12 @@
 use Prim.Native.Nat.{ℕ, suc, _+_, _-_, _*_, _≤_, _<_}
 use mathlib.Core.Path.{_≡_}
 use mathlib.Core.Logic.{_≢_, _⊎_}
-use mathlib.Core.Bool.{Bool, not, cond, _&&_}
+use mathlib.Core.Bool.{Bool, cond, _&&_}
 use mathlib.Core.List.{List, [], _∷_, _++_}
 use lib.Dec.{eqb}
 use Rattle.base.specs.Cond.{upd, upd2, bit}
 use Rattle.base.specs.Sum.{sum}
-use Rattle.base.specs.Names.{ASLEEP, FIND, FOUND, BASIC, BRANCH, REJECTED}
+use Rattle.base.specs.Names.{ASLEEP, FIND, FOUND, BASIC, BRANCH, REJECTED, branches}
 use Rattle.format_message.specs.Msg.{Msg, none, connect, initiate, test, accept, reject, report, change}
 use Rattle.protocol.specs.Network.{Network, Edge, key, rank}
 use Rattle.protocol.specs.State.{ProtocolState, set-st, set-lev, set-id, set-bw, set-be, set-te, set-ib, set-fc, set-halt, set-mark, set-ch, set-fr, set-gl}
@@ -130,7 +130,7 @@ absorbed s u v k x =
 
 -- (4) the edges over which v, told over k, sends a copy
 unfoldable pub copy : ProtocolState → ℕ → ℕ → ℕ → Bool
-copy s v k j = not (eqb j k) && eqb (s.mark v j) BRANCH
+copy s v k j = branches k (s.mark v) j
 
 -- m goes to the end of the channel from v over each edge with f
 unfoldable pub fan : (ℕ → ℕ → List Msg) → ℕ → (ℕ → Bool) → Msg → ℕ → ℕ → List Msg

@@ -4,7 +4,7 @@ use native.Mathlib.Omega.{arith}
 use mathlib.Core.Path.{_≡_, refl, sym, ap, subst, _∙_}
 use mathlib.Core.Logic.{_≢_, inl, inr}
 use mathlib.Core.Bool.{true, cond}
-use mathlib.Core.List.{List, []}
+use mathlib.Core.List.{List}
 use lib.ListN.{length, length-append}
 use lib.Dec.{eqb}
 use Rattle.base.specs.Cond.{bit}
@@ -33,9 +33,9 @@ module _ {p : Network} (keeps : Keeps p) {s : ProtocolState} {r : Real} {u v k l
   s₀ = pop s u k rest
 
   -- the edges that get a copy, as the small step and as the rules have them
-  same-copy : copy s₀ v k ≡ branches k w
+  same-copy : copy s₀ v k ≡ branches k (w .mark)
   unfolding copy
-  same-copy = ap (λ (t : ℕ → ℕ). λ j. W.branches k (record { answer = 0; node = w .node; mark = t; sends = [] }) j) (mark-is sv.at)
+  same-copy = ap (λ (t : ℕ → ℕ). λ j. branches k t j) (mark-is sv.at)
 
   -- they are own edges: only these are marked
   mine : (j : ℕ) → copy s₀ v k j ≡ true → o.own j ≡ true
@@ -51,7 +51,7 @@ module _ {p : Network} (keeps : Keeps p) {s : ProtocolState} {r : Real} {u v k l
   abbrev m : Msg
   m = initiate l f x
 
-  number-is : number o (branches k w) p.g.L ≡ many
+  number-is : number o (branches k (w .mark)) p.g.L ≡ many
   number-is = ap (λ g. number o g p.g.L) (sym same-copy) ∙ copies-number p v (copy s₀ v k) mine m
 
   length-is : length (w .sends) + many ≡ length (told o l f x k w .sends)
@@ -84,7 +84,7 @@ module _ {p : Network} (keeps : Keeps p) {s : ProtocolState} {r : Real} {u v k l
   find-fin h =
       let d = placed .0 in
       let e = placed .1 in
-      let c = w .node .count + number o (branches k w) p.g.L in
+      let c = w .node .count + number o (branches k (w .mark)) p.g.L in
       let mode : Mode v x (cond (eqb x 1) FIND FOUND) (suc v) = inl (h, rw h, refl) in
       let step : SmallStep p s (next d e (suc v)) = tell sv.idle sv.ends sv.head mode (placed .2) in
       let i′ = keeps s (next d e (suc v)) step sv.inv in

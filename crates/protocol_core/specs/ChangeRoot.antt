@@ -18,11 +18,11 @@ module _ {p : Network} {s : ProtocolState} (i : Inv p s) {u v k : ℕ} {r : List
   inside : s.fr u ≡ s.fr v
   inside = i.markings.m3 k u v ends (changing-ok .d2j)
 
-  pub dk : DK s v ≡ 2
-  dk = sym (ap s.dk inside) ∙ changing .0
+  pub dk-two : DK s v ≡ 2
+  dk-two = sym (ap s.dk inside) ∙ changing .0
 
   dk-of : (x : ℕ) → s.fr x ≡ s.fr v → DK s x ≢ 0
-  dk-of x e z = omega (arith, ap s.dk e, dk)
+  dk-of x e z = omega (arith, ap s.dk e, dk-two)
 
   -- no Report is on its way to v over k: it would be spent, so k the core
   silent : sumL isR (s.ch u k) ≡ 0
@@ -47,8 +47,8 @@ module _ {p : Network} {s : ProtocolState} (i : Inv p s) {u v k : ℕ} {r : List
     ub-u = changing-ok .d2u;
     some = changing-ok .d2w;
     bounds = changing-ok .d2n;
-    fresh = λ z. omega (arith, dk);
-    unfinished = λ z. omega (arith, dk);
+    fresh = λ z. omega (arith, dk-two);
+    unfinished = λ z. omega (arith, dk-two);
     no-find = λ x e. decided-find i x (dk-of x e);
     no-due = λ x e. i.finishes.d5 x (dk-of x e);
     silent = omega (arith, pop-le s.ch u k q isR u k, silent);

@@ -26,10 +26,10 @@ module _ {p : Network} {s : ProtocolState} (i : Inv p s) {u v k w b e : ℕ} {r 
 
   -- it is a child's, and is counted
   child : Child s u v k w
-  child = C.child i ends q away
+  child = C.child-case i ends q away
 
-  pub owed : s.owe v k ≡ 1
-  owed = C.owed i ends q away
+  pub child-owed : s.owe v k ≡ 1
+  child-owed = C.report-owed i ends q away
 
   inf-u : Inf s u
   inf-u = child .0
@@ -77,7 +77,7 @@ module _ {p : Network} {s : ProtocolState} (i : Inv p s) {u v k w b e : ℕ} {r 
   findCounts′ : FindCounts p S′.fc S′.owe
   findCounts′ = record {
     f4 = λ x. upd-elim (λ a. a ≡ sum p.g.L (S′.owe x)) s.fc v (s.fc v - 1) x
-        (λ z. subst (λ a. s.fc v - 1 ≡ sum p.g.L (S′.owe a)) z (omega (arith, sum-row p.g.L v k 0 s.owe (joins-lt ends), i.findCounts.f4 v, owed)))
+        (λ z. subst (λ a. s.fc v - 1 ≡ sum p.g.L (S′.owe a)) z (omega (arith, sum-row p.g.L v k 0 s.owe (joins-lt ends), i.findCounts.f4 v, child-owed)))
         (λ n. subst (λ a. s.fc x ≡ sum p.g.L a) (sym (row-else v k 0 s.owe x n)) (i.findCounts.f4 x));
     f4l = λ x j. upd2-elim (λ a. a ≤ 1) s.owe v k 0 x j (λ a c. omega arith) (λ n. i.findCounts.f4l x j);
     f4o = λ x j. upd2-elim (λ a. a ≢ 0 → (c : ℕ) × Edge p j x c) s.owe v k 0 x j (λ a c n. absurd (n refl)) (λ d n. i.findCounts.f4o x j n);

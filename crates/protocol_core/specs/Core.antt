@@ -1,5 +1,5 @@
--- The Report w of u, the head of the channel over k, at v: a child's (`child`), a core end's or spent (`core-or-spent`). Where it is a core end's: both ends are
--- informed and, if v is not Find, the fragment is quiet (`none-find`, `none-due`), and only the best weights of the two ends still count (`bound`).
+-- The Report w of u, the head of the channel over k, at v: a child's (`child-case`), a core end's or spent (`core-or-spent`). Where it is a core end's: both ends are
+-- informed and, if v is not Find, the fragment is quiet (`none-find`, `none-due`), and only the best weights of the two ends still count (`basic-bound`).
 use Rattle.protocol.specs.Prelude.{ℕ, _≤_, _<_, arith, _≡_, refl, sym, ap, subst, _∙_, _≢_, _⊎_, inl, inr, ⊎-elim, by-eq}
 use Rattle.protocol.specs.Prelude.{List, _∷_, sumL, Msg, none, initiate, report}
 use Rattle.protocol.specs.Prelude.{Network, Edge, key, rank, flip, same-edge, ProtocolState, Idle, key-none, key-edge, rank-lt}
@@ -35,18 +35,18 @@ module _ {p : Network} {s : ProtocolState} (i : Inv p s) {u v k w : ℕ} {r : Li
 
   -- over another edge than v's in-branch it is a child's, and is counted
   module _ (away : s.ib v ≢ k) where
-    pub child : Child s u v k w
-    child = ⊎-elim (λ t. t)
+    pub child-case : Child s u v k w
+    child-case = ⊎-elim (λ t. t)
         (⊎-elim
         (λ t. absurd (away (i.parents.t1e k v u (flip ends) (core-inf t) (sym (ap s.gc report-inside) ∙ t .0))))
         (λ t. absurd (away (t .0))))
         (i.reports.r1 k u v w ends report-in)
 
-    pub owed : s.owe v k ≡ 1
-    owed = i.owing.f4n k v u (flip ends) (child .5) (report-joined .1, report-joined .0) away (inl (child .0, inr (in-sum isR report-in)))
+    pub report-owed : s.owe v k ≡ 1
+    report-owed = i.owing.f4n k v u (flip ends) (child-case .5) (report-joined .1, report-joined .0) away (inl (child-case .0, inr (in-sum isR report-in)))
 
-    pub count : 1 ≤ s.fc v
-    count = omega (arith, owed, i.findCounts.f4 v, le-sum p.g.L k (s.owe v) (joins-lt ends))
+    pub count-pos : 1 ≤ s.fc v
+    count-pos = omega (arith, report-owed, i.findCounts.f4 v, le-sum p.g.L k (s.owe v) (joins-lt ends))
 
   -- a weight that is no edge is the latest
   pub weight-le : key p w ≤ p.g.L
@@ -75,8 +75,8 @@ module _ {p : Network} {s : ProtocolState} (i : Inv p s) {u v k w : ℕ} {r : Li
     pub core-v : GC s v ≡ k
     core-v = sym (ap s.gc report-inside) ∙ core-u
 
-    pub undec : DK s v ≡ 0
-    undec = sym (ap s.dk report-inside) ∙ core .1
+    pub core-undecided : DK s v ≡ 0
+    core-undecided = sym (ap s.dk report-inside) ∙ core .1
 
     pub ib-u : s.ib u ≡ k
     ib-u = i.parents.t1e k u v ends inf-u core-u
@@ -88,7 +88,7 @@ module _ {p : Network} {s : ProtocolState} (i : Inv p s) {u v k w : ℕ} {r : Li
     ub-u = i.parents.t1u u inf-u (core .1) ∙ ib-u
 
     pub ub-v : s.ub v ≡ k
-    ub-v = i.parents.t1u v inf-v undec ∙ ib-v
+    ub-v = i.parents.t1u v inf-v core-undecided ∙ ib-v
 
     -- quiet: nobody is Find or due
     pub none-find : (x : ℕ) → s.fr x ≡ s.fr v → s.st x ≢ 1
@@ -146,13 +146,13 @@ module _ {p : Network} {s : ProtocolState} (i : Inv p s) {u v k w : ℕ} {r : Li
             (report-core (s.ib x) x (up-edge .0) (o .0) (up-edge .1) f (o .1))
 
     -- an edge that is Basic in the fragment is not earlier than the best weight of one of the ends
-    pub bound : (a j b : ℕ) → s.fr a ≡ s.fr v → Edge p j a b → s.mark a j ≡ 0
+    pub basic-bound : (a j b : ℕ) → s.fr a ≡ s.fr v → Edge p j a b → s.mark a j ≡ 0
         → (x : ℕ) × ((x ≡ u) ⊎ (x ≡ v)) × (s.bw x ≢ none) × (key p (s.bw x) ≤ rank p j)
-    bound a j b f e m = ⊎-elim
+    basic-bound a j b f e m = ⊎-elim
         (λ t. absurd (omega (arith, t .1, none-due a f)))
         (⊎-elim
         (λ t. absurd (omega (arith, idle .0)))
         (⊎-elim
         (λ t. absurd (none-find a f (te-find i a (t .0))))
         (λ t. (t .0, live-end (t .0) (t .1 ∙ f) (t .2) (t .4), t .3, t .5))))
-        (i.bests.b2 j a b e m (ap s.dk f ∙ undec) (omega (arith, ap s.gl f, inf-v .0)))
+        (i.bests.b2 j a b e m (ap s.dk f ∙ core-undecided) (omega (arith, ap s.gl f, inf-v .0)))

@@ -54,11 +54,11 @@ module _ {p : Network} {s : ProtocolState} (i : Inv p s) {u v k w : ℕ} {r : Li
   ending-core : CoreEnds s u v k w → Ending p s u v k c′ S′
   ending-core c = record {
     core = C.core-v i ends q idle found c;
-    fresh = λ z. omega (arith, C.undec i ends q idle found c);
-    changing = λ z. omega (arith, C.undec i ends q idle found c);
+    fresh = λ z. omega (arith, C.core-undecided i ends q idle found c);
+    changing = λ z. omega (arith, C.core-undecided i ends q idle found c);
     no-find = C.none-find i ends q idle found c;
     no-due = C.none-due i ends q idle found c;
-    tight = λ j x y e f m. let t = C.bound i ends q idle found c x j y f e m in t .2 (⊎-elim (λ z. ap s.bw z ∙ bu) (λ z. ap s.bw z ∙ bn) (t .1));
+    tight = λ j x y e f m. let t = C.basic-bound i ends q idle found c x j y f e m in t .2 (⊎-elim (λ z. ap s.bw z ∙ bu) (λ z. ap s.bw z ∙ bn) (t .1));
     end-u = (C.inf-u i ends q idle found c, bu);
     end-v = (C.inf-v i ends q idle found c, bn);
     halt-no = λ n. absurd (omega (arith, i.finishes.d6 u n, c .1));
@@ -75,7 +75,7 @@ module _ {p : Network} {s : ProtocolState} (i : Inv p s) {u v k w : ℕ} {r : Li
       own : In (report none) (s.ch v k)
       own =
           let l = ⊎-elim (λ t. t) (λ t. absurd (omega (arith, t .2, ap (key p) bu, ap (key p) bn)))
-          (i.tokens.d7 k v u (flip ends) (C.core-v i ends q idle found c) (C.undec i ends q idle found c) (C.inf-v i ends q idle found c) (C.found-v i ends q idle found c)) in
+          (i.tokens.d7 k v u (flip ends) (C.core-v i ends q idle found c) (C.core-undecided i ends q idle found c) (C.inf-v i ends q idle found c) (C.found-v i ends q idle found c)) in
           let o = some-report (s.ch v k) l in
           let b = i.reports.r1c k v u (o .0) (flip ends) (o .1) (C.inf-u i ends q idle found c) (c .1) (C.core-u i ends q idle found c) .4 in
           subst (λ n. In (report n) (s.ch v k)) (sym b ∙ bn) (o .1)

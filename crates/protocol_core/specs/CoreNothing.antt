@@ -24,8 +24,8 @@ module _ {p : Network} {s : ProtocolState} (i : Inv p s) {u v k w : ℕ} {r : Li
   w-some z = ⊎-elim (λ n. n z) (λ n. let l = i.values.w1w v n in omega (arith, key-none p, ap (key p) z, key-edge p (s.bw v) l, rank-lt p (s.bw v) l)) some
 
   -- the ends of the core never have the same best weight: its inner end has one side
-  pub later : CoreEnds s u v k w → key p w < key p (s.bw v)
-  later c = by-eq (key p w) (key p (s.bw v)) (λ z. absurd (equal z)) (λ n. omega arith)
+  pub report-earlier : CoreEnds s u v k w → key p w < key p (s.bw v)
+  report-earlier c = by-eq (key p w) (key p (s.bw v)) (λ z. absurd (equal z)) (λ n. omega arith)
     where
       iu : Inf s u
       iu = C.inf-u i ends q idle found c
@@ -64,7 +64,7 @@ module _ {p : Network} {s : ProtocolState} (i : Inv p s) {u v k w : ℕ} {r : Li
   -- v's own Report waits then
   pub own-waits : CoreEnds s u v k w → 1 ≤ sumL isR (s.ch v k)
   own-waits c = ⊎-elim (λ t. t) (λ t. absurd (omega (arith, t .2, le, ap (key p) (C.best-u i ends q idle found c))))
-      (i.tokens.d7 k v u (flip ends) (C.core-v i ends q idle found c) (C.undec i ends q idle found c) (C.inf-v i ends q idle found c) (C.found-v i ends q idle found c))
+      (i.tokens.d7 k v u (flip ends) (C.core-v i ends q idle found c) (C.core-undecided i ends q idle found c) (C.inf-v i ends q idle found c) (C.found-v i ends q idle found c))
 
   -- the channels but that one are as they were
   off : (x j : ℕ) → (u ≢ x) ⊎ (k ≢ j) → c′ x j ≡ s.ch x j
@@ -100,7 +100,7 @@ module _ {p : Network} {s : ProtocolState} (i : Inv p s) {u v k w : ℕ} {r : Li
           subst (λ y. Inf s y × (s.st y ≡ 2) × (key p (s.bw x) < key p (s.bw y)) × (1 ≤ sumL isR (c′ y j))) (other-end ends e a b) (
             C.inf-v i ends q idle found c,
             C.found-v i ends q idle found c,
-            omega (arith, later c, ap (key p) (sym (ap s.bw a) ∙ C.best-u i ends q idle found c)),
+            omega (arith, report-earlier c, ap (key p) (sym (ap s.bw a) ∙ C.best-u i ends q idle found c)),
             subst (λ n. 1 ≤ sumL isR (c′ v n)) b (subst (λ l. 1 ≤ sumL isR l) (sym (off v k (inl (ends-irr p ends)))) (own-waits c)),
           )
 

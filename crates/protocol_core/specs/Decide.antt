@@ -21,7 +21,7 @@ module _ {p : Network} {s : ProtocolState} (i : Inv p s) {u v k w : ℕ} {r : Li
 
   bounds : Bounds p s (key p (s.bw v)) v
   bounds a j b f e m =
-      let t = C.bound i ends q idle found core a j b f e m in
+      let t = C.basic-bound i ends q idle found core a j b f e m in
       ⊎-elim
       (λ z. omega (arith, t .3, ap (λ x. key p (s.bw x)) z, ap (key p) (C.best-u i ends q idle found core)))
       (λ z. omega (arith, t .3, ap (λ x. key p (s.bw x)) z))
@@ -47,12 +47,12 @@ module _ {p : Network} {s : ProtocolState} (i : Inv p s) {u v k w : ℕ} {r : Li
     ub-u = C.ub-u i ends q idle found core;
     some = some;
     bounds = bounds;
-    fresh = λ z. omega (arith, C.undec i ends q idle found core);
-    unfinished = λ z. omega (arith, C.undec i ends q idle found core);
+    fresh = λ z. omega (arith, C.core-undecided i ends q idle found core);
+    unfinished = λ z. omega (arith, C.core-undecided i ends q idle found core);
     no-find = C.none-find i ends q idle found core;
     no-due = C.none-due i ends q idle found core;
     silent = C.silent i ends q;
-    no-token = λ j x y e f o. omega (arith, i.tokens.k1 j x y e (pop-in s.ch u k q x j o) .0, ap s.dk f, C.undec i ends q idle found core);
+    no-token = λ j x y e f o. omega (arith, i.tokens.k1 j x y e (pop-in s.ch u k q x j o) .0, ap s.dk f, C.core-undecided i ends q idle found core);
     spent = spent;
   }
 

@@ -5,7 +5,7 @@ use Rattle.protocol.specs.Prelude.{List, _∷_, sum, sum-le, Msg, connect, init
 use Rattle.protocol.specs.Prelude.{Rouse, In, all-in, GL, Inv}
 use Rattle.base.specs.Log.{log2}
 use Rattle.protocol_budget.specs.Ceiling.{level-log}
-use Rattle.protocol_core.specs.Core.{count}
+use Rattle.protocol_core.specs.Core.{count-pos}
 
 module _ {p : Network} {s : ProtocolState} (i : Inv p s) where
   -- ---- 31: levels are at most ⌊log2 N⌋
@@ -60,7 +60,7 @@ module _ {p : Network} {s : ProtocolState} (i : Inv p s) where
 
   -- a Report of a child is counted
   pub child-count : (k u v w : ℕ) {r : List Msg} → Edge p k u v → s.ch u k ≡ report w ∷ r → s.ib v ≢ k → s.fc v ≢ 0
-  child-count k u v w e q n z = omega (arith, count i e q n)
+  child-count k u v w e q n z = omega (arith, count-pos i e q n)
 
   -- procedures test, report and change-root find what they need
   pub test-level : (v : ℕ) → s.ot ≡ suc v → 1 ≤ s.lev v

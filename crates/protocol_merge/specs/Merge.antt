@@ -1,7 +1,7 @@
 -- Merge, for waking and for procedure change-root (`inv-merge`).
 use Rattle.protocol.specs.Prelude.{ℕ, Network, ProtocolState, upd, halved, merged, set-st, set-oo, Inv}
 use Rattle.protocol_merge.specs.Move as M
-use Rattle.protocol_merge.specs.Unite.{MergeReady, mv}
+use Rattle.protocol_merge.specs.Unite.{MergeReady, move-merge}
 use Rattle.protocol_merge.specs.MergeTables as A
 use Rattle.protocol_merge.specs.MergeTraffic as C
 
@@ -22,11 +22,11 @@ inv-merge r = record {
   parents = A.parents-merge r;
   kids = A.kids-merge r;
   finds = A.finds-merge r;
-  pending = M.pending-move (r.inv) (r.turn) (mv r);
+  pending = M.pending-move (r.inv) (r.turn) (move-merge r);
   findCounts = r.inv.findCounts;
   tests = A.tests-merge r;
   weights = A.weights-merge r;
-  hush = record { g6o = M.hush (r.inv) (r.turn) (mv r); g6i = M.hush-in (r.inv) (r.turn) (mv r) };
+  hush = record { g6o = M.hush (r.inv) (r.turn) (move-merge r); g6i = M.hush-in (r.inv) (r.turn) (move-merge r) };
   tokens = C.tokens-merge r;
   connects = C.connects-merge r;
   initiates = C.initiates-merge r;
@@ -36,5 +36,5 @@ inv-merge r = record {
   reports = C.reports-merge r;
   owing = C.owing-merge r;
   bests = C.bests-merge r;
-  ordered = record { q1 = M.order-move (r.inv) (r.turn) (mv r) };
+  ordered = record { q1 = M.order-move (r.inv) (r.turn) (move-merge r) };
 }

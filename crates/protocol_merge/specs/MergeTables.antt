@@ -1,7 +1,7 @@
 -- Merge keeps the clauses that speak of tables: `ranges-merge`, `levels-merge` and so on, each by the clause's name.
 use Rattle.protocol.specs.Prelude.{ℕ, suc, _^_, _≤_, arith, _≡_, sym, ap, subst, _∙_, _≢_, inl, inr, ⊎-elim}
 use Rattle.protocol.specs.Prelude.{upd, upd-elim, upd2-elim, at2, relabel-cases}
-use Rattle.protocol.specs.Prelude.{Network, Edge, Tree, key, rank, Way, go, join, both-joined, joins-lt, flip, same-edge, other-end, end-lt, ProtocolState}
+use Rattle.protocol.specs.Prelude.{Network, Edge, Tree, key, rank, Way, go, way-append, both-joined, joins-lt, flip, same-edge, other-end, end-lt, ProtocolState}
 use Rattle.protocol.specs.Prelude.{Both, Decision, GL, GC, DK, Half, waits-find}
 use Rattle.graph.specs.laws.Size.{partSize, size-mono, level-merge}
 use Rattle.protocol.specs.Fragments.{Ranges, Levels, Sizes, Cores, Sleepers, Markings, Inbounds}
@@ -18,10 +18,10 @@ module _ {p : Network} {s : ProtocolState} {v k y l : ℕ} (r : MergeReady p s v
   -- ---- k afterwards
 
   mark-v : S′.mark v k ≡ 1
-  mark-v = M.mark-new (r.inv) (r.turn) (U.mv r)
+  mark-v = M.mark-new (r.inv) (r.turn) (U.move-merge r)
 
   pub mark-y : S′.mark y k ≡ 1
-  mark-y = M.up1-move (r.inv) (r.turn) (U.mv r) y k (r.branch)
+  mark-y = M.up1-move (r.inv) (r.turn) (U.move-merge r) y k (r.branch)
 
   -- an edge that is k: joined, and inside
   at-core : (j a b : ℕ) → k ≡ j → Edge p j a b → Both S′.mark j a b × U.InEither r a
@@ -81,40 +81,40 @@ module _ {p : Network} {s : ProtocolState} {v k y l : ℕ} (r : MergeReady p s v
         (λ c. let x = at-core (GC S′ w) a b (sym (U.gc-in r w c)) e in (x .0, U.fr-in-merge r a (x .1) ∙ sym (U.fr-in-merge r w c)))
         (λ o. let g = U.gc-out r w o in
         let x = r.inv.cores.g5 w a b (omega (arith, U.gl-out r w o)) (subst (λ j. Edge p j a b) g e) in
-        (subst (λ j. Both S′.mark j a b) (sym g) (M.both-up (r.inv) (r.turn) (U.mv r) (GC s w) a b (x .0)), U.keep-merge r a w (x .1)));
+        (subst (λ j. Both S′.mark j a b) (sym g) (M.both-up (r.inv) (r.turn) (U.move-merge r) (GC s w) a b (x .0)), U.keep-merge r a w (x .1)));
   }
 
   pub sleepers-merge : Sleepers p S′.st S′.fr S′.gl S′.dk S′.due s.bw s.be S′.ub s.halt S′.mark
   sleepers-merge = record {
     g6 = λ w z.
-        let a = M.st-asleep (r.inv) (r.turn) (U.mv r) w z in
+        let a = M.st-asleep (r.inv) (r.turn) (U.move-merge r) w z in
         let o = U.asleep-out r w (a .0) (a .1) in
         let b = r.inv.sleepers.g6 w (a .1) in
         record { g6g = U.gl-out r w o ∙ b.g6g; g6d = U.dk-out-merge r w o ∙ b.g6d; g6u = U.due-out-merge r w o ∙ b.g6u; g6w = b.g6w; g6e = b.g6e };
-    g6m = M.sleep-mark (r.inv) (r.turn) (U.mv r);
-    u1a = M.awake-ub (r.inv) (r.turn) (U.mv r);
+    g6m = M.sleep-mark (r.inv) (r.turn) (U.move-merge r);
+    u1a = M.awake-ub (r.inv) (r.turn) (U.move-merge r);
     g7 = λ j w u e n g. let o = zero-out w g in U.dk-out-merge r w (o .0) ∙ r.inv.sleepers.g7 j w u e (was w (o .0) n) (o .1);
     g7n = λ w n g e. let o = zero-out w g in let x = r.inv.sleepers.g7n w (was w (o .0) n) (o .1) e in (U.dk-out-merge r w (o .0) ∙ x .0, x .1);
   }
     where
       was : (w : ℕ) → U.Outside r w → S′.st w ≢ 0 → s.st w ≢ 0
-      was w o n = M.st-awake (r.inv) (r.turn) (U.mv r) w (U.out-v r w o) n
+      was w o n = M.st-awake (r.inv) (r.turn) (U.move-merge r) w (U.out-v r w o) n
 
   -- ---- marks, inbound edges
 
   pub markings-merge : Markings p S′.fr S′.mark
   markings-merge = record {
-    own = M.own (r.inv) (r.turn) (U.mv r);
-    m1 = λ j w u e z. let a = M.beyond-move (r.inv) (r.turn) (U.mv r) j w u e z in (U.keep-merge r w u (a .0), a .1);
+    own = M.marked-own (r.inv) (r.turn) (U.move-merge r);
+    m1 = λ j w u e z. let a = M.beyond-move (r.inv) (r.turn) (U.move-merge r) j w u e z in (U.keep-merge r w u (a .0), a .1);
     m3 = λ j w u e b. U.joined-merge r j w u e b
         (λ q c z. U.fr-in-merge r w (inl (ap s.fr (sym q))) ∙ sym (U.fr-in-merge r u (inr (ap s.fr (sym c)))))
         (λ q c z. U.fr-in-merge r w (inr (ap s.fr (sym q))) ∙ sym (U.fr-in-merge r u (inl (ap s.fr (sym c)))))
         (λ f. U.keep-merge r w u (r.inv.markings.m3 j w u e f));
     m4 = λ a b q. relabel-cases s.fr (s.fr y) (s.fr v) a b q
         (λ c. wide a b c)
-        (λ c d. join (wide a y c) (go k (flip (r.leave.ends)) core (wide v b (sym d))))
-        (λ c d. join (wide a v c) (go k (r.leave.ends) core (wide y b (sym d))));
-    m5 = λ j w u e z. M.dn1-move (r.inv) (r.turn) (U.mv r) w j z
+        (λ c d. way-append (wide a y c) (go k (flip (r.leave.ends)) core (wide v b (sym d))))
+        (λ c d. way-append (wide a v c) (go k (r.leave.ends) core (wide y b (sym d))));
+    m5 = λ j w u e z. M.dn1-move (r.inv) (r.turn) (U.move-merge r) w j z
         (λ q c. subst (λ n. Tree p n) c (r.inv.markings.m5 k y v (flip (r.leave.ends)) (r.branch))) (λ f. r.inv.markings.m5 j w u e f);
   }
     where
@@ -122,13 +122,13 @@ module _ {p : Network} {s : ProtocolState} {v k y l : ℕ} (r : MergeReady p s v
       core = both-joined p S′.mark (r.leave.ends) (mark-v, mark-y)
 
       wide : (a b : ℕ) → s.fr a ≡ s.fr b → Way p.g (λ j. Both S′.mark j (p.g.lo j) (p.g.hi j)) a b
-      wide = M.wide (r.inv) (r.turn) (U.mv r)
+      wide = M.ways-stay (r.inv) (r.turn) (U.move-merge r)
 
   pub inbounds-merge : Inbounds p S′.ub s.ib S′.mark
-  inbounds-merge = M.inbounds (r.inv) (r.turn) (U.mv r) (λ j w u e b. U.joined-merge r j w u e b
-      (λ q c z. inl (ap S′.ub (sym q) ∙ M.ub-new (r.inv) (r.turn) (U.mv r) ∙ z))
-      (λ q c z. inr (ap S′.ub (sym c) ∙ M.ub-new (r.inv) (r.turn) (U.mv r) ∙ z))
-      (λ f. M.joined-ub (r.inv) (r.turn) (U.mv r) j w u e f))
+  inbounds-merge = M.inbounds (r.inv) (r.turn) (U.move-merge r) (λ j w u e b. U.joined-merge r j w u e b
+      (λ q c z. inl (ap S′.ub (sym q) ∙ M.ub-new (r.inv) (r.turn) (U.move-merge r) ∙ z))
+      (λ q c z. inr (ap S′.ub (sym c) ∙ M.ub-new (r.inv) (r.turn) (U.move-merge r) ∙ z))
+      (λ f. M.joined-ub (r.inv) (r.turn) (U.move-merge r) j w u e f))
 
   -- ---- decisions: those of other fragments
 
@@ -156,17 +156,17 @@ module _ {p : Network} {s : ProtocolState} {v k y l : ℕ} (r : MergeReady p s v
 
   pub halves-merge : Halves p S′.dk S′.dn S′.de S′.fr S′.gl s.lev S′.ub S′.mark
   halves-merge = record {
-    m2 = λ j w u e a b. M.dn1-move (r.inv) (r.turn) (U.mv r) w j a
-        (λ q z. absurd (b (sym (at2 S′.mark (M.far-end (r.inv) (r.turn) (U.mv r) j w u e q z) z) ∙ mark-y)))
-        (λ m. let x = r.inv.halves.m2 j w u e m (λ f. b (M.up1-move (r.inv) (r.turn) (U.mv r) u j f)) in new-decision 3 w j (half-out j w u e x b) x);
+    m2 = λ j w u e a b. M.dn1-move (r.inv) (r.turn) (U.move-merge r) w j a
+        (λ q z. absurd (b (sym (at2 S′.mark (M.far-end (r.inv) (r.turn) (U.move-merge r) j w u e q z) z) ∙ mark-y)))
+        (λ m. let x = r.inv.halves.m2 j w u e m (λ f. b (M.up1-move (r.inv) (r.turn) (U.move-merge r) u j f)) in new-decision 3 w j (half-out j w u e x b) x);
     d1f = λ w z. let o = U.dk-old r 3 w (λ q. omega arith) z in decision-node w (o .0) (r.inv.halves.d1f w (o .1));
     d1e = λ w z. let o = U.dk-old r 3 w (λ q. omega arith) z in decision-edge w (o .0) (r.inv.halves.d1e w (o .1));
     d1 = λ j z x e a.
         let o = U.dk-old r 3 z (λ q. omega arith) (a .0) .0 in
         let b = r.inv.halves.d1 j z x e (old-decision 3 z j o a) in
         record {
-          d1m = M.up1-move (r.inv) (r.turn) (U.mv r) z j (b.d1m);
-          d1y = upd2-elim (λ n. n ≡ 0) s.mark v k 1 x j (λ q c. absurd (o .1 (ap s.fr (sym (M.far-end (r.inv) (r.turn) (U.mv r) j x z (flip e) q c))))) (λ n. b.d1y);
+          d1m = M.up1-move (r.inv) (r.turn) (U.move-merge r) z j (b.d1m);
+          d1y = upd2-elim (λ n. n ≡ 0) s.mark v k 1 x j (λ q c. absurd (o .1 (ap s.fr (sym (M.far-end (r.inv) (r.turn) (U.move-merge r) j x z (flip e) q c))))) (λ n. b.d1y);
           d1o = λ q. b.d1o (U.apart-merge r z x o q);
           d1g = omega (arith, U.gl-out r z o, b.d1g);
           d1l = b.d1l ∙ sym (U.gl-out r z o);
@@ -184,7 +184,7 @@ module _ {p : Network} {s : ProtocolState} {v k y l : ℕ} (r : MergeReady p s v
         let b = r.inv.changeRoots.d2 j u x e (old-decision 2 u j o a) in
         let c = U.beyond-merge r j u x e o (b.d2j) in
         record {
-          d2j = M.both-up (r.inv) (r.turn) (U.mv r) j u x (b.d2j);
+          d2j = M.both-up (r.inv) (r.turn) (U.move-merge r) j u x (b.d2j);
           d2g = λ z. b.d2g (sym (U.gc-out r u o) ∙ z);
           d2i = U.inf-new-merge r u o (b.d2i);
           d2x = U.inf-new-merge r x c (b.d2x);
@@ -205,7 +205,7 @@ module _ {p : Network} {s : ProtocolState} {v k y l : ℕ} (r : MergeReady p s v
 
   pub finishes-merge : Finishes p S′.dk S′.fr S′.gl S′.gc s.lev s.bw s.halt S′.due S′.mark
   finishes-merge = record {
-    d4 = λ j w u e z f. r.inv.finishes.d4 j w u e (U.dk-old r 4 w (λ q. omega arith) z .1) (M.dn0-move (r.inv) (r.turn) (U.mv r) w j f);
+    d4 = λ j w u e z f. r.inv.finishes.d4 j w u e (U.dk-old r 4 w (λ q. omega arith) z .1) (M.dn0-move (r.inv) (r.turn) (U.move-merge r) w j f);
     d4i = λ j a b e g z n. let o = U.dk-old r 4 a (λ q. omega arith) z in
         let x = r.inv.finishes.d4i j a b e (sym (U.gc-out r a (o .0)) ∙ g) (o .1) (omega (arith, U.gl-out r a (o .0))) in
         (U.inf-new-merge r a (o .0) (x .0), x .1);
@@ -250,7 +250,7 @@ module _ {p : Network} {s : ProtocolState} {v k y l : ℕ} (r : MergeReady p s v
       low-v = record {
         t4d = U.due-in-merge r v (U.in-v r);
         t4l = omega (arith, U.gl-in r v (U.in-v r), r.turn.even);
-        t4b = M.ub-new (r.inv) (r.turn) (U.mv r);
+        t4b = M.ub-new (r.inv) (r.turn) (U.move-merge r);
         t4i = λ q. omega (arith, r.inv.inbounds.u1i k v y (r.leave.ends) q .0, r.leave.basic);
       }
 
@@ -258,19 +258,19 @@ module _ {p : Network} {s : ProtocolState} {v k y l : ℕ} (r : MergeReady p s v
       low-y = record {
         t4d = U.due-in-merge r y (U.in-y r);
         t4l = omega (arith, U.gl-in r y (U.in-y r), U.ok-y r .d1l, U.even-y r);
-        t4b = M.ub-off (r.inv) (r.turn) (U.mv r) y (M.y≢v (r.inv) (r.turn) (U.mv r)) ∙ U.ok-y r .d1u;
+        t4b = M.ub-off (r.inv) (r.turn) (U.move-merge r) y (M.y≢v (r.inv) (r.turn) (U.move-merge r)) ∙ U.ok-y r .d1u;
         t4i = λ q. omega (arith, r.inv.inbounds.u1i k y v (flip (r.leave.ends)) q .1, r.leave.basic);
       }
 
   pub finds-merge : Finds S′.st s.lev S′.fr S′.gl S′.dk S′.due
   finds-merge = record {
-    f1 = λ w z. let f = M.st-old (r.inv) (r.turn) (U.mv r) w z in let o = U.find-out-merge r w f in let x = r.inv.finds.f1 w f in
+    f1 = λ w z. let f = M.st-old (r.inv) (r.turn) (U.move-merge r) w z in let o = U.find-out-merge r w f in let x = r.inv.finds.f1 w f in
         record { f1i = U.inf-new-merge r w o (x.f1i); f1k = U.dk-out-merge r w o ∙ x.f1k; f1u = U.due-out-merge r w o ∙ x.f1u };
-    f1d = λ w f z. M.st-new (r.inv) (r.turn) (U.mv r) w (r.inv.finds.f1d w (U.inf-old-merge r w f) (sym (U.due-out-merge r w (U.inf-out-merge r w f)) ∙ z));
+    f1d = λ w f z. M.st-new (r.inv) (r.turn) (U.move-merge r) w (r.inv.finds.f1d w (U.inf-old-merge r w f) (sym (U.due-out-merge r w (U.inf-out-merge r w f)) ∙ z));
   }
 
   pub tests-merge : Tests p s.te s.ib S′.mark s.ot
-  tests-merge = M.tests-move (r.inv) (r.turn) (U.mv r) (λ j w u e a b. U.joined-out r j w u e (U.find-out-merge r w (waits-find (r.inv) j w u e a)) b)
+  tests-merge = M.tests-move (r.inv) (r.turn) (U.move-merge r) (λ j w u e a b. U.joined-out r j w u e (U.find-out-merge r w (waits-find (r.inv) j w u e a)) b)
 
   pub weights-merge : Weights p s.lev S′.fr S′.gl s.bw s.be s.side
   weights-merge = record {
@@ -283,7 +283,7 @@ module _ {p : Network} {s : ProtocolState} {v k y l : ℕ} (r : MergeReady p s v
       U.keep-merge r (x .0) w (x .3),
       λ q. x .4 (U.apart-merge r w (x .1) o q),
       omega (arith, U.gl-out r w o, x .5),
-      U.inf-new-merge r (x .0) (U.like r w (x .0) o (x .3)) (x .6),
+      U.inf-new-merge r (x .0) (U.outside-like r w (x .0) o (x .3)) (x .6),
       x .7,
     );
   }

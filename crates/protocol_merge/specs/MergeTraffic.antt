@@ -19,13 +19,13 @@ module _ {p : Network} {s : ProtocolState} {v k y l : ℕ} (r : MergeReady p s v
 
   -- there and back
   was : {x : Msg} (f : Msg → ℕ) → f (connect l) ≡ 0 → 1 ≤ f x → (w j : ℕ) → In x (S′.ch w j) → In x (s.ch w j)
-  was f z o w j n = M.old-move (r.inv) (r.turn) (U.mv r) f z o w j n
+  was f z o w j n = M.old-move (r.inv) (r.turn) (U.move-merge r) f z o w j n
 
   still : {x : Msg} (w j : ℕ) → In x (s.ch w j) → In x (S′.ch w j)
-  still w j n = M.new (r.inv) (r.turn) (U.mv r) w j n
+  still w j n = M.in-stays (r.inv) (r.turn) (U.move-merge r) w j n
 
   same : (f : Msg → ℕ) → f (connect l) ≡ 0 → (w j : ℕ) → sumL f (S′.ch w j) ≡ sumL f (s.ch w j)
-  same f z w j = M.same-move (r.inv) (r.turn) (U.mv r) f z w j
+  same f z w j = M.same-move (r.inv) (r.turn) (U.move-merge r) f z w j
 
   -- on a joined edge inside the fragment was decided
   in-joined : (j a b : ℕ) → Edge p j a b → Jn s j a b → U.InEither r a → DK s a ≢ 0
@@ -55,24 +55,24 @@ module _ {p : Network} {s : ProtocolState} {v k y l : ℕ} (r : MergeReady p s v
     d7 = λ j a b e g z f q.
         let o = U.inf-out-merge r a f in
         let c = sym (U.gc-out r a o) ∙ g in
-        let d = U.like r a b o (r.inv.cores.g5 a b a (U.inf-old-merge r a f .0) (subst (λ n. Edge p n b a) (sym c) (flip e)) .1) in
+        let d = U.outside-like r a b o (r.inv.cores.g5 a b a (U.inf-old-merge r a f .0) (subst (λ n. Edge p n b a) (sym c) (flip e)) .1) in
         ⊎-elim (λ x. inl (omega (arith, same isR refl a j)))
-        (λ x. inr (U.inf-new-merge r b d (x .0), M.st-two (r.inv) (r.turn) (U.mv r) b (x .1), x .2, omega (arith, x .3, same isR refl b j)))
+        (λ x. inr (U.inf-new-merge r b d (x .0), M.st-two (r.inv) (r.turn) (U.move-merge r) b (x .1), x .2, omega (arith, x .3, same isR refl b j)))
         (r.inv.tokens.d7 j a b e c (sym (U.dk-out-merge r a o) ∙ z) (U.inf-old-merge r a f) (sym (upd-other s.st v 2 a (U.out-v r a o)) ∙ q));
   }
 
   pub connects-merge : Connects p S′
   connects-merge = record {
-    c1m = M.caller (r.inv) (r.turn) (U.mv r);
+    c1m = M.caller-marked (r.inv) (r.turn) (U.move-merge r);
     c1 = λ j w u n e a z. ⊎-elim
-        (λ b. M.dn1-move (r.inv) (r.turn) (U.mv r) u j z
-        (λ q c. let f = M.far-end (r.inv) (r.turn) (U.mv r) j u w (flip e) q c in
+        (λ b. M.dn1-move (r.inv) (r.turn) (U.move-merge r) u j z
+        (λ q c. let f = M.far-end (r.inv) (r.turn) (U.move-merge r) j u w (flip e) q c in
         let in-w : U.InEither r w = inr (ap s.fr (sym f)) in
         let g : n ≡ GL s y = y-only j w (connect n) f c b in
         (U.gc-in r w in-w ∙ c, omega (arith, U.gl-in r w in-w, U.even-y r), omega (arith, ap s.lev q, r.turn.even, U.even-y r)))
         (λ m. old j w u n e b m))
         (λ b. let in-w : U.InEither r w = inl (ap s.fr (sym (b .0))) in
-        let f = M.far-end (r.inv) (r.turn) (U.mv r) j w u e (b .0) (b .1) in (
+        let f = M.far-end (r.inv) (r.turn) (U.move-merge r) j w u e (b .0) (b .1) in (
           U.gc-in r w in-w ∙ b .1,
           omega (arith, U.gl-in r w in-w, r.level, ap arg1 (b .2)),
           omega (arith, ap s.lev f, U.ok-y r .d1l, U.even-y r, r.level, ap arg1 (b .2)),
@@ -93,8 +93,8 @@ module _ {p : Network} {s : ProtocolState} {v k y l : ℕ} (r : MergeReady p s v
     i1 = λ j w u n f x e a.
         let b = was isI refl (omega arith) w j a in
         let q = r.inv.initiates.i1 j w u n f x e b in
-        let joined = M.both-up (r.inv) (r.turn) (U.mv r) j w u (q.i1j) in
-        let inbound = M.ub-off (r.inv) (r.turn) (U.mv r) u (M.low-off (r.inv) (r.turn) (U.mv r) u (omega (arith, q.i1l, q.i1g))) ∙ q.i1u in
+        let joined = M.both-up (r.inv) (r.turn) (U.move-merge r) j w u (q.i1j) in
+        let inbound = M.ub-off (r.inv) (r.turn) (U.move-merge r) u (M.low-off (r.inv) (r.turn) (U.move-merge r) u (omega (arith, q.i1l, q.i1g))) ∙ q.i1u in
         U.sort r u
         (λ c. let g = U.gl-in r u c in
         let h = U.in-level r u c in
@@ -120,7 +120,7 @@ module _ {p : Network} {s : ProtocolState} {v k y l : ℕ} (r : MergeReady p s v
           i1i = λ a b e. U.keep-merge r a u (q.i1i a b e);
           i1c = λ z. q.i1c (z ∙ g) ∙ sym (U.gc-out r u o);
           i1d = λ z. q.i1d (z ∙ g) ∙ sym (U.due-out-merge r u o);
-          i1s = λ z n. U.inf-new-merge r w (U.like r u w o (r.inv.markings.m3 j w u e (q.i1j))) (q.i1s (z ∙ g) (λ c. n (U.gc-out r u o ∙ c)));
+          i1s = λ z n. U.inf-new-merge r w (U.outside-like r u w o (r.inv.markings.m3 j w u e (q.i1j))) (q.i1s (z ∙ g) (λ c. n (U.gc-out r u o ∙ c)));
           i1z = λ z. q.i1z (omega arith);
         });
   }
@@ -128,9 +128,9 @@ module _ {p : Network} {s : ProtocolState} {v k y l : ℕ} (r : MergeReady p s v
   pub telling-merge : Telling p S′
   telling-merge = record {
     u2 = λ j w c e b n. U.joined-merge r j w c e b
-        (λ q d z. absurd (n (ap S′.ub (sym q) ∙ M.ub-new (r.inv) (r.turn) (U.mv r) ∙ z)))
-        (λ q d z. absurd (n (ap S′.ub (sym q) ∙ M.ub-off (r.inv) (r.turn) (U.mv r) y (M.y≢v (r.inv) (r.turn) (U.mv r)) ∙ U.ok-y r .d1u ∙ z)))
-        (λ f. M.joined-top (r.inv) (r.turn) (U.mv r) j w c e f n);
+        (λ q d z. absurd (n (ap S′.ub (sym q) ∙ M.ub-new (r.inv) (r.turn) (U.move-merge r) ∙ z)))
+        (λ q d z. absurd (n (ap S′.ub (sym q) ∙ M.ub-off (r.inv) (r.turn) (U.move-merge r) y (M.y≢v (r.inv) (r.turn) (U.move-merge r)) ∙ U.ok-y r .d1u ∙ z)))
+        (λ f. M.joined-top (r.inv) (r.turn) (U.move-merge r) j w c e f n);
     t2i = λ j w c e b f n g.
         let o = U.inf-out-merge r w f in
         let x = U.joined-out r j w c e o b in
@@ -145,17 +145,17 @@ module _ {p : Network} {s : ProtocolState} {v k y l : ℕ} (r : MergeReady p s v
           arith,
           ap (sumL isC) (at2 s.ch q z),
           in-sum isC (r.inv.tokens.d1c k y v (flip (r.leave.ends)) (U.half-y r)),
-          M.grow (r.inv) (r.turn) (U.mv r) isC a j,
+          M.sum-grows (r.inv) (r.turn) (U.move-merge r) isC a j,
         )))
         (λ x. let o = core-out j a c e x g in
-        ⊎-elim (λ n. inl (omega (arith, M.grow (r.inv) (r.turn) (U.mv r) isC a j)))
+        ⊎-elim (λ n. inl (omega (arith, M.sum-grows (r.inv) (r.turn) (U.move-merge r) isC a j)))
         (⊎-elim (λ n. inr (inl (still c j (subst (λ m. In (initiate m j 1) (s.ch c j)) (sym (U.gl-out r a o)) n)))) (λ n. inr (inr (U.inf-new-merge r a o n))))
         (r.inv.telling.t4 j a c e x (sym (U.gc-out r a o) ∙ g)));
     t4n = λ j a c e b g n. U.joined-merge r j a c e b
         (λ q d z. (U.low-in r a (inl (ap s.fr (sym q))), λ x. y-only j c (initiate (GL S′ a) j 1) d z (was isI refl (omega arith) c j x)))
         (λ q d z. (U.low-in r a (inr (ap s.fr (sym q))), λ x. v-only j c (initiate (GL S′ a) j 1) d z (was isI refl (omega arith) c j x)))
         (λ x. let o = core-out j a c e x g in
-        let f = r.inv.telling.t4n j a c e x (sym (U.gc-out r a o) ∙ g) (omega (arith, M.conn-same (r.inv) (r.turn) (U.mv r) a j c x)) in
+        let f = r.inv.telling.t4n j a c e x (sym (U.gc-out r a o) ∙ g) (omega (arith, M.conn-same (r.inv) (r.turn) (U.move-merge r) a j c x)) in
         (omega (arith, U.gl-out r a o, f .0), λ q. f .1 (subst (λ m. In (initiate m j 1) (s.ch c j)) (U.gl-out r a o) (was isI refl (omega arith) c j q))));
   }
     where
@@ -171,10 +171,10 @@ module _ {p : Network} {s : ProtocolState} {v k y l : ℕ} (r : MergeReady p s v
         let o : U.Outside r w = U.sort r w (λ c. absurd (decided-test (r.inv) j w u n f e (U.in-decided r w c (x .2 .0)) b)) (λ o. o) in
         (x .0, x .1, U.inf-new-merge r w o (x .2));
     e1w = λ j w u n f e a. ⊎-elim (λ x. inl x) (λ x. inr (x .0, x .1, x .2, U.keep-merge r w u (x .3)))
-        (M.asks (r.inv) (r.turn) (U.mv r) j w u n f e (was isT refl (omega arith) w j a));
-    e2w = M.waits-two (r.inv) (r.turn) (U.mv r);
-    e2c = M.waits-one (r.inv) (r.turn) (U.mv r);
-    m6t = M.served-move (r.inv) (r.turn) (U.mv r);
+        (M.test-cases (r.inv) (r.turn) (U.move-merge r) j w u n f e (was isT refl (omega arith) w j a));
+    e2w = M.waits-two (r.inv) (r.turn) (U.move-merge r);
+    e2c = M.waits-one (r.inv) (r.turn) (U.move-merge r);
+    m6t = M.served-move (r.inv) (r.turn) (U.move-merge r);
   }
 
   pub answers-merge : Answers p S′
@@ -182,26 +182,26 @@ module _ {p : Network} {s : ProtocolState} {v k y l : ℕ} (r : MergeReady p s v
     a1 = λ j w u e n. let x = r.inv.answers.a1 j w u e (was isA refl (omega arith) w j n) in
         record {
           a1w = x.a1w;
-          a1m = M.mark-wait (r.inv) (r.turn) (U.mv r) j u w (flip e) (x.a1w) ∙ x.a1m;
+          a1m = M.mark-wait (r.inv) (r.turn) (U.move-merge r) j u w (flip e) (x.a1w) ∙ x.a1m;
           a1f = λ q. x.a1f (U.apart-merge r u w (U.find-out-merge r u (waits-find (r.inv) j u w (flip e) (x.a1w))) q);
           a1l = x.a1l;
         };
     j1 = λ j w u e n. let x = r.inv.answers.j1 j w u e (was isA refl (omega arith) w j n) in
-        record { j1w = x.j1w; j1f = U.keep-merge r w u (x.j1f); j1m = λ z. M.up2-move (r.inv) (r.turn) (U.mv r) w j (x.j1m (M.dn0-move (r.inv) (r.turn) (U.mv r) u j z)) };
+        record { j1w = x.j1w; j1f = U.keep-merge r w u (x.j1f); j1m = λ z. M.up2-move (r.inv) (r.turn) (U.move-merge r) w j (x.j1m (M.dn0-move (r.inv) (r.turn) (U.move-merge r) u j z)) };
   }
 
   -- ---- Reports, owed Reports, best weights
 
   core : (j w u n : ℕ) → Edge p j w u → Jn s j w u → U.Outside r u → CoreEnds s w u j n → CoreEnds S′ w u j n
   core j w u n e b o x =
-      let q = U.like r u w o (r.inv.markings.m3 j w u e b) in (
+      let q = U.outside-like r u w o (r.inv.markings.m3 j w u e b) in (
         U.gc-out r w q ∙ x .0,
         U.dk-out-merge r w q ∙ x .1,
         U.inf-new-merge r w q (x .2),
-        M.st-two (r.inv) (r.turn) (U.mv r) w (x .3),
+        M.st-two (r.inv) (r.turn) (U.move-merge r) w (x .3),
         x .4,
-        λ a f. ⊎-elim (λ g. x .5 a g) (λ z. z) (M.behind-move (r.inv) (r.turn) (U.mv r) w j u n a b f),
-        ⊎-elim (λ c. inl (U.inf-new-merge r u o (c .0), M.call-same (r.inv) (r.turn) (U.mv r) w j u b ∙ c .1))
+        λ a f. ⊎-elim (λ g. x .5 a g) (λ z. z) (M.behind-move (r.inv) (r.turn) (U.move-merge r) w j u n a b f),
+        ⊎-elim (λ c. inl (U.inf-new-merge r u o (c .0), M.call-same (r.inv) (r.turn) (U.move-merge r) w j u b ∙ c .1))
             (λ c. inr (omega (arith, U.gl-out r u o, c .0), still w j (subst (λ m. In (initiate m j 1) (s.ch w j)) (sym (U.gl-out r u o)) (c .1)))) (x .6),
       )
 
@@ -209,16 +209,16 @@ module _ {p : Network} {s : ProtocolState} {v k y l : ℕ} (r : MergeReady p s v
   spent j w u n e b x = (
     x .0,
     x .1,
-    M.ub-off (r.inv) (r.turn) (U.mv r) u (M.spent-off (r.inv) (r.turn) (U.mv r) j w u n e b (x .0)) ∙ x .2,
-    M.st-two (r.inv) (r.turn) (U.mv r) u (x .3),
-    λ a f. x .4 a (M.ahead-move (r.inv) (r.turn) (U.mv r) w j n a f),
+    M.ub-off (r.inv) (r.turn) (U.move-merge r) u (M.spent-off (r.inv) (r.turn) (U.move-merge r) j w u n e b (x .0)) ∙ x .2,
+    M.st-two (r.inv) (r.turn) (U.move-merge r) u (x .3),
+    λ a f. x .4 a (M.ahead-move (r.inv) (r.turn) (U.move-merge r) w j n a f),
     ⊎-elim (λ c. inl c) (λ c. let o = U.dk-other r u (omega (arith, c .2)) (λ z. omega (arith, c .2)) in inr (c .0, c .1, U.dk-out-merge r u o ∙ c .2, U.gc-out r u o ∙ c .3)) (x .5),
   )
 
   pub reports-merge : Reports p S′
   reports-merge = record {
     r1r = λ j w u n e a. r.inv.reports.r1r j w u n e (was isR refl (omega arith) w j a);
-    r1j = λ j w u n e a. M.both-up (r.inv) (r.turn) (U.mv r) j w u (r.inv.reports.r1j j w u n e (was isR refl (omega arith) w j a));
+    r1j = λ j w u n e a. M.both-up (r.inv) (r.turn) (U.move-merge r) j w u (r.inv.reports.r1j j w u n e (was isR refl (omega arith) w j a));
     r1 = λ j w u n e a.
         let b = was isR refl (omega arith) w j a in
         let f = r.inv.reports.r1j j w u n e b in
@@ -232,23 +232,23 @@ module _ {p : Network} {s : ProtocolState} {v k y l : ℕ} (r : MergeReady p s v
     where
       child : (j w u n : ℕ) → Edge p j w u → Jn s j w u → U.Outside r u → Child s w u j n → Child S′ w u j n
       child j w u n e b o x =
-          let q = U.like r u w o (r.inv.markings.m3 j w u e b) in (
+          let q = U.outside-like r u w o (r.inv.markings.m3 j w u e b) in (
             U.inf-new-merge r w q (x .0),
             x .1,
             λ z. x .2 (sym (U.gc-out r w q) ∙ z),
-            M.st-two (r.inv) (r.turn) (U.mv r) w (x .3),
+            M.st-two (r.inv) (r.turn) (U.move-merge r) w (x .3),
             x .4,
             U.inf-new-merge r u o (x .5),
-            M.st-new (r.inv) (r.turn) (U.mv r) u (x .6),
-            M.call-same (r.inv) (r.turn) (U.mv r) w j u b ∙ x .7,
+            M.st-new (r.inv) (r.turn) (U.move-merge r) u (x .6),
+            M.call-same (r.inv) (r.turn) (U.move-merge r) w j u b ∙ x .7,
           )
 
   outst-new : (c j : ℕ) → U.Outside r c → Outst s c j → Outst S′ c j
-  outst-new c j o (inl x) = inl (U.inf-new-merge r c o (x .0), ⊎-elim (λ f. inl (M.st-new (r.inv) (r.turn) (U.mv r) c f)) (λ f. inr (omega (arith, same isR refl c j))) (x .1))
+  outst-new c j o (inl x) = inl (U.inf-new-merge r c o (x .0), ⊎-elim (λ f. inl (M.st-new (r.inv) (r.turn) (U.move-merge r) c f)) (λ f. inr (omega (arith, same isR refl c j))) (x .1))
   outst-new c j o (inr x) = inr (omega (arith, U.gl-out r c o, x .0), U.due-out-merge r c o ∙ x .1)
 
   outst-old : (c j : ℕ) → U.Outside r c → Outst S′ c j → Outst s c j
-  outst-old c j o (inl x) = inl (U.inf-old-merge r c (x .0), ⊎-elim (λ f. inl (M.st-old (r.inv) (r.turn) (U.mv r) c f)) (λ f. inr (omega (arith, same isR refl c j))) (x .1))
+  outst-old c j o (inl x) = inl (U.inf-old-merge r c (x .0), ⊎-elim (λ f. inl (M.st-old (r.inv) (r.turn) (U.move-merge r) c f)) (λ f. inr (omega (arith, same isR refl c j))) (x .1))
   outst-old c j o (inr x) = inr (omega (arith, U.gl-out r c o, x .0), sym (U.due-out-merge r c o) ∙ x .1)
 
   pub owing-merge : Owing p S′
@@ -256,7 +256,7 @@ module _ {p : Network} {s : ProtocolState} {v k y l : ℕ} (r : MergeReady p s v
     f4y = λ j w c e n.
         let x = r.inv.owing.f4y j w c e n in
         let o = U.find-out-merge r w (parent-find (r.inv) j w c e (x .0) (x .1) (x .2) (x .3)) in
-        (U.inf-new-merge r w o (x .0), M.both-up (r.inv) (r.turn) (U.mv r) j w c (x .1), x .2, outst-new c j (U.beyond-merge r j w c e o (x .1)) (x .3));
+        (U.inf-new-merge r w o (x .0), M.both-up (r.inv) (r.turn) (U.move-merge r) j w c (x .1), x .2, outst-new c j (U.beyond-merge r j w c e o (x .1)) (x .3));
     f4n = λ j w c e f b n x.
         let o = U.inf-out-merge r w f in
         let a = U.joined-out r j w c e o b in
@@ -264,7 +264,7 @@ module _ {p : Network} {s : ProtocolState} {v k y l : ℕ} (r : MergeReady p s v
   }
 
   live : (x : ℕ) → U.Outside r x → Counting s x → Counting S′ x
-  live x o (inl f) = inl (M.st-new (r.inv) (r.turn) (U.mv r) x f)
+  live x o (inl f) = inl (M.st-new (r.inv) (r.turn) (U.move-merge r) x f)
   live x o (inr (inl g)) = inr (inl (g ∙ sym (U.gc-out r x o)))
   live x o (inr (inr n)) = inr (inr (omega (arith, same isR refl x (s.ib x))))
 
@@ -275,19 +275,19 @@ module _ {p : Network} {s : ProtocolState} {v k y l : ℕ} (r : MergeReady p s v
         let x = r.inv.bests.b1e w (U.inf-old-merge r w f) n a in (
           x .0,
           x .1,
-          M.both-up (r.inv) (r.turn) (U.mv r) (s.be w) w (x .0) (x .2),
+          M.both-up (r.inv) (r.turn) (U.move-merge r) (s.be w) w (x .0) (x .2),
           x .3,
           U.inf-new-merge r (x .0) (U.beyond-merge r (s.be w) w (x .0) (x .1) o (x .2)) (x .4),
           x .5,
           x .6,
-          M.st-two (r.inv) (r.turn) (U.mv r) (x .0) (x .7),
+          M.st-two (r.inv) (r.turn) (U.move-merge r) (x .0) (x .7),
           same isR refl (x .0) (s.be w) ∙ x .8,
         );
     b2 = λ j u w e a z n. U.sort r u (λ c. inl (U.low-in r u c, U.due-in-merge r u c))
         (λ o. ⊎-elim (λ x. inl (omega (arith, U.gl-out r u o, x .0), U.due-out-merge r u o ∙ x .1))
         (⊎-elim (λ x. inr (inl x)) (⊎-elim (λ x. inr (inr (inl x))) (λ x. inr (inr (inr (covered u (rank p j) o x))))))
-        (r.inv.bests.b2 j u w e (M.dn0-move (r.inv) (r.turn) (U.mv r) u j a) (sym (U.dk-out-merge r u o) ∙ z) (omega (arith, U.gl-out r u o))));
+        (r.inv.bests.b2 j u w e (M.dn0-move (r.inv) (r.turn) (U.move-merge r) u j a) (sym (U.dk-out-merge r u o) ∙ z) (omega (arith, U.gl-out r u o))));
   }
     where
       covered : (u n : ℕ) → U.Outside r u → Covered p s u n → Covered p S′ u n
-      covered u n o x = let q = U.like r u (x .0) o (x .1) in (x .0, U.keep-merge r (x .0) u (x .1), U.inf-new-merge r (x .0) q (x .2), x .3, live (x .0) q (x .4), x .5)
+      covered u n o x = let q = U.outside-like r u (x .0) o (x .1) in (x .0, U.keep-merge r (x .0) u (x .1), U.inf-new-merge r (x .0) q (x .2), x .3, live (x .0) q (x .4), x .5)

@@ -79,14 +79,14 @@ module _ {p : Network} {s : ProtocolState} (i : Inv p s) {v y k : ℕ} {m : Msg}
   pub old-move : {x : Msg} (f : Msg → ℕ) → f m ≡ 0 → 1 ≤ f x → (w j : ℕ) → In x (c′ w j) → In x (s.ch w j)
   old-move f z o w j n = snoc-old s.ch v k m w j (λ e. omega (arith, ap f e)) n
 
-  pub new : {x : Msg} (w j : ℕ) → In x (s.ch w j) → In x (c′ w j)
-  new w j n = in-snoc2 s.ch v k m w j n
+  pub in-stays : {x : Msg} (w j : ℕ) → In x (s.ch w j) → In x (c′ w j)
+  in-stays w j n = in-snoc2 s.ch v k m w j n
 
   pub same-move : (f : Msg → ℕ) → f m ≡ 0 → (w j : ℕ) → sumL f (c′ w j) ≡ sumL f (s.ch w j)
   same-move f z w j = snoc-sum s.ch v k m f z w j
 
-  pub grow : (f : Msg → ℕ) (w j : ℕ) → sumL f (s.ch w j) ≤ sumL f (c′ w j)
-  grow f w j = snoc-elim s.ch v k m (λ l. sumL f (s.ch w j) ≤ sumL f l) w j (λ a b. omega (arith, sumL-app f (s.ch w j) (m ∷ []))) (λ n. omega arith)
+  pub sum-grows : (f : Msg → ℕ) (w j : ℕ) → sumL f (s.ch w j) ≤ sumL f (c′ w j)
+  sum-grows f w j = snoc-elim s.ch v k m (λ l. sumL f (s.ch w j) ≤ sumL f l) w j (λ a b. omega (arith, sumL-app f (s.ch w j) (m ∷ []))) (λ n. omega arith)
 
   far : (n w j : ℕ) → top n (c′ w j) ≡ top n (s.ch w j)
   far = snoc-top s.ch v k m (h.not-i)
@@ -191,14 +191,14 @@ module _ {p : Network} {s : ProtocolState} (i : Inv p s) {v y k : ℕ} {m : Msg}
   awake-ub j w u e n = by-eq v w (λ q z. edge-some p (h.ends) (sym ub-new ∙ ap ub′ q ∙ z)) (λ q z. i.sleepers.u1a j w u e (st-awake w q n) (sym (ub-off w q) ∙ z))
 
   -- ways of joined edges stay
-  pub wide : (a b : ℕ) → s.fr a ≡ s.fr b → Way p.g (JoinedEdge p mark′) a b
-  wide a b q = wider (λ j l x. both-up j (p.g.lo j) (p.g.hi j) x) (i.markings.m4 a b q)
+  pub ways-stay : (a b : ℕ) → s.fr a ≡ s.fr b → Way p.g (JoinedEdge p mark′) a b
+  ways-stay a b q = wider (λ j l x. both-up j (p.g.lo j) (p.g.hi j) x) (i.markings.m4 a b q)
 
   -- a Test: as e1w, with the new marks
-  pub asks : (j w u l f : ℕ) → Edge p j w u → In (test l f) (s.ch w j)
+  pub test-cases : (j w u l f : ℕ) → Edge p j w u → In (test l f) (s.ch w j)
       → (Waits s w j × (mark′ w j ≢ 2) × (mark′ w j ≡ 1 → mark′ u j ≡ 1))
       ⊎ (((s.te w ≢ j) ⊎ (s.ot ≡ suc w)) × (mark′ w j ≡ 2) × Waits s u j × (s.fr w ≡ s.fr u))
-  asks j w u l f e n = ⊎-elim
+  test-cases j w u l f e n = ⊎-elim
       (λ o. inl (o .0, λ z. o .1 (dn2-move w j z), λ z. up1-move u j (o .2 (sym (mark-wait j w u e (o .0)) ∙ z))))
       (λ o. inr (o .0, up2-move w j (o .1), o .2, o .3))
       (i.testing.e1w j w u l f e n)
@@ -234,8 +234,8 @@ module _ {p : Network} {s : ProtocolState} (i : Inv p s) {v y k : ℕ} {m : Msg}
   }
 
   -- a mark belongs to an own edge; beyond a Rejected one, inside, there is no Branch
-  pub own : (w j : ℕ) → mark′ w j ≢ 0 → (u : ℕ) × Edge p j w u
-  own w j = upd2-elim (λ x. x ≢ 0 → (u : ℕ) × Edge p j w u) s.mark v k 1 w j
+  pub marked-own : (w j : ℕ) → mark′ w j ≢ 0 → (u : ℕ) × Edge p j w u
+  marked-own w j = upd2-elim (λ x. x ≢ 0 → (u : ℕ) × Edge p j w u) s.mark v k 1 w j
       (λ a b n. (y, subst (λ x. Edge p x w y) b (subst (λ x. Edge p k x y) a (h.ends)))) (λ d n. i.markings.own w j n)
 
   pub beyond-move : (j w u : ℕ) → Edge p j w u → mark′ w j ≡ 2 → (s.fr w ≡ s.fr u) × (mark′ u j ≢ 1)
@@ -243,8 +243,8 @@ module _ {p : Network} {s : ProtocolState} (i : Inv p s) {v y k : ℕ} {m : Msg}
       (a .0, λ f. dn1-move u j f (λ q r. h.mark-y (at2 s.mark (far-end j u w (flip e) q r) r ∙ dn2-move w j z)) (a .1))
 
   -- a Connect: from a Branch
-  pub caller : (j w u l : ℕ) → Edge p j w u → In (connect l) (c′ w j) → mark′ w j ≡ 1
-  caller j w u l e n = ⊎-elim (λ o. up1-move w j (i.connects.c1m j w u l e o)) (λ o. sym (at2 mark′ (o .0) (o .1)) ∙ mark-new) (snoc-in s.ch v k m w j n)
+  pub caller-marked : (j w u l : ℕ) → Edge p j w u → In (connect l) (c′ w j) → mark′ w j ≡ 1
+  caller-marked j w u l e n = ⊎-elim (λ o. up1-move w j (i.connects.c1m j w u l e o)) (λ o. sym (at2 mark′ (o .0) (o .1)) ∙ mark-new) (snoc-in s.ch v k m w j n)
 
   -- who gets a Report by its in-branch is another
   pub spent-off : (j w u n : ℕ) → Edge p j w u → In (report n) (s.ch w j) → s.ib u ≡ j → v ≢ u

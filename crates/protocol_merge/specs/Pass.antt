@@ -125,7 +125,7 @@ module _ {p : Network} {s : ProtocolState} (i : Inv p s) {v y k d : ℕ} {m : Ms
     M.st-two i t h w (x .3),
     x .4,
     λ a f. ⊎-elim (λ g. x .5 a g) (λ z. z) (M.behind-move i t h w j u n a b f),
-    ⊎-elim (λ r. inl (r .0, M.call-same i t h w j u b ∙ r .1)) (λ r. inr (r .0, M.new i t h w j (r .1))) (x .6),
+    ⊎-elim (λ r. inl (r .0, M.call-same i t h w j u b ∙ r .1)) (λ r. inr (r .0, M.in-stays i t h w j (r .1))) (x .6),
   )
 
   spent : (j w u n : ℕ) → Edge p j w u → In (report n) (s.ch w j) → Spent p s w u j n → Spent p S′ w u j n
@@ -178,10 +178,10 @@ module _ {p : Network} {s : ProtocolState} (i : Inv p s) {v y k d : ℕ} {m : Ms
 
   markings′ : Markings p s.fr S′.mark
   markings′ = record {
-    own = M.own i t h;
+    own = M.marked-own i t h;
     m1 = M.beyond-move i t h;
     m3 = λ j w u e b. i.markings.m3 j w u e (joined-was j w u e b);
-    m4 = M.wide i t h;
+    m4 = M.ways-stay i t h;
     m5 = λ j w u e z. M.dn1-move i t h w j z (λ q r. subst (λ n. Tree p n) r (o.tree)) (λ f. i.markings.m5 j w u e f);
   }
 
@@ -286,19 +286,19 @@ module _ {p : Network} {s : ProtocolState} (i : Inv p s) {v y k d : ℕ} {m : Ms
   tokens′ = record {
     d1c = λ j z x e a. by-eq (s.fr v) (s.fr z)
         (λ q. let b = own-decision 3 z j q a in at-own (λ j z x. In (connect (GL s z)) (S′.ch z j)) j z x e (b .1) (b .2) (o.half-in (b .0)))
-        (λ n. M.new i t h z j (i.tokens.d1c j z x e (old-decision 3 z j n a)));
+        (λ n. M.in-stays i t h z j (i.tokens.d1c j z x e (old-decision 3 z j n a)));
     d1a = λ j z x e a. by-eq (s.fr v) (s.fr z)
         (λ q. let b = own-decision 3 z j q a in at-own (λ j z x. All (Only (GL s z)) (S′.ch z j)) j z x e (b .1) (b .2) (o.half-all (b .0)))
         (λ n. snoc-all s.ch v k m z j (λ q r. absurd (away z n q)) (i.tokens.d1a j z x e (old-decision 3 z j n a)));
     d2c = λ j u x e a. by-eq (s.fr v) (s.fr u)
         (λ q. let b = own-decision 2 u j q a in at-own (λ j u x. In change (S′.ch u j)) j u x e (b .1) (b .2) (o.changing-in (b .0)))
-        (λ n. M.new i t h u j (i.tokens.d2c j u x e (old-decision 2 u j n a)));
+        (λ n. M.in-stays i t h u j (i.tokens.d2c j u x e (old-decision 2 u j n a)));
     k1 = λ j u x e n. ⊎-elim (λ a. new-decision 2 u j (omega arith) (i.tokens.k1 j u x e a))
         (λ a. let q = ap s.fr (a .0) in (dk-in u q ∙ o.changing (sym (ap isK (a .2))), dn-in u q ∙ a .0, de-in u q ∙ a .1))
         (snoc-in s.ch v k m u j n);
     d3r = λ j a b e z. absurd (no-root a (z .0));
     d4h = λ j a b e g z l f n. i.tokens.d4h j a b e g (finished a z) l f (M.old-move i t h isR (h.not-r) (omega arith) b j n);
-    d4r = λ j a b e g z l f. M.new i t h b j (i.tokens.d4r j a b e g (finished a z) l f);
+    d4r = λ j a b e g z l f. M.in-stays i t h b j (i.tokens.d4r j a b e g (finished a z) l f);
     d7 = λ j a b e g z f r. let x = undecided a z in
         ⊎-elim (λ q. inl (omega (arith, M.same-move i t h isR (h.not-r) a j)))
         (λ q. inr (q .0, M.st-two i t h b (q .1), q .2, omega (arith, q .3, M.same-move i t h isR (h.not-r) b j)))
@@ -307,9 +307,9 @@ module _ {p : Network} {s : ProtocolState} (i : Inv p s) {v y k d : ℕ} {m : Ms
 
   connects′ : Connects p S′
   connects′ = record {
-    c1m = M.caller i t h;
+    c1m = M.caller-marked i t h;
     c1 = λ j w u l e n z. ⊎-elim (λ a. i.connects.c1 j w u l e a (joined-was j w u e (M.up1-move i t h w j (i.connects.c1m j w u l e a), z) .1))
-        (λ a. let b = joined-was j w u e (M.caller i t h j w u l e n, z) in
+        (λ a. let b = joined-was j w u e (M.caller-marked i t h j w u l e n, z) in
         absurd (⊎-elim (λ r. omega (arith, r .0, ap isC (a .2))) (λ r. omega (arith, b .0, at2 s.mark (a .0) (a .1))) (h.call)))
         (snoc-in s.ch v k m w j n);
   }
@@ -323,8 +323,8 @@ module _ {p : Network} {s : ProtocolState} (i : Inv p s) {v y k d : ℕ} {m : Ms
   telling′ : Telling p S′
   telling′ = record {
     u2 = λ j w c e b n. M.joined-top i t h j w c e (joined-was j w c e b) n;
-    t2i = λ j w c e b f n l. M.new i t h w j (i.telling.t2i j w c e (joined-was j w c e b) f n l);
-    t4 = λ j a c e b g. ⊎-elim (λ x. inl (omega (arith, M.grow i t h isC a j))) (⊎-elim (λ x. inr (inl (M.new i t h c j x))) (λ x. inr (inr x)))
+    t2i = λ j w c e b f n l. M.in-stays i t h w j (i.telling.t2i j w c e (joined-was j w c e b) f n l);
+    t4 = λ j a c e b g. ⊎-elim (λ x. inl (omega (arith, M.sum-grows i t h isC a j))) (⊎-elim (λ x. inr (inl (M.in-stays i t h c j x))) (λ x. inr (inr x)))
         (i.telling.t4 j a c e (joined-was j a c e b) g);
     t4n = λ j a c e b g n. let f = joined-was j a c e b in
         let x = i.telling.t4n j a c e f g (omega (arith, M.conn-same i t h a j c f)) in
@@ -334,7 +334,7 @@ module _ {p : Network} {s : ProtocolState} (i : Inv p s) {v y k d : ℕ} {m : Ms
   testing′ : Testing p S′
   testing′ = record {
     e1 = λ j w u l f e n. i.testing.e1 j w u l f e (M.old-move i t h isT (h.not-t) (omega arith) w j n);
-    e1w = λ j w u l f e n. M.asks i t h j w u l f e (M.old-move i t h isT (h.not-t) (omega arith) w j n);
+    e1w = λ j w u l f e n. M.test-cases i t h j w u l f e (M.old-move i t h isT (h.not-t) (omega arith) w j n);
     e2w = M.waits-two i t h;
     e2c = M.waits-one i t h;
     m6t = M.served-move i t h;

@@ -3,7 +3,7 @@ use Rattle.protocol.specs.Prelude.{ℕ, suc, arith, _≡_, refl, sym, ap, subst
 use Rattle.protocol.specs.Prelude.{upd, upd-id, upd2, upd2-elim, at2, Msg, change, Network, Edge, key, ends-two, ends-same, ends-irr, ProtocolState}
 use Rattle.protocol.specs.Prelude.{set-st, set-mark, set-ub, set-oo, sendOver, remarked, decided, isK, fits-change, In, in-new, in-sum, some-change}
 use Rattle.protocol.specs.Prelude.{Jn, Inf, Inv, inf-found, inf-awake}
-use Rattle.protocol_merge.specs.Turn.{Turn, root, root-ok, turn-root}
+use Rattle.protocol_merge.specs.Turn.{Turn, is-root, root-ok, turn-root}
 use Rattle.protocol_merge.specs.Move as M
 use Rattle.protocol_merge.specs.Move.{Move}
 use Rattle.protocol_merge.specs.Pass.{PassCase, inv-pass}
@@ -19,7 +19,7 @@ module _ {p : Network} {s : ProtocolState} (i : Inv p s) {v k c : ℕ} (ot : s.o
 
   -- no edge of the fragment is half
   joined : Jn s k v c
-  joined = (branch, by-eq (s.mark c k) 1 (λ e. e) (λ n. absurd (omega (arith, i.halves.m2 k v c ends branch n .0, root i oo .0))))
+  joined = (branch, by-eq (s.mark c k) 1 (λ e. e) (λ n. absurd (omega (arith, i.halves.m2 k v c ends branch n .0, is-root i oo .0))))
 
   -- k is not the best weight, which leaves the fragment
   inner : s.be v ≢ s.bw v
@@ -50,7 +50,7 @@ module _ {p : Network} {s : ProtocolState} (i : Inv p s) {v k c : ℕ} (ot : s.o
     mark-v = λ z. omega arith;
     mark-y = λ z. omega (arith, joined .1);
     rouse = λ z. absurd (inf-awake i c (child .1) z);
-    fits = λ n o. fits-change n (by-eq (isK n) 0 (λ z. z) (λ z. absurd (omega (arith, i.tokens.k1 k v c ends (token n z o) .0, root i oo .0))));
+    fits = λ n o. fits-change n (by-eq (isK n) 0 (λ z. z) (λ z. absurd (omega (arith, i.tokens.k1 k v c ends (token n z o) .0, is-root i oo .0))));
   }
     where
       token : (n : Msg) → isK n ≢ 0 → In n (s.ch v k) → In change (s.ch v k)

@@ -37,15 +37,15 @@ module _ {p : Network} {s : ProtocolState} (i : Inv p s) {v : ℕ} where
       }
 
   module _ (oo : s.oo ≡ suc v) where
-    pub root : Root s v
-    root = i.rootings.f5r v oo
+    pub is-root : Root s v
+    is-root = i.rootings.f5r v oo
 
     pub root-ok : RootOk p s.fr s.gl s.lev s.ib s.ub s.bw s.mark v
-    root-ok = i.rootings.d3 v root
+    root-ok = i.rootings.d3 v is-root
 
     -- who is in v's fragment is in a decided one
     root-dk : (w : ℕ) → s.fr w ≡ s.fr v → DK s w ≢ 0
-    root-dk w q d = omega (arith, ap s.dk q, root .0)
+    root-dk w q d = omega (arith, ap s.dk q, is-root .0)
 
     -- the node beyond v's in-branch is informed
     pub root-up : (j c : ℕ) → Edge p j v c → s.ib v ≡ j → Inf s c
@@ -57,8 +57,8 @@ module _ {p : Network} {s : ProtocolState} (i : Inv p s) {v : ℕ} where
     pub turn-root : Turn p s v
     turn-root = record {
       even = root-ok.d3i .1;
-      fresh = omega (arith, root .0);
-      alone = λ d. absurd (omega (arith, root .0));
+      fresh = omega (arith, is-root .0);
+      alone = λ d. absurd (omega (arith, is-root .0));
       roots = λ w d. sym (i.rootings.d3f w d) ∙ ap s.fr (omega (arith, i.rootings.d3o w d));
       no-find = λ w q. decided-find i w (root-dk w q);
       no-due = λ w q. i.finishes.d5 w (root-dk w q);
@@ -67,7 +67,7 @@ module _ {p : Network} {s : ProtocolState} (i : Inv p s) {v : ℕ} where
           let r : s.ib v ≡ j = sym (root-ok.d3u) ∙ q in
           let h = root-up j c e r in
           (root-ok.d3v j c e r, even j c e b h ∙ sym (top-none (s.lev c) (s.ch v j) (λ l f x. no-initiate i j v c l f x e h)));
-      no-report = λ j c n e q o. omega (arith, none-in isR (i.tokens.d3r j v c (flip e) root q) o);
+      no-report = λ j c n e q o. omega (arith, none-in isR (i.tokens.d3r j v c (flip e) is-root q) o);
     }
       where
         even : (j c : ℕ) → Edge p j v c → Jn s j v c → Inf s c → s.lev v ≡ s.lev c

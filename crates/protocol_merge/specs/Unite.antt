@@ -30,8 +30,8 @@ module _ {p : Network} {s : ProtocolState} {v k y l : ℕ} (r : MergeReady p s v
   pub sort {κ} : {C : Type κ} (w : ℕ) → (InEither w → C) → (Outside w → C) → C
   sort w f g = by-eq (s.fr w) (s.fr v) (λ q. f (inl q)) (λ n. by-eq (s.fr w) (s.fr y) (λ q. f (inr q)) (λ m. g (n, m)))
 
-  pub mv : Move p s v y k (connect l)
-  mv = leave-move (r.inv) (r.turn) (r.leave) l
+  pub move-merge : Move p s v y k (connect l)
+  move-merge = leave-move (r.inv) (r.turn) (r.leave) l
 
   -- ---- y's fragment before: half on k, of v's level
 
@@ -117,12 +117,12 @@ module _ {p : Network} {s : ProtocolState} {v k y l : ℕ} (r : MergeReady p s v
   out-v w o q = o .0 (ap s.fr (sym q))
 
   pub ub-out : (w : ℕ) → Outside w → S′.ub w ≡ s.ub w
-  ub-out w o = M.ub-off (r.inv) (r.turn) mv w (out-v w o)
+  ub-out w o = M.ub-off (r.inv) (r.turn) move-merge w (out-v w o)
 
   -- ---- who is outside
 
-  pub like : (w u : ℕ) → Outside w → s.fr u ≡ s.fr w → Outside u
-  like w u o q = (λ z. o .0 (sym q ∙ z), λ z. o .1 (sym q ∙ z))
+  pub outside-like : (w u : ℕ) → Outside w → s.fr u ≡ s.fr w → Outside u
+  outside-like w u o q = (λ z. o .0 (sym q ∙ z), λ z. o .1 (sym q ∙ z))
 
   pub inf-out-merge : (w : ℕ) → Inf S′ w → Outside w
   inf-out-merge w f = sort w (λ e. absurd (omega (arith, low-in w e, f .1))) (λ o. o)
@@ -159,13 +159,13 @@ module _ {p : Network} {s : ProtocolState} {v k y l : ℕ} (r : MergeReady p s v
   apart-merge w u o q = sort u (λ e. absurd (o .0 (sym (fr-out-merge w o) ∙ sym q ∙ fr-in-merge u e))) (λ n. sym (fr-out-merge u n) ∙ q ∙ fr-out-merge w o)
 
   pub bounds-merge : (n z : ℕ) → Outside z → Bounds p s n z → Bounds p S′ n z
-  bounds-merge n z o f u j w q e m = f u j w (apart-merge z u o q) e (M.dn0-move (r.inv) (r.turn) mv u j m)
+  bounds-merge n z o f u j w q e m = f u j w (apart-merge z u o q) e (M.dn0-move (r.inv) (r.turn) move-merge u j m)
 
   -- ---- joined edges: k, and those that were
 
   pub joined-merge {κ} : {C : Type κ} (j a b : ℕ) → Edge p j a b → Both S′.mark j a b → (v ≡ a → y ≡ b → k ≡ j → C) → (y ≡ a → v ≡ b → k ≡ j → C) → (Jn s j a b → C) → C
-  joined-merge j a b e x f g c = M.dn1-move (r.inv) (r.turn) mv a j (x .0) (λ q z. f q (M.far-end (r.inv) (r.turn) mv j a b e q z) z)
-      (λ m. M.dn1-move (r.inv) (r.turn) mv b j (x .1) (λ q z. g (M.far-end (r.inv) (r.turn) mv j b a (flip e) q z) q z) (λ n. c (m, n)))
+  joined-merge j a b e x f g c = M.dn1-move (r.inv) (r.turn) move-merge a j (x .0) (λ q z. f q (M.far-end (r.inv) (r.turn) move-merge j a b e q z) z)
+      (λ m. M.dn1-move (r.inv) (r.turn) move-merge b j (x .1) (λ q z. g (M.far-end (r.inv) (r.turn) move-merge j b a (flip e) q z) q z) (λ n. c (m, n)))
 
   -- what was joined is not k
   pub not-k : (j a b : ℕ) → Edge p j a b → Jn s j a b → k ≢ j
@@ -177,4 +177,4 @@ module _ {p : Network} {s : ProtocolState} {v k y l : ℕ} (r : MergeReady p s v
   joined-out j a b e o x = joined-merge j a b e x (λ q n z. absurd (o .0 (ap s.fr (sym q)))) (λ q n z. absurd (o .1 (ap s.fr (sym q)))) (λ f. f)
 
   pub beyond-merge : (j a b : ℕ) → Edge p j a b → Outside a → Jn s j a b → Outside b
-  beyond-merge j a b e o x = like a b o (sym (r.inv.markings.m3 j a b e x))
+  beyond-merge j a b e o x = outside-like a b o (sym (r.inv.markings.m3 j a b e x))

@@ -41,11 +41,11 @@ module _ {p : Network} {s : ProtocolState} (i : Inv p s) {v k u : ℕ} (ot : s.o
   jn : Jn s k v u
   jn = i.inbounds.u1i k v u ends ib
 
-  pub nj : Jn s k u v
-  nj = (jn .1, jn .0)
+  pub joined-back : Jn s k u v
+  joined-back = (jn .1, jn .0)
 
-  pub frs : s.fr v ≡ s.fr u
-  frs = i.markings.m3 k v u ends jn
+  pub fr-same : s.fr v ≡ s.fr u
+  fr-same = i.markings.m3 k v u ends jn
 
   -- the other end is informed, or the edge is the core
   beyond : GC s v ≢ k → Inf s u
@@ -58,9 +58,9 @@ module _ {p : Network} {s : ProtocolState} (i : Inv p s) {v k u : ℕ} (ot : s.o
     where
       at-core : (w : ℕ) → In (report w) (s.ch v k) → s.ib u ≡ k → GC s v ≡ k → ⊥
       at-core w h b g = inf-cases i u
-          (λ t. omega (arith, i.reports.r1c k v u w ends h t (sym (ap s.dk frs) ∙ undec) (sym (ap s.gc frs) ∙ g) .3, find))
-          (λ l. i.kids.t4u k u v (flip ends) nj (sym (ap s.gc frs) ∙ g) l .t4i b)
-          (λ z. omega (arith, ap s.gl frs, inf .0))
+          (λ t. omega (arith, i.reports.r1c k v u w ends h t (sym (ap s.dk fr-same) ∙ undec) (sym (ap s.gc fr-same) ∙ g) .3, find))
+          (λ l. i.kids.t4u k u v (flip ends) joined-back (sym (ap s.gc fr-same) ∙ g) l .t4i b)
+          (λ z. omega (arith, ap s.gl fr-same, inf .0))
 
   -- a node that owes v its Report would be counted
   pub no-owe : (j : ℕ) → j < p.g.L → s.owe v j ≡ 0
@@ -73,9 +73,9 @@ module _ {p : Network} {s : ProtocolState} (i : Inv p s) {v k u : ℕ} (ot : s.o
       omega (arith, no-owe j (joins-lt e), i.owing.f4n j v a (flip e) (t .5) (r .1, r .0) b (inl (t .0, inr (in-sum isR h))))
 
   -- v's parent searches
-  pub parent : GC s v ≢ k → s.st u ≡ 1
-  parent n =
-      let o = i.owing.f4n k u v (flip ends) (beyond n) nj (up-other i k v u ends inf ib n) (inl (inf, inl find)) in
+  pub parent-finds : GC s v ≢ k → s.st u ≡ 1
+  parent-finds n =
+      let o = i.owing.f4n k u v (flip ends) (beyond n) joined-back (up-other i k v u ends inf ib n) (inl (inf, inl find)) in
       fc-find i u (λ z. omega (arith, le-sum p.g.L k (s.owe u) (joins-lt ends), i.findCounts.f4 u))
 
   -- ---- tables
@@ -204,7 +204,7 @@ module _ {p : Network} {s : ProtocolState} (i : Inv p s) {v k u : ℕ} (ot : s.o
   }
     where
       frs-at : (j x y : ℕ) → Edge p j x y → v ≡ y → k ≡ j → s.fr v ≡ s.fr x
-      frs-at j x y e q r = frs ∙ ap s.fr (other-end ends (flip e) q r)
+      frs-at j x y e q r = fr-same ∙ ap s.fr (other-end ends (flip e) q r)
 
   connects′ : Connects p S′
   connects′ = let o = connects-same p s c′ (λ w j l n. old isC refl (omega arith) w j n) i.connects in record { c1m = o.c1m; c1 = o.c1 }
@@ -245,7 +245,7 @@ module _ {p : Network} {s : ProtocolState} (i : Inv p s) {v k u : ℕ} (ot : s.o
 
   -- v's own: to a parent that searches,
   to-parent : GC s v ≢ k → Child S′ v u k (s.bw v)
-  to-parent n = (inf, ib, n, upd-same s.st v 2, refl, beyond n, stay u v≢u ∙ parent n, calls (beyond n))
+  to-parent n = (inf, ib, n, upd-same s.st v 2, refl, beyond n, stay u v≢u ∙ parent-finds n, calls (beyond n))
 
   -- or between the core ends
   to-core : GC s v ≡ k → CoreEnds S′ v u k (s.bw v)
@@ -256,17 +256,17 @@ module _ {p : Network} {s : ProtocolState} (i : Inv p s) {v k u : ℕ} (ot : s.o
     upd-same s.st v 2,
     refl,
     λ n b. ⊎-elim (λ o. absurd (omega (arith, none-in isR own-rep (bef-before o)))) (λ t. subst (λ x. isCI x ≡ 0) (sym (t .2)) refl) (snoc-bef s.ch v k m v k b),
-    inf-cases i u (λ h. inl (h, calls h)) (λ l. inr (l, in-snoc2 s.ch v k m v k (init l))) (λ z. absurd (omega (arith, ap s.gl frs, inf .0))),
+    inf-cases i u (λ h. inl (h, calls h)) (λ l. inr (l, in-snoc2 s.ch v k m v k (init l))) (λ z. absurd (omega (arith, ap s.gl fr-same, inf .0))),
   )
     where
       gu : GC s u ≡ k
-      gu = sym (ap s.gc frs) ∙ g
+      gu = sym (ap s.gc fr-same) ∙ g
 
       init : s.lev u < GL s u → In (initiate (GL s u) k 1) (s.ch v k)
       init l = ⊎-elim
           (λ t. let c = some-connect (s.ch u k) t in let r = i.connects.c1 k u v (c .0) (flip ends) (c .1) (jn .0) in
-          absurd (omega (arith, r .1, r .2, inf .1, ap s.gl frs)))
-          (⊎-elim (λ t. t) (λ t. absurd (omega (arith, t .1)))) (i.telling.t4 k u v (flip ends) nj gu)
+          absurd (omega (arith, r .1, r .2, inf .1, ap s.gl fr-same)))
+          (⊎-elim (λ t. t) (λ t. absurd (omega (arith, t .1)))) (i.telling.t4 k u v (flip ends) joined-back gu)
 
   at-new : (C : ℕ → ℕ → ℕ → ℕ → Type 0) (j a b w : ℕ) → Edge p j a b → v ≡ a → k ≡ j → report w ≡ m → C v u k (s.bw v) → C a b j w
   at-new C j a b w e q r h c =
@@ -293,7 +293,7 @@ module _ {p : Network} {s : ProtocolState} (i : Inv p s) {v k u : ℕ} (ot : s.o
   }
     where
       at-core : (j a b : ℕ) → Edge p j a b → v ≡ a → k ≡ j → GC s b ≡ j → GC s v ≡ k
-      at-core j a b e q r g = ap s.gc (frs ∙ ap s.fr (other-end ends e q r)) ∙ g ∙ sym r
+      at-core j a b e q r g = ap s.gc (fr-same ∙ ap s.fr (other-end ends e q r)) ∙ g ∙ sym r
 
       old-one : (j a b w : ℕ) → Edge p j a b → In (report w) (s.ch a j) → Child s a b j w ⊎ (CoreEnds s a b j w ⊎ Spent p s a b j w)
           → Child S′ a b j w ⊎ (CoreEnds S′ a b j w ⊎ Spent p S′ a b j w)

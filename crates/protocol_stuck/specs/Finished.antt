@@ -1,11 +1,11 @@
 -- THE STUCK LEMMA: in a stuck state the fragment of every awake node is finished (`awake-finished`), is its whole part of the graph (`part`), and no message
 -- waits (`nothing`).
 use Rattle.protocol.specs.Prelude.{ℕ, _≤_, _<_, arith, _≡_, refl, sym, ap, _∙_, _≢_, _⊎_, inl, inr, ⊎-elim, by-eq, strong}
-use Rattle.protocol.specs.Prelude.{Msg, connect, initiate, test, accept, reject, report, change, Network, Edge, rank, Way, stop, go, up, down, flip, join, hop, wider, ProtocolState}
+use Rattle.protocol.specs.Prelude.{Msg, connect, initiate, test, accept, reject, report, change, Network, Edge, rank, Way, stop, go, up, down, flip, way-append, edge-way, wider, ProtocolState}
 use Rattle.protocol.specs.Prelude.{In, Blocked, GL, DK, Inv, waits-find}
 use native.Mathlib.Decide.{ℕ-discrete}
 use Rattle.base.specs.laws.Search.{least, Least}
-use Rattle.graph.specs.laws.Ways.{Any, back}
+use Rattle.graph.specs.laws.Ways.{Any, way-reverse}
 use Rattle.protocol_stuck.specs.Informed.{Stuck, no-changing, no-rooting, all-inf}
 use Rattle.protocol_stuck.specs.Waiting.{lower, half-meets, half-earlier}
 
@@ -35,7 +35,7 @@ module _ {p : Network} {s : ProtocolState} (i : Inv p s) (t : Stuck p s) where
   mates v w q = wider (λ e l h. tt) (i.markings.m4 v w q)
 
   far : {v w : ℕ} → Way p.g Any v w → Goal w → Goal v
-  far a g = (g .0, join a (g .1), g .2, g .3)
+  far a g = (g .0, way-append a (g .1), g .2, g .3)
 
   -- an awake single node is half or finished
   single : (v : ℕ) → s.st v ≢ 0 → GL s v ≡ 0 → DK s v ≢ 0
@@ -51,7 +51,7 @@ module _ {p : Network} {s : ProtocolState} (i : Inv p s) (t : Stuck p s) where
       let d : DK s v ≡ 0 = zero-of (DK s v) (i.ranges.dk-le (s.fr v)) n4 n3 (no-changing i t v) (no-rooting i t v) in
       let g : 1 ≤ GL s v = by-eq (GL s v) 0 (λ z. absurd (single v a z d)) (λ n. omega arith) in
       let r = lower i t v d (all-inf i t v g) in
-      far (join (mates v (r .0) (sym (r .3))) (hop (r .4) tt)) (low (r .2) (r .5) (omega (arith, r .6, ap s.gl (r .3))))))
+      far (way-append (mates v (r .0) (sym (r .3))) (edge-way (r .4) tt)) (low (r .2) (r .5) (omega (arith, r .6, ap s.gl (r .3))))))
     where
       zero-of : (x : ℕ) → x ≤ 4 → x ≢ 4 → x ≢ 3 → x ≢ 2 → x ≢ 1 → x ≡ 0
       zero-of x l a b c d = omega arith
@@ -70,7 +70,7 @@ module _ {p : Network} {s : ProtocolState} (i : Inv p s) (t : Stuck p s) where
               → (v : ℕ) → GL s v ≡ g → DK s v ≡ 3 → rank p (s.de (s.fr v)) ≡ r → Goal v
           by-rank r ir v q d e =
               let m = half-meets i t v d in
-              far (join (mates v (m.z) (sym (m.mate))) (hop (m.ends) tt))
+              far (way-append (mates v (m.z) (sym (m.mate))) (edge-way (m.ends) tt))
               (settle (m.y) (m.wakes) (lower-ones (m.y) (m.alike ∙ q)) (λ h. ir (rank p (s.de (s.fr (m.y)))) (omega (arith, half-earlier i t v m h)) (m.y) (m.alike ∙ q) h refl))
 
           halves : (r v : ℕ) → GL s v ≡ g → DK s v ≡ 3 → rank p (s.de (s.fr v)) ≡ r → Goal v
@@ -88,7 +88,7 @@ module _ {p : Network} {s : ProtocolState} (i : Inv p s) (t : Stuck p s) where
 
   -- THE FRAGMENT OF EVERY AWAKE NODE IS FINISHED
   pub awake-finished : (v : ℕ) → s.st v ≢ 0 → DK s v ≡ 4
-  awake-finished v a = let r = reach (GL s v) v refl a in ap s.dk (sym (closed (back (r .1)) (r .3))) ∙ r .3
+  awake-finished v a = let r = reach (GL s v) v refl a in ap s.dk (sym (closed (way-reverse (r .1)) (r .3))) ∙ r .3
 
   -- AND IS ITS WHOLE PART, all of it awake
   pub part : (v w : ℕ) → s.st v ≢ 0 → Way p.g Any v w → s.fr v ≡ s.fr w
@@ -105,7 +105,7 @@ module _ {p : Network} {s : ProtocolState} (i : Inv p s) (t : Stuck p s) where
       not-find w a f = omega (arith, awake-finished w a, i.finds.f1 w f .f1k)
 
       awake-u : s.st v ≢ 0 → s.st u ≢ 0
-      awake-u a = part-awake v u a (hop (flip e) tt)
+      awake-u a = part-awake v u a (edge-way (flip e) tt)
 
       which : (m : Msg) → In m (s.ch u k) → s.st v ≢ 0 → Blocked s v k m → ⊥
       which (connect l) n a b = i.finishes.d4 k v u (flip e) (awake-finished v a) (b .1)

@@ -3,7 +3,7 @@ use Rattle.protocol.specs.Prelude.{ℕ, _≤_, _<_, arith, _≡_, refl, sym, ap
 use Rattle.protocol.specs.Prelude.{Network, Edge, Tree, up, down, flip, wider, Way, ProtocolState, setupState, Idle, GL, GC, In, first, in-nil, Inv}
 use Rattle.protocol.specs.Prelude.{sleep-lev, sleep-id, sleep-te, sleep-fc, sleep-halt, sleep-ib}
 use mathlib.Core.Logic.{_↔_}
-use Rattle.graph.specs.laws.Ways.{Any, back}
+use Rattle.graph.specs.laws.Ways.{Any, way-reverse}
 use Rattle.protocol_stuck.specs.Informed.{Stuck}
 use Rattle.protocol_stuck.specs.Finished.{edge?, part, part-awake, nothing}
 use Rattle.protocol_stuck.specs.Rest.{leaves, tree-branch, other-rejected, level-pos, core-tree, core-halted, halted-core, lone-halted}
@@ -94,7 +94,7 @@ module _ {p : Network} {s : ProtocolState} (i : Inv p s) (t : Stuck p s) (w : �
 
     -- each of the part has an edge
     has-edge : (v : ℕ) → SamePart p w v → (k : ℕ) × (u : ℕ) × Edge p k v u
-    has-edge v y = by-eq v w (λ e. (j, x, subst (λ z. Edge p j z x) (sym e) f)) (λ n. leaves (back y) n)
+    has-edge v y = by-eq v w (λ e. (j, x, subst (λ z. Edge p j z x) (sym e) f)) (λ n. leaves (way-reverse y) n)
 
     end-of : {v y : ℕ} → Edge p core v y → (v ≡ p.g.lo core) ⊎ (v ≡ p.g.hi core)
     end-of (up l e f) = inl (sym e)
@@ -146,7 +146,7 @@ empty (x ∷ l) n = absurd (n x first)
 pub stuck-finished : {p : Network} {s : ProtocolState} → Inv p s → Stuck p s → AllFinished p s
 stuck-finished {p} {s} i t = record {
   silent = λ k a b e. empty (s.ch a k) (λ m. nothing i t k a b m e);
-  awake = λ v u y a. part-finished i t v (part-awake i t u v a (back y));
+  awake = λ v u y a. part-finished i t v (part-awake i t u v a (way-reverse y));
   asleep = part-asleep i;
 }
 

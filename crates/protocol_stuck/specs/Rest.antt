@@ -1,9 +1,9 @@
 -- At rest: the branches are the tree (`tree-branch`), the other edges are Rejected at both ends (`other-rejected`), and just the core ends have halted
 -- (`core-halted`, `halted-core`). For each part with an awake node.
 use Rattle.protocol.specs.Prelude.{ℕ, _≤_, arith, _≡_, refl, sym, ap, subst, _∙_, _≢_, _⊎_, inl, inr, ⊎-elim, by-eq}
-use Rattle.protocol.specs.Prelude.{none, report, Network, Edge, Tree, Graph, Joins, joins-lt, up, flip, hop, Way, stop, go, ProtocolState, GL, GC, Jn, JoinedEdge, Inv, joined-both}
+use Rattle.protocol.specs.Prelude.{none, report, Network, Edge, Tree, Graph, Joins, joins-lt, up, flip, edge-way, Way, stop, go, ProtocolState, GL, GC, Jn, JoinedEdge, Inv, joined-both}
 use Rattle.graph.specs.laws.Cycle.{needed}
-use Rattle.graph.specs.laws.Ways.{against}
+use Rattle.graph.specs.laws.Ways.{way-low-high}
 use Rattle.protocol_stuck.specs.Informed.{Stuck}
 use Rattle.protocol_stuck.specs.Finished.{awake-finished, part-awake, nothing}
 
@@ -17,7 +17,7 @@ module _ {p : Network} {s : ProtocolState} (i : Inv p s) (t : Stuck p s) where
   pub joined-or-rejected : (k v u : ℕ) → Edge p k v u → s.st v ≢ 0 → Jn s k v u ⊎ ((s.mark v k ≡ 2) × (s.mark u k ≡ 2))
   joined-or-rejected k v u e a =
       let d = awake-finished i t v a in
-      let f = awake-finished i t u (part-awake i t v u a (hop e tt)) in
+      let f = awake-finished i t u (part-awake i t v u a (edge-way e tt)) in
       by-eq (s.mark v k) 1
       (λ b. by-eq (s.mark u k) 1 (λ c. inl (b, c)) (λ c. absurd (omega (arith, i.halves.m2 k v u e b c .0))))
       (λ b.
@@ -27,7 +27,7 @@ module _ {p : Network} {s : ProtocolState} (i : Inv p s) (t : Stuck p s) where
   -- a Rejected edge is not in the tree: joined edges, all in the tree, connect its ends
   pub not-tree : (k v u : ℕ) → Edge p k v u → s.mark v k ≡ 2 → ¬ Tree p k
   not-tree k v u e m h =
-      let j = needed p.g p.order k (joins-lt e) h (JoinedEdge p s.mark) (λ f l o. i.markings.m5 f (p.g.lo f) (p.g.hi f) (up l refl refl) (o .0)) (against e (i.markings.m4 v u (i.markings.m1 k v u e m .0))) in
+      let j = needed p.g p.order k (joins-lt e) h (JoinedEdge p s.mark) (λ f l o. i.markings.m5 f (p.g.lo f) (p.g.hi f) (up l refl refl) (o .0)) (way-low-high e (i.markings.m4 v u (i.markings.m1 k v u e m .0))) in
       omega (arith, joined-both p s.mark e j .0)
 
   -- so both ends of a tree edge say branch, of another rejected

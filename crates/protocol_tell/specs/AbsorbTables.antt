@@ -2,7 +2,7 @@
 use Rattle.protocol.specs.Prelude.{ℕ, _+_, _^_, _≤_, _<_, arith, _≡_, refl, sym, ap, subst, _∙_, _≢_, inl, inr, ⊎-elim}
 use Rattle.protocol.specs.Prelude.{List, upd-elim, upd2-elim, by-eq, sum, size-mono}
 use Rattle.protocol.specs.Prelude.{Msg, none}
-use Rattle.protocol.specs.Prelude.{Network, Edge, Tree, key, rank, joins-lt, flip, other-end, end-lt, same-edge, Way, join, hop, wider, ProtocolState, absorbed, pop}
+use Rattle.protocol.specs.Prelude.{Network, Edge, Tree, key, rank, joins-lt, flip, other-end, end-lt, same-edge, Way, way-append, edge-way, wider, ProtocolState, absorbed, pop}
 use Rattle.protocol.specs.Prelude.{bulk-elim, sum-row, row-else, both-joined}
 use Rattle.protocol.specs.Prelude.{at2}
 use Rattle.protocol.specs.Prelude.{Both, JoinedEdge, members, GL, Inv}
@@ -89,8 +89,8 @@ module _ {p : Network} {s : ProtocolState} (i : Inv p s) {u v k l x : ℕ} {r : 
         (λ n o. F.fr-keep i act w y (i.markings.m3 j w y e o));
     m4 = λ a b e. F.fr-cases i act a b e
         (λ y. wide (i.markings.m4 a b y))
-        (λ y y′. join (wide (i.markings.m4 a u y)) (join (hop act.ends (both-joined p S′.mark act.ends (F.joined-absorb i act .1, F.joined-absorb i act .0))) (wide (i.markings.m4 v b (sym y′)))))
-        (λ y y′. join (wide (i.markings.m4 a v y)) (join (hop (flip act.ends) (both-joined p S′.mark (flip act.ends) (F.joined-absorb i act))) (wide (i.markings.m4 u b (sym y′)))));
+        (λ y y′. way-append (wide (i.markings.m4 a u y)) (way-append (edge-way act.ends (both-joined p S′.mark act.ends (F.joined-absorb i act .1, F.joined-absorb i act .0))) (wide (i.markings.m4 v b (sym y′)))))
+        (λ y y′. way-append (wide (i.markings.m4 a v y)) (way-append (edge-way (flip act.ends) (both-joined p S′.mark (flip act.ends) (F.joined-absorb i act))) (wide (i.markings.m4 u b (sym y′)))));
     m5 = λ j w y e. upd2-elim (λ z. z ≡ 1 → Tree p j) s.mark v k 1 w j
         (λ a b h. subst (λ z. Tree p z) b (i.markings.m5 k u v act.ends (F.mark-u i act))) (λ n h. i.markings.m5 j w y e h);
   }

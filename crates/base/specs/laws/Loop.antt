@@ -1,5 +1,5 @@
 -- Laws of `loop` and `runs`, for any state and any turns: one more turn, refused or not (`loop-suc`, `runs-suc`), what all turns keep (`loop-keeps`,
--- `runs-keep`) and tell (`loop-tells`, `runs-tell`), how a run ends (`rests`, `goes`, `breaks`, `limit`).
+-- `runs-keep`) and tell (`loop-tells`, `runs-tell`), how a run ends (`runs-rest`, `runs-taken`, `runs-refused`, `runs-done`).
 use Prim.Native.Nat.{ℕ, zero, suc, _+_, _≤_, _<_}
 use native.Mathlib.Nat.{not-suc-le-zero}
 use native.Mathlib.Numerals.{add-one}
@@ -51,18 +51,18 @@ module _ {S : Type 0} where
     next = ap (λ a. then a (g k)) d ∙ then-on (takenTo y) (g k) refl ∙ sym e
 
     -- it is taken
-    pub on : z .refusal ≡ 0 → loop (k + 1) g x ≡ takenTo (z .state)
-    on h = ap (λ n. loop n g x) (add-one k) ∙ loop-suc k g x ∙ next ∙ is z h
+    pub loop-taken : z .refusal ≡ 0 → loop (k + 1) g x ≡ takenTo (z .state)
+    loop-taken h = ap (λ n. loop n g x) (add-one k) ∙ loop-suc k g x ∙ next ∙ is z h
       where
         is : (a : After S) → a .refusal ≡ 0 → a ≡ takenTo (a .state)
         is a q = ap (λ r. record { refusal = r; state = a .state }) q
 
     -- it is refused
-    pub off : (n : ℕ) → k < n → z .refusal ≢ 0 → loop n g x ≡ z
-    off zero l h = absurd (not-suc-le-zero l)
-    off (suc n) l h = loop-suc n g x ∙ lt-suc-cases k n l
+    pub loop-refused : (n : ℕ) → k < n → z .refusal ≢ 0 → loop n g x ≡ z
+    loop-refused zero l h = absurd (not-suc-le-zero l)
+    loop-refused (suc n) l h = loop-suc n g x ∙ lt-suc-cases k n l
         (λ q. ap (λ i. then (loop i g x) (g i)) (sym q) ∙ next)
-        (λ lt. ap (λ a. then a (g n)) (off n lt h) ∙ then-off z (g n) h)
+        (λ lt. ap (λ a. then a (g n)) (loop-refused n lt h) ∙ then-off z (g n) h)
 
   -- what every turn keeps, refused or not
   pub loop-keeps : (P : S → Type 0) (n : ℕ) (g : ℕ → S → After S) (x : S) → P x → ((k : ℕ) (y : S) → k < n → P y → P (g k y .state)) → P (loop n g x .state)
@@ -141,26 +141,26 @@ module _ {S : Type 0} (rest : S → Bool) (g : ℕ → S → After S) where
   -- For code: k turns are done and left y.
   module _ (k : ℕ) (x y : S) (d : runs rest k g x ≡ went k y) where
     -- it rests there
-    pub rests : (n : ℕ) → k ≤ n → rest y ≡ true → runs rest n g x ≡ went k y
-    rests zero l h = ap (λ i. runs rest i g x) (omega arith) ∙ d
-    rests (suc n) l h = by-eq k (suc n) (λ e. ap (λ i. runs rest i g x) (sym e) ∙ d)
-        (λ f. let i = rests n (omega arith) h in runs-suc n x ∙ rw (i, h) refl)
+    pub runs-rest : (n : ℕ) → k ≤ n → rest y ≡ true → runs rest n g x ≡ went k y
+    runs-rest zero l h = ap (λ i. runs rest i g x) (omega arith) ∙ d
+    runs-rest (suc n) l h = by-eq k (suc n) (λ e. ap (λ i. runs rest i g x) (sym e) ∙ d)
+        (λ f. let i = runs-rest n (omega arith) h in runs-suc n x ∙ rw (i, h) refl)
 
     module _ (z : After S) (e : z ≡ g k y) (more : rest y ≡ false) where
       turned : runs rest (suc k) g x ≡ countedTurn k z
       turned = runs-suc k x ∙ rw (d, more) (ap (countedTurn k) (sym e))
 
       -- turn z is taken
-      pub goes : z .refusal ≡ 0 → runs rest (k + 1) g x ≡ went (k + 1) (z .state)
-      goes h = ap (λ i. runs rest i g x) (add-one k) ∙ turned ∙ rw (h, add-one k) refl
+      pub runs-taken : z .refusal ≡ 0 → runs rest (k + 1) g x ≡ went (k + 1) (z .state)
+      runs-taken h = ap (λ i. runs rest i g x) (add-one k) ∙ turned ∙ rw (h, add-one k) refl
 
       -- turn z is refused
-      pub breaks : (n : ℕ) → k < n → z .refusal ≢ 0 → runs rest n g x ≡ record { done = k; refusal = z .refusal; state = z .state }
-      breaks zero l h = absurd (not-suc-le-zero l)
-      breaks (suc n) l h = lt-suc-cases k n l
+      pub runs-refused : (n : ℕ) → k < n → z .refusal ≢ 0 → runs rest n g x ≡ record { done = k; refusal = z .refusal; state = z .state }
+      runs-refused zero l h = absurd (not-suc-le-zero l)
+      runs-refused (suc n) l h = lt-suc-cases k n l
           (λ q. ap (λ i. runs rest (suc i) g x) (sym q) ∙ turned ∙ rw (eqb-diff (z .refusal) 0 h) refl)
-          (λ lt. let i = breaks n lt h in runs-suc n x ∙ rw (i, eqb-diff (z .refusal) 0 h) refl)
+          (λ lt. let i = runs-refused n lt h in runs-suc n x ∙ rw (i, eqb-diff (z .refusal) 0 h) refl)
 
   -- no turn is left
-  pub limit : (n k : ℕ) (x y : S) → runs rest k g x ≡ went k y → n ≤ k → k ≤ n → runs rest n g x ≡ went k y
-  limit n k x y d l r = ap (λ i. runs rest i g x) (omega arith) ∙ d
+  pub runs-done : (n k : ℕ) (x y : S) → runs rest k g x ≡ went k y → n ≤ k → k ≤ n → runs rest n g x ≡ went k y
+  runs-done n k x y d l r = ap (λ i. runs rest i g x) (omega arith) ∙ d

@@ -1,4 +1,4 @@
--- Not refused means that no test applies (`fine`, `fine-first`); what a call that answers leaves, refused or taken (`answers-`).
+-- Not refused means that no test applies (`orElse-zero`, `firstRefusal-zero`); what a call that answers leaves, refused or taken (`answers-`).
 use Prim.Native.Nat.{ℕ, suc}
 use native.Mathlib.Omega.{arith}
 use mathlib.Core.Path.{_≡_, refl}
@@ -9,15 +9,15 @@ use Rattle.base.specs.Loop.{takenTo, refusedBy, answering}
 use Rattle.base.specs.Refuse.{orElse, firstRefusal}
 
 -- no refusal: the test says no, and nor does what follows
-pub fine : (b : Bool) (n : ℕ) {r : ℕ} → orElse b (suc n) r ≡ 0 → (b ≡ false) × (r ≡ 0)
-fine true n e = absurd (omega arith)
-fine false n e = (refl, e)
+pub orElse-zero : (b : Bool) (n : ℕ) {r : ℕ} → orElse b (suc n) r ≡ 0 → (b ≡ false) × (r ≡ 0)
+orElse-zero true n e = absurd (omega arith)
+orElse-zero false n e = (refl, e)
 
-pub fine-first : (r : ℕ) {s : ℕ} → firstRefusal r s ≡ 0 → (r ≡ 0) × (s ≡ 0)
-fine-first r {s} = eqb-cases r 0 (λ b. cond b s r ≡ 0 → (r ≡ 0) × (s ≡ 0)) (λ e h. (e, h)) (λ d h. absurd (d h))
+pub firstRefusal-zero : (r : ℕ) {s : ℕ} → firstRefusal r s ≡ 0 → (r ≡ 0) × (s ≡ 0)
+firstRefusal-zero r {s} = eqb-cases r 0 (λ b. cond b s r ≡ 0 → (r ≡ 0) × (s ≡ 0)) (λ e h. (e, h)) (λ d h. absurd (d h))
 
-pub first-fine : {r s : ℕ} → r ≡ 0 → s ≡ 0 → firstRefusal r s ≡ 0
-first-fine {r} {s} e f = rw e f
+pub zero-firstRefusal : {r s : ℕ} → r ≡ 0 → s ≡ 0 → firstRefusal r s ≡ 0
+zero-firstRefusal {r} {s} e f = rw e f
 
 -- neither of two tests
 pub or-false : (a b : Bool) → (a || b) ≡ false → (a ≡ false) × (b ≡ false)

@@ -13,7 +13,7 @@ returns : tie.Need-returns
 returns c =
     let e = c .before in
     let m = e .before in
-    serving-41 _ _ _ _ (m .before .before .args .b) _ (m .before .before .pre) (leb-true _ _ (sym (m .no-module .ensures) ∙ e .if1 .taken)) (c .refused .ensures)
+    serving-41 _ _ _ _ (m .before .before .args .b) _ (m .before .before .pre) (leb-true _ _ (sym (m .no-module .ensures) ∙ e .if1 .taken)) (c .refused-by .ensures)
 
 slice-aggregate-first-in-queue : tie.Need-slice-aggregate-first-in-queue
 slice-aggregate-first-in-queue c = let s = c .before .before .before .before in sym (length-take-le (s .args .b .waiting) (s .args .lent .now) (s .pre .laid .within))
@@ -27,7 +27,7 @@ returns-2 c =
     let q = t .before in
     let e = q .before .before in
     let m = e .before in
-    serving-45 _ _ _ _ (m .before .before .args .b) _ (m .before .before .pre) (leb-false _ _ (sym (m .no-module .ensures) ∙ e .if1 .left)) _ (q .first-in-queue .ensures) (t .if2 .taken) (c .refused2 .ensures)
+    serving-45 _ _ _ _ (m .before .before .args .b) _ (m .before .before .pre) (leb-false _ _ (sym (m .no-module .ensures) ∙ e .if1 .left)) _ (q .first-in-queue .ensures) (t .if2 .taken) (c .refused-by2 .ensures)
 
 response-requires : tie.Need-response-requires
 response-requires c κs =

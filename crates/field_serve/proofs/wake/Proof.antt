@@ -11,7 +11,7 @@ returns : tie.Need-returns
 returns c =
     let e = c .before in
     let m = e .before in
-    waking-41 _ _ _ _ (m .before .before .args .b) _ (m .before .before .pre) (leb-true _ _ (sym (m .no-module .ensures) ∙ e .if1 .taken)) (c .refused .ensures)
+    waking-41 _ _ _ _ (m .before .before .args .b) _ (m .before .before .pre) (leb-true _ _ (sym (m .no-module .ensures) ∙ e .if1 .taken)) (c .refused-by .ensures)
 
 load-requires : tie.Need-load-requires
 load-requires c κs =
@@ -25,10 +25,10 @@ returns-2 c =
     let o = t .before .before in
     let e = o .before .before in
     let m = e .before in
-    waking-43 _ _ _ _ (m .before .before .args .b) _ (m .before .before .pre) (leb-false _ _ (sym (m .no-module .ensures) ∙ e .if1 .left)) _ (o .load .ensures) (t .if2 .taken) (c .refused2 .ensures)
+    waking-43 _ _ _ _ (m .before .before .args .b) _ (m .before .before .pre) (leb-false _ _ (sym (m .no-module .ensures) ∙ e .if1 .left)) _ (o .load .ensures) (t .if2 .taken) (c .refused-by2 .ensures)
 
-wakeup-requires : tie.Need-wakeup-requires
-wakeup-requires c κs = c .before .before .before .before .before .before .before .before .pre .plan .linksOk
+wakes-requires : tie.Need-wakes-requires
+wakes-requires c κs = c .before .before .before .before .before .before .before .before .pre .plan .linksOk
 
 carry-out-requires : tie.Need-carry-out-requires
 carry-out-requires c κs =
@@ -37,7 +37,7 @@ carry-out-requires c κs =
     let o = t .before .before in
     let e = o .before .before in
     let m = e .before in
-    waking-feasible _ _ _ _ (m .before .before .args .b) _ (m .before .before .pre) (leb-false _ _ (sym (m .no-module .ensures) ∙ e .if1 .left)) _ (o .load .ensures) (t .if2 .left) _ (w .wakeup .ensures .1) (w .wakeup .ensures .0)
+    waking-feasible _ _ _ _ (m .before .before .args .b) _ (m .before .before .pre) (leb-false _ _ (sym (m .no-module .ensures) ∙ e .if1 .left)) _ (o .load .ensures) (t .if2 .left) _ (w .wakes .ensures .1) (w .wakes .ensures .0)
 
 returns-3 : tie.Need-returns-3
 returns-3 c =
@@ -47,7 +47,7 @@ returns-3 c =
     let o = t .before .before in
     let e = o .before .before in
     let m = e .before in
-    waking _ _ _ _ (m .before .before .args .b) _ (m .before .before .pre) (leb-false _ _ (sym (m .no-module .ensures) ∙ e .if1 .left)) _ (o .load .ensures) (t .if2 .left) _ (w .wakeup .ensures .1) (w .wakeup .ensures .0)
+    waking _ _ _ _ (m .before .before .args .b) _ (m .before .before .pre) (leb-false _ _ (sym (m .no-module .ensures) ∙ e .if1 .left)) _ (o .load .ensures) (t .if2 .left) _ (w .wakes .ensures .1) (w .wakes .ensures .0)
     (d .carry-out .ensures) (search needs)
 
 pub wake-spec : {M : Type 1} → statement M
@@ -60,7 +60,7 @@ wake-spec =
     load-requires
     (λ c κs. search needs)
     returns-2
-    wakeup-requires
+    wakes-requires
     carry-out-requires
     (λ c. search needs)
     returns-3)

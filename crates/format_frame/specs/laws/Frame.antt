@@ -7,7 +7,7 @@ use mathlib.Core.Bool.{true, false, and-eq-true-iff}
 use lib.ListN.{length, getD, set}
 use lib.Dec.{eqb}
 use borrow.Author.Tests.{eq-eqb, ne-eqb, eqb-true, not-false}
-use Rattle.base.specs.laws.Refuse.{fine}
+use Rattle.base.specs.laws.Refuse.{orElse-zero}
 use Rattle.format_int16.specs.Int16.{at16}
 use Rattle.format_message.specs.Listed.{listed}
 use Rattle.format_frame.specs.Frame.{frameBytes, frameRefusal, frameRead, frameWriteRefusal, frameWritten}
@@ -48,9 +48,9 @@ pub record FrameOk (s : List ℕ) : Type 0 where
 pub frame-ok : (s : List ℕ) → frameRefusal s ≡ 0 → FrameOk s
 unfolding frameRefusal
 frame-ok s e =
-    let f61 = fine _ 60 e in
-    let f62 = fine _ 61 (f61 .1) in
-    let f63 = fine _ 62 (f62 .1) in
+    let f61 = orElse-zero _ 60 e in
+    let f62 = orElse-zero _ 61 (f61 .1) in
+    let f63 = orElse-zero _ 62 (f62 .1) in
     let both = and-eq-true-iff (eqb (getD s 0 0) 1) (eqb (at16 s 1) 3) .0 (not-false _ (f62 .0)) in
     record {
       size = eqb-true _ _ (not-false _ (f61 .0));

@@ -6,10 +6,11 @@ use mathlib.Core.Path.{_≡_, sym, ap, _∙_}
 use mathlib.Core.List.{List}
 use lib.ListN.{length, take, length-take}
 use lib.Seq.{take-all}
+use Rattle.base.specs.Limits.{AllBytes}
 use Rattle.format_text.specs.declared.Intake.{Intake}
 use Rattle.format_text.specs.Put.{page, put}
 use Rattle.format_text.specs.laws.Put.{whole-text}
-use Rattle.format_text.specs.Input.{roomOf, countOf, AllBytes, OfInput}
+use Rattle.format_text.specs.Input.{roomOf, countOf, OfInput}
 
 -- n bytes are enough: what comes behind them makes no difference
 abbrev pub Enough : (List ℕ → List ℕ) → ℕ → Type 0

@@ -10,7 +10,7 @@ use Rattle.base.specs.laws.Test.{every-all, all-every, decides, decided-yes, ye
 use Rattle.base.specs.laws.Search.{lt-suc-cases}
 use Rattle.graph.specs.Graph.{Graph, up, Way}
 use Rattle.graph.specs.Order.{Earlier, InTree}
-use Rattle.graph.specs.laws.Ways.{Any, join, back, wider}
+use Rattle.graph.specs.laws.Ways.{Any, way-append, way-reverse, wider}
 use Rattle.graph.specs.Labels.{rename}
 use Rattle.graph.specs.laws.Labels.{Labels, With, labels-way, labels-same, labels-add, labels-none}
 use Rattle.graph.specs.Decide.{Set, label, joinedOver, inTree, Connected, connected}
@@ -77,7 +77,7 @@ inTree? g earlier e = dec-test (inTree g earlier e) (inTree-tree g earlier e) (t
 
 pub connected-ways : (g : Graph) (n : ℕ) → connected g n ≡ true → Connected g n
 unfolding connected
-connected-ways g n h u v lu lv = join (back (from u lu)) (from v lv)
+connected-ways g n h u v lu lv = way-append (way-reverse (from u lu)) (from v lv)
   where
     from : (w : ℕ) → w < n → Way g Any 0 w
     from w l = wider (λ e le t. tt) (joined-way g (λ e. true) 0 w (every-all n (λ x. joinedOver g (λ e. true) 0 x) h w l))

@@ -5,7 +5,7 @@ use mathlib.Core.Logic.{_≢_, _⊎_, inl, inr}
 use mathlib.Core.Bool.{cond}
 use Rattle.base.specs.laws.Cond.{eqb-cases}
 use Rattle.graph.specs.Graph.{Graph, Joins, Way, stop, go}
-use Rattle.graph.specs.laws.Ways.{join, hop, back, wider, here, joins-lt, ends-alike}
+use Rattle.graph.specs.laws.Ways.{way-append, edge-way, way-reverse, wider, here, joins-lt, ends-alike}
 use Rattle.graph.specs.Labels.{rename}
 
 -- fr labels the nodes of D by the parts that the edges of S make
@@ -49,12 +49,12 @@ module _ {g : Graph} {D S : ℕ → Type 0} {fr : ℕ → ℕ} where
       old {u} {v} du dv e = wider (λ f lf s. inl s) (l.sound u v du dv e)
 
       over : {u v : ℕ} → D u → D v → fr u ≡ fr a → fr v ≡ fr b → Way g (With S m) u v
-      over du dv p q = join (old du da p) (join (hop j (inr refl)) (old db dv (sym q)))
+      over du dv p q = way-append (old du da p) (way-append (edge-way j (inr refl)) (old db dv (sym q)))
 
       sound : (u v : ℕ) → D u → D v → rename (fr a) (fr b) (fr u) ≡ rename (fr a) (fr b) (fr v) → Way g (With S m) u v
       sound u v du dv = rename-elim (λ x. x ≡ rename (fr a) (fr b) (fr v) → Way g (With S m) u v) (fr a) (fr b) (fr u)
           (λ p. rename-elim (λ y. fr b ≡ y → Way g (With S m) u v) (fr a) (fr b) (fr v) (λ q e. old du dv (p ∙ sym q)) (λ q e. over du dv p (sym e)))
-          (λ p. rename-elim (λ y. fr u ≡ y → Way g (With S m) u v) (fr a) (fr b) (fr v) (λ q e. back (over dv du q e)) (λ q e. old du dv e))
+          (λ p. rename-elim (λ y. fr u ≡ y → Way g (With S m) u v) (fr a) (fr b) (fr v) (λ q e. way-reverse (over dv du q e)) (λ q e. old du dv e))
 
       both : rename (fr a) (fr b) (fr a) ≡ rename (fr a) (fr b) (fr b)
       both = rename-from (fr a) (fr b) ∙ sym (rename-to (fr a) (fr b))

@@ -12,7 +12,7 @@ use Rattle.base.specs.laws.Sum.{sum-le, sum-change}
 use Rattle.base.specs.laws.Search.{least, Least, lt-suc-cases}
 use Rattle.graph.specs.Graph.{Graph, Joins, up, Way}
 use Rattle.graph.specs.Order.{Order}
-use Rattle.graph.specs.laws.Ways.{But, Uses, uses-wider, around, split, hop, wider, through, along, joins-lt}
+use Rattle.graph.specs.laws.Ways.{But, Uses, uses-wider, around, split, edge-way, wider, through, way-as-met, joins-lt}
 use Rattle.graph.specs.laws.Rank.{rankIn, rankIn-inj, rank-bound, rank-earlier, tree-rank}
 use Rattle.graph.specs.Decide.{Set, inTree}
 use Rattle.graph.specs.laws.Decide.{inTree-tree, tree-inTree}
@@ -82,8 +82,8 @@ swap-spans g s f m lm x sp e u v j = through edge (sp e u v j)
   where
     edge : (k a b : ℕ) → Joins g k a b → s k ≡ true → Way g (Set (swap s f m)) a b
     edge k a b i t = by-eq f k
-        (λ q. along (subst (λ y. Joins g y a b) (sym q) i) (around x lm (upd-same (upd s f false) m true) (λ y l z. swap-keeps s f m y (z .0) (z .1))))
-        (λ d. hop i (swap-keeps s f m k t d))
+        (λ q. way-as-met (subst (λ y. Joins g y a b) (sym q) i) (around x lm (upd-same (upd s f false) m true) (λ y l z. swap-keeps s f m y (z .0) (z .1))))
+        (λ d. edge-way i (swap-keeps s f m k t d))
 
 module _ (g : Graph) (o : Order (g.L)) (cost : ℕ → ℕ) (mono : (a b : ℕ) → o.earlier a b ≡ true → cost a ≤ cost b) where
   -- s has the tree edges of rank below r
@@ -155,7 +155,7 @@ module _ (g : Graph) (o : Order (g.L)) (cost : ℕ → ℕ) (mono : (a b : ℕ) 
   -- any set that joins all nodes, for edges between nodes below n
   pub tree-least-all : (n : ℕ) → ((e : ℕ) → e < g.L → (g.lo e < n) × (g.hi e < n))
       → (s : ℕ → Bool) → ((u v : ℕ) → u < n → v < n → Way g (Set s) u v) → totalCost g cost (inTree g (o.earlier)) ≤ totalCost g cost s
-  tree-least-all n ends s all = tree-least s (λ e u v j. along j (let p = ends e (joins-lt j) in all (g.lo e) (g.hi e) (p .0) (p .1)))
+  tree-least-all n ends s all = tree-least s (λ e u v j. way-as-met j (let p = ends e (joins-lt j) in all (g.lo e) (g.hi e) (p .0) (p .1)))
 
 -- the tree is such a set itself
 pub tree-spanning : (g : Graph) (o : Order (g.L)) → Spanning g (inTree g (o.earlier))

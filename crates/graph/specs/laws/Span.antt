@@ -7,7 +7,7 @@ use mathlib.Core.Bool.{true}
 use Rattle.base.specs.laws.Search.{by-measure}
 use Rattle.graph.specs.Graph.{Graph, Joins, Way}
 use Rattle.graph.specs.Order.{Order, Earlier, InTree}
-use Rattle.graph.specs.laws.Ways.{hop, wider, through, along, joins-lt}
+use Rattle.graph.specs.laws.Ways.{edge-way, wider, through, way-as-met, joins-lt}
 use Rattle.graph.specs.laws.Rank.{rankIn, rankIn-lt}
 use Rattle.graph.specs.laws.Decide.{way-or-tree}
 
@@ -26,8 +26,8 @@ module _ (g : Graph) (o : Order (g.L)) where
           lift f a b k h = let l = rankIn-lt o f e (joins-lt k) h in wider (λ x lx t. (t .0, omega (arith, t .1))) (before f l a b k)
 
           cases : Way g (Earlier (o.earlier) e) (g.lo e) (g.hi e) ⊎ InTree g (o.earlier) e → Way g (TreeTo (rankIn o e)) u v
-          cases (inl w) = along j (through lift w)
-          cases (inr t) = hop j (t, omega arith)
+          cases (inl w) = way-as-met j (through lift w)
+          cases (inr t) = edge-way j (t, omega arith)
 
   -- a way over tree edges only
   pub spans : {S : ℕ → Type 0} {u v : ℕ} → Way g S u v → Way g (InTree g (o.earlier)) u v

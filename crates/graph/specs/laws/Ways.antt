@@ -1,4 +1,4 @@
--- Ways joined (`join`), turned round (`back`) and widened (`wider`, `through`); where a way leaves a set of nodes (`cross`); ways without one edge
+-- Ways joined (`way-append`), turned round (`way-reverse`) and widened (`wider`, `through`); where a way leaves a set of nodes (`cross`); ways without one edge
 -- (`split`, `around`).
 use Prim.Native.Nat.{ℕ, _<_}
 use mathlib.Core.Path.{_≡_, refl, sym, ap, subst, _∙_}
@@ -75,38 +75,38 @@ module _ {g : Graph} where
 
   -- WAYS
 
-  pub join : {S : ℕ → Type 0} {u v w : ℕ} → Way g S u v → Way g S v w → Way g S u w
-  join stop y = y
-  join (go e j s x) y = go e j s (join x y)
+  pub way-append : {S : ℕ → Type 0} {u v w : ℕ} → Way g S u v → Way g S v w → Way g S u w
+  way-append stop y = y
+  way-append (go e j s x) y = go e j s (way-append x y)
 
   -- one edge
-  pub hop : {S : ℕ → Type 0} {e u v : ℕ} → Joins g e u v → S e → Way g S u v
-  hop {e} j s = go e j s stop
+  pub edge-way : {S : ℕ → Type 0} {e u v : ℕ} → Joins g e u v → S e → Way g S u v
+  edge-way {e} j s = go e j s stop
 
-  pub back : {S : ℕ → Type 0} {u v : ℕ} → Way g S u v → Way g S v u
-  back stop = stop
-  back (go e j s w) = join (back w) (hop (flip j) s)
+  pub way-reverse : {S : ℕ → Type 0} {u v : ℕ} → Way g S u v → Way g S v u
+  way-reverse stop = stop
+  way-reverse (go e j s w) = way-append (way-reverse w) (edge-way (flip j) s)
 
   -- each edge replaced by a way
   pub through : {S T : ℕ → Type 0} {u v : ℕ} → ((e a b : ℕ) → Joins g e a b → S e → Way g T a b) → Way g S u v → Way g T u v
   through f stop = stop
-  through f (go {u} {v} e j s w) = join (f e u v j s) (through f w)
+  through f (go {u} {v} e j s w) = way-append (f e u v j s) (through f w)
 
   -- more edges
   pub wider : {S T : ℕ → Type 0} {u v : ℕ} → ((e : ℕ) → e < g.L → S e → T e) → Way g S u v → Way g T u v
-  wider f w = through (λ e a b j s. hop j (f e (joins-lt j) s)) w
+  wider f w = through (λ e a b j s. edge-way j (f e (joins-lt j) s)) w
 
   pub here : {S : ℕ → Type 0} {u v : ℕ} → u ≡ v → Way g S u v
   here {S} {u} e = subst (λ x. Way g S u x) e stop
 
   -- between the ends of an edge, in the order in which it is met
-  pub along : {S : ℕ → Type 0} {e u v : ℕ} → Joins g e u v → Way g S (g.lo e) (g.hi e) → Way g S u v
-  along (up l p q) w = join (here (sym p)) (join w (here q))
-  along (down l p q) w = join (here (sym p)) (join (back w) (here q))
+  pub way-as-met : {S : ℕ → Type 0} {e u v : ℕ} → Joins g e u v → Way g S (g.lo e) (g.hi e) → Way g S u v
+  way-as-met (up l p q) w = way-append (here (sym p)) (way-append w (here q))
+  way-as-met (down l p q) w = way-append (here (sym p)) (way-append (way-reverse w) (here q))
 
-  pub against : {S : ℕ → Type 0} {e u v : ℕ} → Joins g e u v → Way g S u v → Way g S (g.lo e) (g.hi e)
-  against (up l p q) w = join (here p) (join w (here (sym q)))
-  against (down l p q) w = join (here q) (join (back w) (here (sym p)))
+  pub way-low-high : {S : ℕ → Type 0} {e u v : ℕ} → Joins g e u v → Way g S u v → Way g S (g.lo e) (g.hi e)
+  way-low-high (up l p q) w = way-append (here p) (way-append w (here (sym q)))
+  way-low-high (down l p q) w = way-append (here q) (way-append (way-reverse w) (here (sym p)))
 
   -- LEAVING A SET
 
@@ -131,8 +131,8 @@ module _ {g : Graph} where
       use-first jm sm x = record { from = u; to = v; joins = jm; used = sm; before = stop; after = x }
 
       meet : Joins g m u v → S m → (x : Uses g S m v t) → ((u ≡ x.from) × (v ≡ x.to)) ⊎ ((u ≡ x.to) × (v ≡ x.from)) → Way g (But S m) u t ⊎ Uses g S m u t
-      meet jm sm x (inl p) = inr (use-first jm sm (join (here (p .1)) (x.after)))
-      meet jm sm x (inr p) = inl (join (here (p .0)) (x.after))
+      meet jm sm x (inl p) = inr (use-first jm sm (way-append (here (p .1)) (x.after)))
+      meet jm sm x (inr p) = inl (way-append (here (p .0)) (x.after))
 
       at : Joins g m u v → S m → Way g (But S m) v t ⊎ Uses g S m v t → Way g (But S m) u t ⊎ Uses g S m u t
       at jm sm (inl x) = inr (use-first jm sm x)
@@ -140,7 +140,7 @@ module _ {g : Graph} where
 
   -- a way between the ends of k uses m once: then k and the rest of that way join the ends of m
   pub around : {S T : ℕ → Type 0} {m k : ℕ} → Uses g S m (g.lo k) (g.hi k) → k < g.L → T k → ((e : ℕ) → e < g.L → But S m e → T e) → Way g T (g.lo m) (g.hi m)
-  around x l t f = against (x.joins) (join (back (wider f (x.before))) (join (hop (up l refl refl) t) (back (wider f (x.after)))))
+  around x l t f = way-low-high (x.joins) (way-append (way-reverse (wider f (x.before))) (way-append (edge-way (up l refl refl) t) (way-reverse (wider f (x.after)))))
 
   pub uses-wider : {S T : ℕ → Type 0} {m u v : ℕ} → ((e : ℕ) → e < g.L → S e → T e) → Uses g S m u v → Uses g T m u v
   uses-wider {m} f x = record {

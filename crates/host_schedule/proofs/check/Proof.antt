@@ -1,29 +1,29 @@
--- host_schedule::check: one law for each return: `short`, `version`, `wrong-length`, `uneven`, `of-kinds`.
+-- host_schedule::check: one law for each return: `short-is-51`, `version-is-52`, `wrong-length-is-53`, `uneven-is-53`, `of-kinds`.
 use Prim.Native.Nat.{ℕ, _+_, _/_, _%_}
 use mathlib.Core.Path.{sym, ap, _∙_}
 use borrow.Author.Needs.{needs}
-use Rattle.host_schedule.specs.laws.Kinds.{kindsFrom, short, version, wrong-length, uneven, of-kinds}
+use Rattle.host_schedule.specs.laws.Kinds.{kindsFrom, short-is-51, version-is-52, wrong-length-is-53, uneven-is-53, of-kinds}
 use Rattle.host_schedule.proofs.check.Statement.{statement}
 use Rattle.host_schedule.proofs.check.Tie as tie
 
 returns : tie.Need-returns
-returns c = short _ (c .if1 .taken)
+returns c = short-is-51 _ (c .if1 .taken)
 
 returns-2 : tie.Need-returns-2
-returns-2 c = version _ (c .before .before .if1 .left) (c .if2 .taken)
+returns-2 c = version-is-52 _ (c .before .before .if1 .left) (c .if2 .taken)
 
 returns-3 : tie.Need-returns-3
 returns-3 c =
     let a = c .before in
     let e2 = a .before in
-    wrong-length _ (e2 .before .before .if1 .left) (e2 .if2 .left) (λ z. c .if3 .taken (ap (λ (x : ℕ). x + 3) (a .at .ensures) ∙ z))
+    wrong-length-is-53 _ (e2 .before .before .if1 .left) (e2 .if2 .left) (λ z. c .if3 .taken (ap (λ (x : ℕ). x + 3) (a .at .ensures) ∙ z))
 
 returns-4 : tie.Need-returns-4
 returns-4 c =
     let e3 = c .before in
     let a = e3 .before in
     let e2 = a .before in
-    uneven _ (e2 .before .before .if1 .left) (e2 .if2 .left) (sym (ap (λ (x : ℕ). x + 3) (a .at .ensures)) ∙ e3 .if3 .left)
+    uneven-is-53 _ (e2 .before .before .if1 .left) (e2 .if2 .left) (sym (ap (λ (x : ℕ). x + 3) (a .at .ensures)) ∙ e3 .if3 .left)
     (λ z. c .if4 .taken (ap (λ (x : ℕ). x % 3) (a .at .ensures) ∙ z))
 
 returns-5 : tie.Need-returns-5

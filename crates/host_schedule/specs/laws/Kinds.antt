@@ -1,4 +1,4 @@
--- The last test of a schedule (`kinds-bad`, `kinds-fine`), and the outcomes of the whole check (`short`, `version`, `wrong-length`, `uneven`, `of-kinds`);
+-- The last test of a schedule (`kinds-bad`, `kinds-fine`), and the outcomes of the whole check (`short-is-51`, `version-is-52`, `wrong-length-is-53`, `uneven-is-53`, `of-kinds`);
 -- how long a schedule is that is taken (`taken-size`).
 use Prim.Native.Nat.{ℕ, _+_, _*_, _/_, _%_, _≤_, _<_}
 use native.Mathlib.Nat.{div-add-mod'}
@@ -32,24 +32,24 @@ module _ (s : List ℕ) (n : ℕ) where
   kinds-fine h = rw (all-every n (λ i. kindListed (kindOf s i)) h) refl
 
 module _ (s : List ℕ) where
-  pub short : length s < 3 → 51 ≡ scheduleRefusal s
+  pub short-is-51 : length s < 3 → 51 ≡ scheduleRefusal s
   unfolding scheduleRefusal
-  short h = simp (lt-ltb _ _ h)
+  short-is-51 h = simp (lt-ltb _ _ h)
 
   module _ (long : 3 ≤ length s) where
-    pub version : getD s 0 0 ≢ 1 → 52 ≡ scheduleRefusal s
+    pub version-is-52 : getD s 0 0 ≢ 1 → 52 ≡ scheduleRefusal s
     unfolding scheduleRefusal
-    version h = simp (le-ltb _ _ long, ne-eqb _ _ h)
+    version-is-52 h = simp (le-ltb _ _ long, ne-eqb _ _ h)
 
     module _ (one : getD s 0 0 ≡ 1) where
-      pub wrong-length : at16 s 1 + 3 ≢ length s → 53 ≡ scheduleRefusal s
+      pub wrong-length-is-53 : at16 s 1 + 3 ≢ length s → 53 ≡ scheduleRefusal s
       unfolding scheduleRefusal
-      wrong-length h = simp (le-ltb _ _ long, eq-eqb _ _ one, ne-eqb _ _ h)
+      wrong-length-is-53 h = simp (le-ltb _ _ long, eq-eqb _ _ one, ne-eqb _ _ h)
 
       module _ (fits : at16 s 1 + 3 ≡ length s) where
-        pub uneven : at16 s 1 % 3 ≢ 0 → 53 ≡ scheduleRefusal s
+        pub uneven-is-53 : at16 s 1 % 3 ≢ 0 → 53 ≡ scheduleRefusal s
         unfolding scheduleRefusal
-        uneven h = simp (le-ltb _ _ long, eq-eqb _ _ one, eq-eqb _ _ fits, ne-eqb _ _ h)
+        uneven-is-53 h = simp (le-ltb _ _ long, eq-eqb _ _ one, eq-eqb _ _ fits, ne-eqb _ _ h)
 
         pub of-kinds : at16 s 1 % 3 ≡ 0 → kindsFrom s (at16 s 1 / 3) ≡ scheduleRefusal s
         unfolding scheduleRefusal kindsFrom

@@ -7,12 +7,12 @@ use Rattle.host_setup.proofs.setup.Statement.{statement}
 use Rattle.host_setup.proofs.setup.Tie as tie
 
 returns : tie.Need-returns
-returns c = setup-bad _ _ _ (c .before .before .check .ensures) _ (c .before .if1 .taken) (c .refused .ensures)
+returns c = setup-bad _ _ _ (c .before .before .check .ensures) _ (c .before .if1 .taken) (c .refused-by .ensures)
 
 returns-2 : tie.Need-returns-2
 returns-2 c =
     let m = c .before .before in
-    setup-few _ _ _ (m .before .before .check .ensures) _ (m .before .if1 .left) (omega (arith, m .ceiling-of .ensures, c .before .if2 .taken)) (c .refused2 .ensures)
+    setup-few _ _ _ (m .before .before .check .ensures) _ (m .before .if1 .left) (omega (arith, m .ceiling-of .ensures, c .before .if2 .taken)) (c .refused-by2 .ensures)
 
 returns-3 : tie.Need-returns-3
 returns-3 c =

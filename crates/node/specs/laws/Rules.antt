@@ -130,7 +130,7 @@ module _ (o : Own) (c : ℕ) (w : Work) where
   seek-tests h = simp (le-ltb _ _ h)
 
 module _ (o : Own) (l f find j : ℕ) (w : Work) where
-  pub initiate-find : find ≡ 1 → onInitiate o l f find j w ≡ seek o (w .node .count + number o (branches j w) (o.edges)) (told o l f find j w)
+  pub initiate-find : find ≡ 1 → onInitiate o l f find j w ≡ seek o (w .node .count + number o (branches j (w .mark)) (o.edges)) (told o l f find j w)
   unfolding onInitiate
   initiate-find h = simp (eq-eqb _ _ h)
 

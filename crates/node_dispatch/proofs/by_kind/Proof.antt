@@ -16,7 +16,7 @@ returns c = told-as (c .refuse .ensures _ _) (as-deaf _ _ _ _ _ _ _ _ (sym (c .b
 on-test-requires : tie.Need-on-test-requires
 on-test-requires c κs =
     let p = c .before .before .before .before .pre in
-    (p .0 .small, p .0 .mine, c .wakened2 .ensures .1, c .wakened2 .ensures .2, listed-level _ _ _ (rw (c .before .match .keys3) at (p .0 .message)))
+    (p .0 .small, p .0 .mine, c .awake2 .ensures .1, c .awake2 .ensures .2, listed-level _ _ _ (rw (c .before .match .keys3) at (p .0 .message)))
 
 on-accept-requires : tie.Need-on-accept-requires
 on-accept-requires c κs =
@@ -29,7 +29,7 @@ on-report-requires c κs =
     (p .0 .small, p .1 .edge, p .1 .second, p .0 .best, listed-weight _ _ _ (rw (c .match .keys6) at (p .0 .message)), p .0 .weight)
 
 returns-2 : tie.Need-returns-2
-returns-2 c = told-as (does-then (c .on-connect .ensures _) (c .before .wakened .ensures .0 _ _)) (as-connect _ _ _ _ _ _ _ _ (c .before .before .match .keys1))
+returns-2 c = told-as (does-then (c .on-connect .ensures _) (c .before .awake .ensures .0 _ _)) (as-connect _ _ _ _ _ _ _ _ (c .before .before .match .keys1))
 
 returns-3 : tie.Need-returns-3
 returns-3 c =
@@ -37,7 +37,7 @@ returns-3 c =
     rw (msg-initiate _ _ _ _ k) (told-as (c .on-initiate .ensures) (as-initiate _ _ _ _ _ _ _ (hears _ _ 2 refl refl k (sym (c .before .before .before .deaf .ensures) ∙ c .before .before .if1 .left))))
 
 returns-4 : tie.Need-returns-4
-returns-4 c = told-as (does-then (c .on-test .ensures _) (c .before .wakened2 .ensures .0 _ _)) (as-test _ _ _ _ _ _ _ _ (c .before .before .match .keys3))
+returns-4 c = told-as (does-then (c .on-test .ensures _) (c .before .awake2 .ensures .0 _ _)) (as-test _ _ _ _ _ _ _ _ (c .before .before .match .keys3))
 
 returns-5 : tie.Need-returns-5
 returns-5 c =

@@ -24,7 +24,7 @@ returns-2 : tie.Need-returns-2
 returns-2 c =
     let t = c .before in
     let e = t .before .before in
-    λ cs. told-as (c .back .ensures _ cs)
+    λ cs. told-as (c .put-back .ensures _ cs)
     (sym (connect-waits _ _ _ _ _ (e .if1 .left) (sym (t .before .mark-of .ensures (e .before .before .before .pre .1)) ∙ t .if2 .taken)))
 
 core-end-requires : tie.Need-core-end-requires

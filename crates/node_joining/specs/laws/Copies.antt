@@ -3,13 +3,13 @@ use Prim.Native.Nat.{ℕ, _+_, _<_, _≤_}
 use native.Mathlib.Omega.{arith}
 use mathlib.Core.Path.{_≡_, sym, ap, _∙_}
 use mathlib.Core.Logic.{_≢_}
-use mathlib.Core.Bool.{not, cond, _&&_}
+use mathlib.Core.Bool.{cond}
 use mathlib.Core.List.{List}
 use lib.Dec.{eqb}
 use borrow.Author.Tests.{eq-eqb, ne-eqb}
 use Rattle.format_message.specs.Msg.{Msg, none, initiate}
 use Rattle.node.specs.declared.Node.{Node}
-use Rattle.node.specs.Work.{Own, Send, BRANCH, FIND, FOUND, onEach, number, branches, degree, refused, withNode, setCount}
+use Rattle.node.specs.Work.{Own, Send, FIND, FOUND, onEach, number, branches, degree, refused, withNode, setCount}
 use Rattle.node.specs.Rules.{told, seek, doTest, onInitiate}
 use Rattle.node.specs.laws.Rules.{initiate-find, seek-refused, seek-tests}
 use Rattle.node_edges.specs.laws.Own.{marked-none}
@@ -19,7 +19,7 @@ use Rattle.node_response.specs.laws.Response.{does-then, told-as, tells-all, se
 
 -- "for all i ≠ j such that SE(i) = Branch": the message on each, by rising edge number
 abbrev pub copiesIn : Own → ℕ → Msg → (ℕ → ℕ) → List Send
-copiesIn o j msg m = onEach o (λ k. not (eqb k j) && eqb (m k) BRANCH) msg (o.edges)
+copiesIn o j msg m = onEach o (branches j m) msg (o.edges)
 
 abbrev pub informedAs : ℕ → ℕ → ℕ → ℕ → Node → Node
 informedAs status l f j n =
@@ -27,7 +27,7 @@ informedAs status l f j n =
 
 module _ (o : Own) (m : ℕ → ℕ) (a : Response) (clean : a .edge ≡ none) where
   -- the count of the branches
-  pub count-branches : (cs : List Send) (j k : ℕ) → number o (branches j (workOf m cs a)) k ≡ number o (λ i. not (eqb i j) && eqb (m i) BRANCH) k
+  pub count-branches : (cs : List Send) (j k : ℕ) → number o (branches j (workOf m cs a .mark)) k ≡ number o (branches j m) k
   count-branches cs j k = rw (marked-none m (a .edge) (a .mark) 0 clean)
 
   module _ (l f find j : ℕ) (c : a .copies ≡ 0) (x : a .first .edge ≡ none) (y : a .second .edge ≡ none) where
@@ -50,8 +50,8 @@ module _ (o : Own) (m : ℕ → ℕ) (a : Response) (clean : a .edge ≡ none) w
 
 -- find-count with the branches, as they were counted: n branches, d own edges, s in all
 module _ (o : Own) (m : ℕ → ℕ) (cs : List Send) (a : Response) (l f find j n d s : ℕ)
-    (clean : a .edge ≡ none) (h : find ≡ 1) (en : n ≡ number o (λ k. not (eqb k j) && eqb (m k) BRANCH) (o.edges)) (ed : d ≡ degree o) (es : s ≡ a .node .count + n) where
-  total : s ≡ a .node .count + number o (branches j (workOf m cs a)) (o.edges)
+    (clean : a .edge ≡ none) (h : find ≡ 1) (en : n ≡ number o (branches j m) (o.edges)) (ed : d ≡ degree o) (es : s ≡ a .node .count + n) where
+  total : s ≡ a .node .count + number o (branches j (workOf m cs a .mark)) (o.edges)
   total = omega (arith, es, en, count-branches o m a clean cs j (o.edges))
 
   pub initiate-refused : d < s → onInitiate o l f find j (workOf m cs a) ≡ refused (told o l f find j (workOf m cs a))

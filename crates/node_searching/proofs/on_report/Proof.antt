@@ -10,7 +10,7 @@ returns : tie.Need-returns
 returns c = λ cs. told-as (c .child-report .ensures _ _ cs) (sym (report-child _ _ _ _ (c .before .if1 .taken)))
 
 returns-2 : tie.Need-returns-2
-returns-2 c = λ cs. told-as (c .back .ensures _ cs) (sym (report-waits _ _ _ _ (c .before .before .before .if1 .left) (c .before .if2 .taken)))
+returns-2 c = λ cs. told-as (c .put-back .ensures _ cs) (sym (report-waits _ _ _ _ (c .before .before .before .if1 .left) (c .before .if2 .taken)))
 
 returns-3 : tie.Need-returns-3
 returns-3 c = λ cs. told-as (c .core-report .ensures cs) (sym (report-core _ _ _ _ (c .before .before .before .if1 .left) (c .before .if2 .left)))

@@ -11,7 +11,7 @@ use Rattle.node_searching.proofs.on_test.Statement.{statement}
 use Rattle.node_searching.proofs.on_test.Tie as tie
 
 returns : tie.Need-returns
-returns c = λ cs. told-as (c .back .ensures _ cs) (sym (test-waits _ _ _ _ _ (c .before .if1 .taken)))
+returns c = λ cs. told-as (c .put-back .ensures _ cs) (sym (test-waits _ _ _ _ _ (c .before .if1 .taken)))
 
 returns-2 : tie.Need-returns-2
 returns-2 c =

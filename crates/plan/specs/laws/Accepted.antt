@@ -7,7 +7,7 @@ use mathlib.Core.Bool.{Bool, true}
 use borrow.Author.Tests.{ltb-false, leb-false, le-ltb, lt-leb, eqb-false, ne-eqb, not-false}
 use Rattle.base.specs.laws.Cond.{by-eq}
 use Rattle.base.specs.Limits.{maxModules, maxLinks, maxReading}
-use Rattle.base.specs.laws.Refuse.{fine, fine-first, first-fine, or-false}
+use Rattle.base.specs.laws.Refuse.{orElse-zero, firstRefusal-zero, zero-firstRefusal, or-false}
 use Rattle.graph.specs.Decide.{Connected}
 use Rattle.graph.specs.laws.Decide.{connected-ways, ways-connected}
 use Rattle.plan.specs.Links.{Plan, modulesOf, linksOf, lowerOf, higherOf, nearOf, farOf, graphOf}
@@ -36,8 +36,8 @@ pub record Counts (n l : ℕ) : Type 0 where
 
 pub counted : (n l : ℕ) (fits : Bool) → countsRefusal n l fits ≡ 0 → Counts n l × (fits ≡ true)
 counted n l fits h =
-    let f14 = fine _ 13 h in
-    let f15 = fine _ 14 (f14 .1) in
+    let f14 = orElse-zero _ 13 h in
+    let f15 = orElse-zero _ 14 (f14 .1) in
     let a = or-false _ _ (f14 .0) in
     let b = or-false _ _ (f15 .0) in
     (record { someone = nonzero (eqb-false n 0 (a .0)); modulesOk = ltb-false _ _ (a .1); linksOk = ltb-false _ _ (b .0) }, not-false _ (b .1))
@@ -55,9 +55,9 @@ module _ (p : Plan) where
   pub link-accepted : (k : ℕ) → linkRefusal p k ≡ 0 → LinkOk p k
   unfolding linkVerdict
   link-accepted k h =
-      let f16 = fine _ 15 h in
-      let f17 = fine _ 16 (f16 .1) in
-      let f18 = fine _ 17 (f17 .1) in
+      let f16 = orElse-zero _ 15 h in
+      let f17 = orElse-zero _ 16 (f16 .1) in
+      let f18 = orElse-zero _ 17 (f17 .1) in
       let a = or-false _ _ (f16 .0) in
       let b = or-false _ _ (f18 .0) in
       record {
@@ -82,21 +82,21 @@ module _ (p : Plan) where
   unfolding linksRefusal
   links-accepted zero k h j l m = absurd (omega arith)
   links-accepted (suc n) k h j l m =
-      let f = fine-first (linkRefusal p k) h in by-eq k j (λ e. subst (λ i. linkRefusal p i ≡ 0) e (f .0)) (λ d. links-accepted n (suc k) (f .1) j (omega arith) (omega arith))
+      let f = firstRefusal-zero (linkRefusal p k) h in by-eq k j (λ e. subst (λ i. linkRefusal p i ≡ 0) e (f .0)) (λ d. links-accepted n (suc k) (f .1) j (omega arith) (omega arith))
 
   pub accepted-links : (n k : ℕ) → ((j : ℕ) → k ≤ j → j < k + n → linkRefusal p j ≡ 0) → linksRefusal p n k ≡ 0
   unfolding linksRefusal
   accepted-links zero k h = refl
-  accepted-links (suc n) k h = first-fine (h k (omega arith) (omega arith)) (accepted-links n (suc k) (λ j l m. h j (omega arith) (omega arith)))
+  accepted-links (suc n) k h = zero-firstRefusal (h k (omega arith) (omega arith)) (accepted-links n (suc k) (λ j l m. h j (omega arith) (omega arith)))
 
   -- AN ACCEPTED PLAN, from the check's answer
   pub accepted : planRefusal p ≡ 0 → Accepted p
   unfolding planRefusal
   accepted h =
-      let f = fine-first _ h in
+      let f = firstRefusal-zero _ h in
       let o = counted (modulesOf p) (linksOf p) true (f .0) .0 in
-      let fl = fine-first _ (f .1) in
-      let f19 = fine _ 18 (fl .1) in
+      let fl = firstRefusal-zero _ (f .1) in
+      let f19 = orElse-zero _ 18 (fl .1) in
       record {
         someone = o .someone;
         modulesOk = o .modulesOk;
@@ -109,5 +109,5 @@ module _ (p : Plan) where
   pub accepted-back : Accepted p → planRefusal p ≡ 0
   unfolding planRefusal
   accepted-back a =
-      first-fine (counted-back (modulesOf p) (linksOf p) (record { someone = a .someone; modulesOk = a .modulesOk; linksOk = a .linksOk }))
-      (first-fine (accepted-links (linksOf p) 0 (λ j l m. accepted-link j (a .each j (omega arith)))) (rw (ways-connected (graphOf p) (modulesOf p) (a .whole))))
+      zero-firstRefusal (counted-back (modulesOf p) (linksOf p) (record { someone = a .someone; modulesOk = a .modulesOk; linksOk = a .linksOk }))
+      (zero-firstRefusal (accepted-links (linksOf p) 0 (λ j l m. accepted-link j (a .each j (omega arith)))) (rw (ways-connected (graphOf p) (modulesOf p) (a .whole))))

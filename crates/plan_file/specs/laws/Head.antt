@@ -6,7 +6,7 @@ use mathlib.Core.List.{List}
 use lib.ListN.{length, getD}
 use lib.Dec.{eqb}
 use borrow.Author.Tests.{ltb-false, le-ltb, eqb-true, eq-eqb, not-false}
-use Rattle.base.specs.laws.Refuse.{fine, or-false}
+use Rattle.base.specs.laws.Refuse.{orElse-zero, or-false}
 use Rattle.plan.specs.laws.Accepted.{Counts, counted, counted-back}
 use Rattle.plan_file.specs.Layout.{numberAt}
 use Rattle.plan_file.specs.Reading.{headVerdict, headRefusal}
@@ -21,9 +21,9 @@ module _ (s : List ℕ) where
   pub head-ok : headRefusal s ≡ 0 → HeadOk s
   unfolding headVerdict
   head-ok h =
-      let f11 = fine _ 10 h in
-      let f12 = fine _ 11 (f11 .1) in
-      let f13 = fine _ 12 (f12 .1) in
+      let f11 = orElse-zero _ 10 h in
+      let f12 = orElse-zero _ 11 (f11 .1) in
+      let f13 = orElse-zero _ 12 (f12 .1) in
       let a = or-false _ _ (f13 .0) in
       let counts = counted (numberAt s 1) (numberAt s 2) (eqb (numberAt s 0) (4 + 8 * numberAt s 2)) (f13 .1) in
       let e = eqb-true (numberAt s 0) (4 + 8 * numberAt s 2) (counts .1) in

@@ -6,16 +6,19 @@ use mathlib.Core.Path.{_≡_, refl, ap, _∙_}
 use mathlib.Core.List.{List, [], _∷_}
 use lib.ListN.{length, getD, replicate, List·getD-append}
 use Rattle.base.specs.Pool.{All, nil, con}
-use Rattle.base.specs.Limits.{maxLinks}
+use Rattle.base.specs.Limits.{AllBytes}
 use Rattle.base.specs.Table.{tabulate}
 use Rattle.base.specs.laws.Table.{tabulate-ext, length-tabulate, getD-tabulate}
 use Rattle.format_int16.specs.Int16.{at16}
+use Rattle.plan.specs.Links.{planSize}
 use Rattle.format_int16.specs.laws.Int16.{bytes-join, high-byte, low-byte}
-use Rattle.plan_file.specs.Layout.{planNumbers, bytesOf, numberAt, padded}
+use Rattle.plan_file.specs.Layout.{bytesOf, numberAt, padded}
 
--- bytes, as a lent slice of them holds
-abbrev pub Bytes : List ℕ → Type 0
-Bytes s = All (λ b. b < 256) s
+-- each is a byte: said of the list, and by place
+pub all-bytes : (s : List ℕ) → All (λ b. b < 256) s → AllBytes s
+all-bytes [] nil i = omega arith
+all-bytes (x ∷ s) (con l h) zero = omega arith
+all-bytes (x ∷ s) (con l h) (suc i) = all-bytes s h i
 
 -- the next integer, two bytes on
 number-next : (b x y : ℕ) (s : List ℕ) (i : ℕ) → numberAt (b ∷ x ∷ y ∷ s) (suc i) ≡ numberAt (y ∷ s) i
@@ -30,16 +33,17 @@ number-of b (x ∷ xs) zero l = bytes-join x
 number-of b (x ∷ xs) (suc i) l = number-next b (x / 256) (x % 256) (bytesOf xs) i ∙ number-of (x % 256) xs i (omega arith)
 
 -- bytes, from their integers
-pub bytes-numbers : (b : ℕ) (s : List ℕ) (n : ℕ) → length s ≡ 2 * n → Bytes s → bytesOf (tabulate n (numberAt (b ∷ s))) ≡ s
+pub bytes-numbers : (b : ℕ) (s : List ℕ) (n : ℕ) → length s ≡ 2 * n → AllBytes s → bytesOf (tabulate n (numberAt (b ∷ s))) ≡ s
 unfolding bytesOf tabulate
 bytes-numbers b [] zero e h = refl
 bytes-numbers b (x ∷ s) zero e h = absurd (omega arith)
 bytes-numbers b [] (suc n) e h = absurd (omega arith)
 bytes-numbers b (x ∷ []) (suc n) e h = absurd (omega arith)
-bytes-numbers b (x ∷ y ∷ s) (suc n) e (con p (con q h)) =
-    rw (high-byte x y q, low-byte x y q, tabulate-ext n (λ i. numberAt (b ∷ x ∷ y ∷ s) (suc i)) (numberAt (y ∷ s)) (λ i l. number-next b x y s i), bytes-numbers y s n (omega arith) h)
+bytes-numbers b (x ∷ y ∷ s) (suc n) e h =
+    let q : y < 256 = omega (arith, h 1) in
+    rw (high-byte x y q, low-byte x y q, tabulate-ext n (λ i. numberAt (b ∷ x ∷ y ∷ s) (suc i)) (numberAt (y ∷ s)) (λ i l. number-next b x y s i), bytes-numbers y s n (omega arith) (λ i. h (suc (suc i))))
 
-pub bytes-of : (xs : List ℕ) → All (λ x. x < 65536) xs → Bytes (bytesOf xs)
+pub bytes-of : (xs : List ℕ) → All (λ x. x < 65536) xs → All (λ b. b < 256) (bytesOf xs)
 unfolding bytesOf
 bytes-of [] nil = nil
 bytes-of (x ∷ xs) (con l h) = con {x = x / 256} (omega arith) (con {x = x % 256} (omega arith) (bytes-of xs h))
@@ -53,4 +57,4 @@ All-tabulate (suc n) f h = con (h zero (omega arith)) (All-tabulate n (λ i. f (
 -- number i of a plan value that is padded
 pub padded-at : (n : ℕ) (f : ℕ → ℕ) (i : ℕ) → i < n → getD (padded n f) i 0 ≡ f i
 unfolding padded
-padded-at n f i l = List·getD-append (tabulate n f) (replicate (planNumbers maxLinks - n) 0) 0 i (omega (arith, length-tabulate n f)) ∙ getD-tabulate n f i l
+padded-at n f i l = List·getD-append (tabulate n f) (replicate (planSize - n) 0) 0 i (omega (arith, length-tabulate n f)) ∙ getD-tabulate n f i l

@@ -9,13 +9,13 @@ use lib.ListN.{length, getD, take, drop, replicate}
 use lib.Seq.{take-append-seam}
 use borrow.Author.Tests.{le-ltb}
 use Rattle.base.specs.laws.Cond.{eqb-cases}
-use Rattle.base.specs.Limits.{maxLinks}
+use Rattle.base.specs.Limits.{AllBytes}
 use Rattle.base.specs.Loop.{After, takenTo}
-use Rattle.base.specs.laws.Refuse.{fine-first, first-fine, answers-taken}
+use Rattle.base.specs.laws.Refuse.{firstRefusal-zero, zero-firstRefusal, answers-taken}
 use Rattle.base.specs.Pool.{con}
 use Rattle.base.specs.Table.{tabulate}
 use Rattle.base.specs.laws.Table.{length-tabulate, tabulate-ext, getD-tabulate}
-use Rattle.plan.specs.Links.{Plan, linksOf}
+use Rattle.plan.specs.Links.{Plan, linksOf, planSize}
 use Rattle.plan.specs.Refusal.{planRefusal}
 use Rattle.plan.specs.laws.Accepted.{Accepted, accepted}
 use Rattle.plan.specs.Same.{Same}
@@ -26,7 +26,7 @@ use Rattle.plan_file.specs.laws.Lengths.{length-encode}
 use Rattle.plan_file.specs.Reading.{headRefusal, readRefusal, readPlan}
 use Rattle.plan_file.specs.Writing.{size, writeRefusal, writePlan}
 use Rattle.plan_file.specs.laws.Head.{HeadOk, head-ok, ok-head}
-use Rattle.plan_file.specs.laws.Numbers.{Bytes, number-of, bytes-numbers, bytes-of, padded-at, All-tabulate}
+use Rattle.plan_file.specs.laws.Numbers.{all-bytes, number-of, bytes-numbers, bytes-of, padded-at, All-tabulate}
 
 -- WRITTEN, THEN READ
 
@@ -42,7 +42,7 @@ module _ (p : Plan) where
   decode-encode : decode (encode p) ≡ trimmed p
   unfolding decode trimmed padded
   decode-encode = rw (number-encode 1 (omega arith))
-      (ap (λ xs. xs ++ replicate (planNumbers maxLinks - planNumbers (linksOf p)) 0) (tabulate-ext (planNumbers (linksOf p)) (λ i. numberAt (encode p) (suc i)) (λ i. getD p i 0) number-encode))
+      (ap (λ xs. xs ++ replicate (planSize - planNumbers (linksOf p)) 0) (tabulate-ext (planNumbers (linksOf p)) (λ i. numberAt (encode p) (suc i)) (λ i. getD p i 0) number-encode))
 
   -- its numbers up to its links are the plan's
   pub trimmed-same : Same p (trimmed p)
@@ -72,7 +72,7 @@ module _ (p : Plan) where
   unfolding readRefusal
   written-taken z =
       let a = accepted p z in
-      first-fine (ok-head (encode p) (encode-head a)) (ap planRefusal decode-encode ∙ same-taken trimmed-same z)
+      zero-firstRefusal (ok-head (encode p) (encode-head a)) (ap planRefusal decode-encode ∙ same-taken trimmed-same z)
 
   -- "A plan .. written and read gives its meaning back": an accepted plan, with zeros past its links
   pub written-read : planRefusal p ≡ 0 → readPlan (encode p) ≡ record { refusal = 0; plan = trimmed p }
@@ -82,7 +82,7 @@ module _ (p : Plan) where
   -- an answer of 0: the plan is accepted, and its bytes are at the front of the buffer
   write-answered : (t : List ℕ) → writePlan p t .refusal ≡ 0 → (planRefusal p ≡ 0) × (writePlan p t .state ≡ encode p ++ drop (size p) t)
   unfolding writePlan writeRefusal
-  write-answered t e = (fine-first (planRefusal p) e .0, sym (ap (λ (a : After (List ℕ)). a .state) (answers-taken (writeRefusal p t) t (encode p ++ drop (size p) t) e)))
+  write-answered t e = (firstRefusal-zero (planRefusal p) e .0, sym (ap (λ (a : After (List ℕ)). a .state) (answers-taken (writeRefusal p t) t (encode p ++ drop (size p) t) e)))
 
   front : (t : List ℕ) → writePlan p t .refusal ≡ 0 → take (size p) (writePlan p t .state) ≡ encode p
   front t e = ap₂ take (sym (length-encode p)) (write-answered t e .1) ∙ take-append-seam (encode p) (drop (size p) t)
@@ -105,21 +105,21 @@ module _ (p : Plan) where
       link i k (suc (suc (suc (suc j)))) l m e = absurd (omega arith)
 
   -- what is written is bytes
-  pub written-bytes : Accepted p → Bytes (encode p)
+  pub written-bytes : Accepted p → AllBytes (encode p)
   unfolding encode
-  written-bytes a = con {x = 1} (omega arith) (bytes-of ((4 + 8 * linksOf p) ∷ ownNumbers)
-      (con {x = 4 + 8 * linksOf p} (omega (arith, a .linksOk)) (All-tabulate (planNumbers (linksOf p)) (λ i. getD p i 0) (numbers-fit a))))
+  written-bytes a = all-bytes (encode p) (con {x = 1} (omega arith) (bytes-of ((4 + 8 * linksOf p) ∷ ownNumbers)
+      (con {x = 4 + 8 * linksOf p} (omega (arith, a .linksOk)) (All-tabulate (planNumbers (linksOf p)) (λ i. getD p i 0) (numbers-fit a)))))
 
 -- READ, THEN WRITTEN
 
 module _ (s : List ℕ) (z : readRefusal s ≡ 0) where
   read-head : HeadOk s
   unfolding readRefusal
-  read-head = head-ok s (fine-first (headRefusal s) z .0)
+  read-head = head-ok s (firstRefusal-zero (headRefusal s) z .0)
 
   pub read-accepted : planRefusal (decode s) ≡ 0
   unfolding readRefusal
-  read-accepted = fine-first (headRefusal s) z .1
+  read-accepted = firstRefusal-zero (headRefusal s) z .1
 
   number-decode : (i : ℕ) → i < planNumbers (numberAt s 2) → getD (decode s) i 0 ≡ numberAt s (suc i)
   unfolding decode
@@ -131,16 +131,16 @@ module _ (s : List ℕ) (z : readRefusal s ≡ 0) where
       (ap₂ (λ x xs. x ∷ xs) (sym (read-head .len)) (tabulate-ext (planNumbers (numberAt s 2)) (λ i. getD (decode s) i 0) (λ i. numberAt s (suc i)) number-decode))
 
   -- "bytes that are taken and written again are the same bytes"
-  pub read-written : Bytes s → encode (decode s) ≡ s
+  pub read-written : AllBytes s → encode (decode s) ≡ s
   unfolding encode
   read-written b = ap (λ xs. 1 ∷ bytesOf xs) numbers-decode ∙ again s (read-head .version) (read-head .size) b
     where
-      again : (t : List ℕ) → getD t 0 0 ≡ 1 → length t ≡ 7 + 8 * numberAt s 2 → Bytes t → _≡_ {A = List ℕ} (1 ∷ bytesOf (tabulate (suc (planNumbers (numberAt s 2))) (numberAt t))) t
+      again : (t : List ℕ) → getD t 0 0 ≡ 1 → length t ≡ 7 + 8 * numberAt s 2 → AllBytes t → _≡_ {A = List ℕ} (1 ∷ bytesOf (tabulate (suc (planNumbers (numberAt s 2))) (numberAt t))) t
       again [] v e h = absurd (omega arith)
-      again (x ∷ t) v e (con q h) = rw (bytes-numbers x t (suc (planNumbers (numberAt s 2))) (omega arith) h, v)
+      again (x ∷ t) v e h = rw (bytes-numbers x t (suc (planNumbers (numberAt s 2))) (omega arith) (λ i. h (suc i)), v)
 
   -- so the writer puts them back at the front of any buffer that they fit
-  pub written-again : Bytes s → (t : List ℕ) → length s ≤ length t → writePlan (decode s) t ≡ takenTo (s ++ drop (length s) t)
+  pub written-again : AllBytes s → (t : List ℕ) → length s ≤ length t → writePlan (decode s) t ≡ takenTo (s ++ drop (length s) t)
   unfolding writePlan writeRefusal
   written-again b t l =
       let e = read-written b in
@@ -160,8 +160,8 @@ read-taken s r e z = rw e (eqb-cases (readRefusal s) 0 (λ b. refusal b .refusal
 
 -- THE READER TAKES EXACTLY THE WRITTEN PLANS
 
-pub taken-listed : (s : List ℕ) → Bytes s → readRefusal s ≡ 0 → (p : Plan) × (planRefusal p ≡ 0) × (s ≡ encode p)
+pub taken-listed : (s : List ℕ) → AllBytes s → readRefusal s ≡ 0 → (p : Plan) × (planRefusal p ≡ 0) × (s ≡ encode p)
 taken-listed s b z = (decode s, read-accepted s z, sym (read-written s z b))
 
-pub listed-taken : (s : List ℕ) → (p : Plan) × (planRefusal p ≡ 0) × (s ≡ encode p) → (readRefusal s ≡ 0) × Bytes s
+pub listed-taken : (s : List ℕ) → (p : Plan) × (planRefusal p ≡ 0) × (s ≡ encode p) → (readRefusal s ≡ 0) × AllBytes s
 listed-taken s t = (rw (t .2) (written-taken (t .0) (t .1)), rw (t .2) (written-bytes (t .0) (accepted (t .0) (t .1))))

@@ -12,7 +12,7 @@ use lib.Dec.{eqb}
 use borrow.Author.Tests.{le-ltb, ne-eqb}
 use Rattle.base.specs.laws.Cond.{bool-cases}
 use Rattle.base.specs.Refuse.{orElse}
-use Rattle.format_text.specs.Input.{AllBytes}
+use Rattle.base.specs.Limits.{AllBytes}
 use Rattle.format_text.specs.laws.Input.{Enough}
 use Rattle.plan_file.specs.declared.Outcome.{Outcome}
 use Rattle.plan_file.specs.Layout.{numberAt, blank}

@@ -5,7 +5,7 @@ use mathlib.Core.Path.{_≡_, refl, sym, ap, _∙_}
 use mathlib.Core.Bool.{true, cond, not}
 use mathlib.Core.List.{List, [], _∷_}
 use lib.ListN.{replicate}
-use Rattle.base.specs.laws.Loop.{went, rests}
+use Rattle.base.specs.laws.Loop.{went, runs-rest}
 use Rattle.format_text.specs.Ascii.{ascii}
 use Rattle.field.specs.State.{State}
 use Rattle.field.specs.Held.{Held, stateOf, valid, setUp, stepAlone}
@@ -57,7 +57,7 @@ printed = ascii "modules 2\nlinks 1\nbranch 0 1 7\ntotal 7\ncore 0 1\nmessages 6
 stays : (h : Held) (k n : ℕ) (y : State) → k ≤ n → roundsRun (h .field .plan) k (stateOf h) ≡ went k y → atRest y ≡ true → runRounds n h ≡ runRounds k h
 unfolding runRounds
 stays h k n y l d r =
-    ap (λ x. cond (not (valid h)) (refusedRun 31 h) (laidBack h x)) (rests atRest (λ i. round (h .field .plan)) k (stateOf h) y d n l r ∙ sym d)
+    ap (λ x. cond (not (valid h)) (refusedRun 31 h) (laidBack h x)) (runs-rest atRest (λ i. round (h .field .plan)) k (stateOf h) y d n l r ∙ sym d)
 
 abbrev lent : List ℕ
 lent = replicate 12 0

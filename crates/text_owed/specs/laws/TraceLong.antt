@@ -13,9 +13,9 @@ use borrow.Author.Tests.{le-ltb, ne-eqb}
 use Rattle.base.specs.laws.Cond.{bool-cases, eqb-cases}
 use Rattle.base.specs.Loop.{Ran}
 use Rattle.format_int16.specs.Int16.{at16}
-use Rattle.format_text.specs.Input.{AllBytes}
+use Rattle.base.specs.Limits.{AllBytes}
 use Rattle.format_text.specs.laws.Input.{Enough}
-use Rattle.base.specs.laws.Refuse.{fine-first}
+use Rattle.base.specs.laws.Refuse.{firstRefusal-zero}
 use Rattle.plan_file.specs.declared.Outcome.{Outcome}
 use Rattle.plan_file.specs.Layout.{decode, blank}
 use Rattle.plan_file.specs.Reading.{headRefusal, readRefusal, readPlan}
@@ -54,7 +54,7 @@ plan-short x z =
     let none : readRefusal x ≡ 0 = eqb-cases (readRefusal x) 0
     (λ b. cond {A = Outcome} b (record { refusal = 0; plan = decode x }) (record { refusal = readRefusal x; plan = blank }) .refusal ≡ 0 → readRefusal x ≡ 0)
     (λ e y. e) (λ d y. y) z in
-    let o = head-ok x (fine-first (headRefusal x) none .0) in
+    let o = head-ok x (firstRefusal-zero (headRefusal x) none .0) in
     omega (arith, o .size, o .counts .linksOk)
 
 module _ (n : ℕ) (far : RUNROOM ≤ n) (s : List ℕ) (bytes : AllBytes s) where

@@ -17,7 +17,7 @@ returns c =
     let h = t .before .before .before in
     let s = h .before .before .before in
     let r = s .pre .0 in
-    advances-as (hands _ _ _ _ (s .args .b) r handPhase (hand-phase-sound _ _ (r .plan) (r .sound)) (h .hand-phase .ensures) (search needs) (c .refused .ensures))
+    advances-as (hands _ _ _ _ (s .args .b) r handPhase (hand-phase-sound _ _ (r .plan) (r .sound)) (h .hand-phase .ensures) (search needs) (c .refused-by .ensures))
     (round-off _ _ _ (h .hand-phase .ensures .is _ _ _) (t .if1 .taken))
 
 serve-phase-requires : tie.Need-serve-phase-requires

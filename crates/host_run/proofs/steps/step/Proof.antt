@@ -20,7 +20,7 @@ returns-2 c =
     let w = c .before .before .before in
     let k = w .before .before in
     let r = k .before .before .pre in
-    advances-as (hands _ _ _ _ (k .before .before .args .b) r (λ p. hand p (k .before .before .args .number)) (hand-sound _ _ _ _ (k .before .before .args .b) r _) (w .hand .ensures) (search needs) (c .refused .ensures)) (is-hand _ _ _ _ (k .match .keys2))
+    advances-as (hands _ _ _ _ (k .before .before .args .b) r (λ p. hand p (k .before .before .args .number)) (hand-sound _ _ _ _ (k .before .before .args .b) r _) (w .hand .ensures) (search needs) (c .refused-by .ensures)) (is-hand _ _ _ _ (k .match .keys2))
 
 returns-3 : tie.Need-returns-3
 returns-3 c =
@@ -36,7 +36,7 @@ returns-4 c =
     (λ z. let q = z .keys4 in is-none _ _ _ _ (λ e. omega arith) (λ e. omega arith) (λ e. omega arith))
     (λ z. is-none _ _ _ _ (z .rest .0 .0 .0 .1) (z .rest .0 .0 .1) (z .rest .0 .1))
     (m .match .came))
-    (c .refused2 .ensures)
+    (c .refused-by2 .ensures)
 
 pub step-spec : {M : Type 1} → statement M
 step-spec =

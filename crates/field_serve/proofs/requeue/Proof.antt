@@ -1,9 +1,9 @@
--- field_serve::put_back: not put back by `not-back`; else one word more, by `is-back` and `holds-one`.
+-- field_serve::requeue: not put back by `not-back`; else one word more, by `is-back` and `holds-one`.
 use borrow.Author.Needs.{needs}
 use Rattle.field_serve.proofs.Holds.{holds-same, holds-one}
 use Rattle.field_serve.proofs.Words.{not-back, is-back}
-use Rattle.field_serve.proofs.put_back.Statement.{statement}
-use Rattle.field_serve.proofs.put_back.Tie as tie
+use Rattle.field_serve.proofs.requeue.Statement.{statement}
+use Rattle.field_serve.proofs.requeue.Tie as tie
 
 returns : tie.Need-returns
 returns c = λ w e. holds-same _ _ (c .before .before .pre .0) _ (not-back w _ _ e (c .if1 .taken))
@@ -27,5 +27,5 @@ returns-2 c =
     let s = e .before .before in
     λ w q. holds-one _ _ (s .pre .0) _ _ _ (s .pre .1 (e .if1 .left)) (is-back w _ _ q (e .if1 .left)) (t .put .ensures)
 
-pub put-back-spec : {M : Type 1} → statement M
-put-back-spec = tie.close (tie.spec returns put-requires add-result (λ c. search needs) returns-2)
+pub requeue-spec : {M : Type 1} → statement M
+requeue-spec = tie.close (tie.spec returns put-requires add-result (λ c. search needs) returns-2)
