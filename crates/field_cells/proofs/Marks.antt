@@ -12,6 +12,7 @@ use borrow.Author.Tests.{ne-eqb}
 use Rattle.base.specs.Cond.{upd}
 use Rattle.base.specs.laws.Cond.{bool-cases, upd-same, upd-other, by-eq, ltb-cases, eqb-cases}
 use Rattle.base.specs.None.{none}
+use Rattle.node_edges.specs.declared.NewMark.{NewMark}
 use Rattle.node_edges.specs.Own.{marked}
 use Rattle.node_edges.specs.laws.Own.{marked-other}
 use Rattle.field.specs.Edges.{isOwn, from, linkOf, endOf, marksIn}
@@ -29,16 +30,16 @@ new-cases p v m d x r y n = ltb-cases d (2 * linksOf p) (λ b. r ≡ cond (b && 
     (λ l. eqb-cases (from p d) v (λ b. r ≡ cond b (m (linkOf d)) x) (λ e. y l e) (λ f. n (λ k e. f e)))
     (λ g. n (λ l e. omega arith))
 
-marked-at : (m : ℕ → ℕ) (k c : ℕ) → k ≢ none → marked m k c ≡ upd m k c
+marked-at : (m : ℕ → ℕ) (c : NewMark) → c .edge ≢ none → marked m c ≡ upd m (c .edge) (c .mark)
 unfolding marked
-marked-at m k c n = rw (ne-eqb k none n)
+marked-at m c n = rw (ne-eqb (c .edge) none n)
 
-module _ (p : Plan) (marks : List ℕ) (v k c : ℕ) where
-  put-own : isOwn p v k ≡ true → markPut p marks v k c ≡ set marks (endOf p v k) c
+module _ (p : Plan) (marks : List ℕ) (v : ℕ) (c : NewMark) where
+  put-own : isOwn p v (c .edge) ≡ true → markPut p marks v c ≡ set marks (endOf p v (c .edge)) (c .mark)
   unfolding markPut
   put-own o = rw o
 
-  put-other : isOwn p v k ≡ false → markPut p marks v k c ≡ marks
+  put-other : isOwn p v (c .edge) ≡ false → markPut p marks v c ≡ marks
   unfolding markPut
   put-other o = rw o
 
@@ -68,10 +69,10 @@ module _ (p : Plan) (a : Accepted p) (marks : List ℕ) (v : ℕ) where
     one-mark = agree (upd (marksIn p marks v) k c) (set marks (endOf p v k) c) (length-set marks (endOf p v k) c) (λ d b. by-eq d (endOf p v k) (here d) (there d))
 
   -- what the code writes
-  pub mark-put : 2 * linksOf p ≤ length marks → (k c : ℕ) → markPut p marks v k c ≡ putMarks p marks v (marked (marksIn p marks v) k c)
-  mark-put sized k c = bool-cases (isOwn p v k)
-      (λ o. put-own p marks v k c o ∙ one-mark sized k o c ∙ ap (putMarks p marks v) (sym (marked-at (marksIn p marks v) k c (λ e. omega (arith, own-link-below p v k o, a .linksOk)))))
-      (λ o. put-other p marks v k c o ∙ agree (marked (marksIn p marks v) k c) marks refl (λ d b. new-cases p v (marked (marksIn p marks v) k c) d (getD marks d 0) (getD marks d 0)
-      (λ l f. own-is d l f ∙ sym (marked-other (marksIn p marks v) k c (linkOf d)
+  pub mark-put : 2 * linksOf p ≤ length marks → (c : NewMark) → markPut p marks v c ≡ putMarks p marks v (marked (marksIn p marks v) c)
+  mark-put sized c = bool-cases (isOwn p v (c .edge))
+      (λ o. put-own p marks v c o ∙ one-mark sized (c .edge) o (c .mark) ∙ ap (putMarks p marks v) (sym (marked-at (marksIn p marks v) c (λ e. omega (arith, own-link-below p v (c .edge) o, a .linksOk)))))
+      (λ o. put-other p marks v c o ∙ agree (marked (marksIn p marks v) c) marks refl (λ d b. new-cases p v (marked (marksIn p marks v) c) d (getD marks d 0) (getD marks d 0)
+      (λ l f. own-is d l f ∙ sym (marked-other (marksIn p marks v) c (linkOf d)
       (λ q. true≢false (sym (subst (λ u. isOwn p u (linkOf d) ≡ true) f (from-own p a d l)) ∙ ap (isOwn p v) (sym q) ∙ o))))
       (λ f. refl)))

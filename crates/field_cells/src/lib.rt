@@ -3,6 +3,7 @@ use field::Cells;
 use field::Marks;
 use node::Node;
 use node::WIDTH;
+use node_edges::NewMark;
 use plan::Plan;
 ghost use Prim.Native.Nat.{_<_, _≤_};
 ghost use mathlib.Core.Path.{_≡_};
@@ -54,17 +55,17 @@ pub fn put_node(cells: &mut Cells, v: u16, n: Node)
     }
 }
 
-// Module v's mark for its link k becomes c, if k is a link of v.
-pub fn put_mark<'a>(plan: &'a Plan, marks: &mut Marks, v: u16, k: u16, c: u8)
+// The change c of one of module v's marks, if it is of a link of v.
+pub fn put_mark<'a>(plan: &'a Plan, marks: &mut Marks, v: u16, c: NewMark)
     requires { ⌜ linksOf (now plan) ≤ maxLinks ⌝ }
-    ensures { λ _. ⌜ now (marks .exit) ≡ markPut (now (plan .entry)) (now (marks .entry)) v k c ⌝ }
+    ensures { λ _. ⌜ now (marks .exit) ≡ markPut (now (plan .entry)) (now (marks .entry)) v c ⌝ }
 {
-    if plan::links(plan) <= k {
+    if plan::links(plan) <= c.edge {
         return;
     }
-    if !node_edges::owns(plan, v, k) {
+    if !node_edges::owns(plan, v, c.edge) {
         return;
     }
-    let i = node_edges::end_at(plan, v, k) as usize;
-    marks[i] = c;
+    let i = node_edges::end_at(plan, v, c.edge) as usize;
+    marks[i] = c.mark;
 }

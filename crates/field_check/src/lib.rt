@@ -1,6 +1,4 @@
 // Refusal 31: whether a field that a host supplies is one, item by item.
-mod items;
-
 use base::MAX_MODULES;
 use field::Cells;
 use field::Field;
@@ -67,7 +65,7 @@ fn words_fit(plan: &Plan, words: &[u64]) -> bool
 {
     let mut i: usize = 0;
     while i < words.len() {
-        if !items::word_fits(plan, words[i]) {
+        if !field_items::word_fits(plan, words[i]) {
             return false;
         }
         i += 1;
@@ -115,7 +113,7 @@ fn nodes_fit<'a>(plan: &'a Plan, degrees: &'a Degrees, cells: &'a Cells) -> bool
     while 0 < v {
         v -= 1;
         let n = field_cells::load(cells, v);
-        if !items::node_fits(plan, degrees[v as usize], v, n) {
+        if !field_items::node_fits(plan, degrees[v as usize], v, n) {
             return false;
         }
     }

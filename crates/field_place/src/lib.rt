@@ -2,7 +2,6 @@
 use base::NONE;
 use field::Cells;
 use field::Marks;
-use node::BASIC;
 use node::BRANCH;
 use node_response::Packet;
 use node_response::Response;
@@ -55,7 +54,7 @@ fn is_copied<'a>(plan: &'a Plan, marks: &'a Marks, v: u16, x: u64, k: u16) -> bo
     if k == link_of(x) {
         return false;
     }
-    node_edges::mark_of(plan, marks, v, NONE, BASIC, k) == BRANCH
+    node_edges::mark_at(plan, marks, v, k) == BRANCH
 }
 
 // Word x once more, as module v sends it over link k.
@@ -201,10 +200,10 @@ pub fn place<'a>(
         × (n + length (sendsBy (now plan) (now marks) v x a) ≤ length (now lent)) × (v < maxModules) ⌝ }
     ensures { λ r. ⌜ Put (now (plan .entry)) v (sendsBy (now (plan .entry)) (now (marks .entry)) v x a) (now (lent .entry)) n (now (lent .exit)) r
         × (now (cells .exit) ≡ putNode (now (cells .entry)) v (a .node))
-        × (now (marks .exit) ≡ markPut (now (plan .entry)) (now (marks .entry)) v (a .edge) (a .mark)) ⌝ }
+        × (now (marks .exit) ≡ markPut (now (plan .entry)) (now (marks .entry)) v (a .newmark)) ⌝ }
 {
     let r = post_all(plan, marks, lent, n, v, x, a);
     field_cells::put_node(cells, v, a.node);
-    field_cells::put_mark(plan, marks, v, a.edge, a.mark);
+    field_cells::put_mark(plan, marks, v, a.newmark);
     r
 }

@@ -62,12 +62,12 @@ module _ (p : Plan) (cells marks lent : List ℕ) (b : Done) (v i : ℕ) (a : Re
     out-33 l h q = rw q (record { is = λ ok. rw (← ex) (sym (carry-33 p v work before _ _ r (omega arith))); laid = l })
 
     pub out-placed : b .sent + c ≤ ceilingOf p → {cells′ marks′ mid last : List ℕ} {l k size : ℕ} → cells′ ≡ putNode cells v (a .node)
-        → 2 * linksOf p ≤ length marks → marks′ ≡ markPut p marks v (a .edge) (a .mark)
+        → 2 * linksOf p ≤ length marks → marks′ ≡ markPut p marks v (a .newmark)
         → Holds mid l size (without i (take (b .waiting) lent) ++ posted p v (sendsBy p marks v x a))
         → ((w : Work) → w .answer ≡ a .answer → Holds last k (length mid) (take l mid ++ backOf w x))
         → {d : Done} → d ≡ record { refusal = 0; waiting = k; sent = b .sent + c } → CarriedOut p v i a cells marks lent b d cells′ marks′ last
     out-placed le e1 sized e2 h k q = rw q (record {
-      is = λ ok. rw (← ex) (ap takenTo (state-is e1 (e2 ∙ mark-put p ok marks v sized (a .edge) (a .mark)) (holds-on _ h (k work refl) .waits) (ap (λ (y : ℕ). b .sent + y) es))
+      is = λ ok. rw (← ex) (ap takenTo (state-is e1 (e2 ∙ mark-put p ok marks v sized (a .newmark)) (holds-on _ h (k work refl) .waits) (ap (λ (y : ℕ). b .sent + y) es))
           ∙ sym (carry-placed p v work before _ _ r (omega arith)));
       laid = k work refl .laid;
     })

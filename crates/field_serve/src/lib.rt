@@ -186,7 +186,7 @@ pub fn serve<'a>(
         return refused_by(41, b);
     }
     let n = b.waiting;
-    let i = field_words::first_in_queue(plan, &lent[..n], v);
+    let i = field_search::first_in_queue(plan, &lent[..n], v);
     if n <= i {
         return refused_by(45, b);
     }

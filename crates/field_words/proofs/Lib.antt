@@ -1,5 +1,3 @@
-pub mod Search
-pub mod Queue
 pub mod Shift
 pub mod Laid
 pub mod Outcomes

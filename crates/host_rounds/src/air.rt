@@ -12,7 +12,7 @@ fn hand_turn(plan: &Plan, lent: &mut [u64], n: usize, d: u16) -> u32
     requires { ⌜ Laid (now lent) n × (linksOf (now plan) ≤ maxLinks) ⌝ }
     ensures { λ r. ⌜ Hands (handTurn (now (plan .entry)) d) n (now (lent .entry)) r (now (lent .exit)) ⌝ }
 {
-    let q = field_words::many_in_air(&lent[..n], d);
+    let q = field_search::many_in_air(&lent[..n], d);
     let mut j: usize = 0;
     while j < q {
         let a = field_words::hand(plan, lent, n, d);

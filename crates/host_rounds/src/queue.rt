@@ -22,7 +22,7 @@ fn serve_turn<'a>(
         (now (cells .entry)) (now (marks .entry)) (now (lent .entry)) b r (now (cells .exit)) (now (marks .exit)) (now (lent .exit)) ⌝ }
 {
     let n = b.waiting;
-    let q = field_words::many_in_queue(plan, &lent[..n], v);
+    let q = field_search::many_in_queue(plan, &lent[..n], v);
     let mut s = b;
     let mut j: usize = 0;
     while j < q {

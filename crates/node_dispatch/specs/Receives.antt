@@ -23,7 +23,7 @@ pub record Receives (p : Plan) (v : ℕ) (x : Packet) (n : Node) : Type 0 where
 
 -- nothing is done yet
 pub record Fresh (a : Response) : Type 0 where
-  pub edge : a .edge ≡ none
+  pub edge : a .newmark .edge ≡ none
   pub copies : a .copies ≡ 0
   pub first : a .first .edge ≡ none
   pub second : a .second .edge ≡ none

@@ -5,10 +5,11 @@ use lib.Dec.{eqb}
 use Rattle.base.specs.Cond.{upd}
 use Rattle.base.specs.None.{none}
 use Rattle.node.specs.Work.{BASIC, branches}
+use Rattle.node_edges.specs.declared.NewMark.{NewMark}
 
--- marks with edge e's mark changed to x; nothing is changed where e is none
-unfoldable pub marked : (ℕ → ℕ) → ℕ → ℕ → ℕ → ℕ
-marked m e x = cond (eqb e none) m (upd m e x)
+-- marks after the change c; nothing is changed where its edge is none
+unfoldable pub marked : (ℕ → ℕ) → NewMark → ℕ → ℕ
+marked m c = cond (eqb (c .edge) none) m (upd m (c .edge) (c .mark))
 
 -- the edges that a search looks at: all, or those with mark Basic
 unfoldable pub looked : Bool → (ℕ → ℕ) → ℕ → Bool

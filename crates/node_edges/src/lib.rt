@@ -18,6 +18,12 @@ ghost use Rattle.field.specs.Edges.{isOwn, ownOf, endOf, marksIn};
 ghost use Rattle.node.specs.Work.{BASIC, earliest, number, anyEdge, branches, degree};
 ghost use Rattle.node_edges.specs.Own.{marked, looked, counts};
 
+// Edge edge's mark is to become mark; edge none: no mark changes.
+pub struct NewMark {
+    pub edge: u16,
+    pub mark: u8,
+}
+
 // Whether edge k ends at node v.
 pub fn owns<'a>(plan: &'a Plan, v: u16, k: u16) -> bool
     requires { ⌜ (linksOf (now plan) ≤ maxLinks) × (k < linksOf (now plan)) ⌝ }
@@ -42,23 +48,31 @@ pub fn end_at(plan: &Plan, v: u16, k: u16) -> u16
     2 * k + 1
 }
 
-// Node v's mark for its edge k, where edge e's mark is to become x (e none: no mark changes).
-pub fn mark_of<'a>(plan: &'a Plan, marks: &'a Marks, v: u16, e: u16, x: u8, k: u16) -> u8
+// Node v's mark for its edge k.
+pub fn mark_at<'a>(plan: &'a Plan, marks: &'a Marks, v: u16, k: u16) -> u8
     requires { ⌜ k < maxLinks ⌝ }
-    ensures { λ r. ⌜ (isOwn (now (plan .entry)) v k ≡ true → r ≡ marked (marksIn (now (plan .entry)) (now (marks .entry)) v) e x k) ⌝ }
+    ensures { λ r. ⌜ (isOwn (now (plan .entry)) v k ≡ true → r ≡ marksIn (now (plan .entry)) (now (marks .entry)) v k) ⌝ }
 {
-    if e == k {
-        return x;
-    }
     let i = end_at(plan, v, k) as usize;
     marks[i]
 }
 
+// The same after the change c.
+pub fn mark_of<'a>(plan: &'a Plan, marks: &'a Marks, v: u16, c: NewMark, k: u16) -> u8
+    requires { ⌜ k < maxLinks ⌝ }
+    ensures { λ r. ⌜ (isOwn (now (plan .entry)) v k ≡ true → r ≡ marked (marksIn (now (plan .entry)) (now (marks .entry)) v) c k) ⌝ }
+{
+    if c.edge == k {
+        return c.mark;
+    }
+    mark_at(plan, marks, v, k)
+}
+
 // Whether a search of node v's edges looks at k: an own edge, with mark Basic unless all are looked at.
-fn looks<'a>(plan: &'a Plan, marks: &'a Marks, v: u16, e: u16, x: u8, all: bool, k: u16) -> bool
+fn looks<'a>(plan: &'a Plan, marks: &'a Marks, v: u16, c: NewMark, all: bool, k: u16) -> bool
     requires { ⌜ (linksOf (now plan) ≤ maxLinks) × (k < linksOf (now plan)) ⌝ }
     ensures { λ r. ⌜ r ≡ (isOwn (now (plan .entry)) v k
-        && looked all (marked (marksIn (now (plan .entry)) (now (marks .entry)) v) e x) k) ⌝ }
+        && looked all (marked (marksIn (now (plan .entry)) (now (marks .entry)) v) c) k) ⌝ }
 {
     if !owns(plan, v, k) {
         return false;
@@ -66,7 +80,7 @@ fn looks<'a>(plan: &'a Plan, marks: &'a Marks, v: u16, e: u16, x: u8, all: bool,
     if all {
         return true;
     }
-    mark_of(plan, marks, v, e, x, k) == BASIC
+    mark_of(plan, marks, v, c, k) == BASIC
 }
 
 // One turn of the search: the earlier of k and the best so far, if it looks at k.
@@ -74,18 +88,17 @@ fn turn<'a>(
     plan: &'a Plan,
     marks: &'a Marks,
     v: u16,
-    e: u16,
-    x: u8,
+    c: NewMark,
     all: bool,
     best: u16,
     k: u16,
 ) -> u16
     requires { ⌜ (linksOf (now plan) ≤ maxLinks) × (k < linksOf (now plan)) × ((best < maxLinks) ⊎ (best ≡ none)) ⌝ }
     ensures { λ r. ⌜ (r ≡ cond (isOwn (now (plan .entry)) v k
-        && looked all (marked (marksIn (now (plan .entry)) (now (marks .entry)) v) e x) k
+        && looked all (marked (marksIn (now (plan .entry)) (now (marks .entry)) v) c) k
         && beforeBy (earlier (now (plan .entry))) k best) k best) × ((r < maxLinks) ⊎ (r ≡ none)) ⌝ }
 {
-    if !looks(plan, marks, v, e, x, all, k) {
+    if !looks(plan, marks, v, c, all, k) {
         return best;
     }
     if plan::before(plan, k, best) {
@@ -94,17 +107,17 @@ fn turn<'a>(
     best
 }
 
-// The earliest own edge of node v, of all or of those with mark Basic, or none. Edge e's mark is to become x.
-fn find<'a>(plan: &'a Plan, marks: &'a Marks, v: u16, e: u16, x: u8, all: bool) -> u16
+// The earliest own edge of node v, of all or of those with mark Basic after the change c, or none.
+fn find<'a>(plan: &'a Plan, marks: &'a Marks, v: u16, c: NewMark, all: bool) -> u16
     requires { ⌜ linksOf (now plan) ≤ maxLinks ⌝ }
     ensures { λ r. ⌜ r ≡ earliest (ownOf (now (plan .entry)) v)
-        (looked all (marked (marksIn (now (plan .entry)) (now (marks .entry)) v) e x)) (linksOf (now (plan .entry))) ⌝ }
+        (looked all (marked (marksIn (now (plan .entry)) (now (marks .entry)) v) c)) (linksOf (now (plan .entry))) ⌝ }
 {
     let links = plan::links(plan);
     let mut best: u16 = NONE;
     let mut k: u16 = 0;
     while k < links {
-        best = turn(plan, marks, v, e, x, all, best, k);
+        best = turn(plan, marks, v, c, all, best, k);
         k += 1;
     }
     best
@@ -115,16 +128,25 @@ pub fn earliest_own<'a>(plan: &'a Plan, marks: &'a Marks, v: u16) -> u16
     requires { ⌜ linksOf (now plan) ≤ maxLinks ⌝ }
     ensures { λ r. ⌜ r ≡ earliest (ownOf (now (plan .entry)) v) anyEdge (linksOf (now (plan .entry))) ⌝ }
 {
-    find(plan, marks, v, NONE, BASIC, true)
+    find(
+        plan,
+        marks,
+        v,
+        NewMark {
+            edge: NONE,
+            mark: BASIC,
+        },
+        true,
+    )
 }
 
-// The earliest own edge of node v with mark Basic, or none. Edge e's mark is to become x.
-pub fn earliest_basic<'a>(plan: &'a Plan, marks: &'a Marks, v: u16, e: u16, x: u8) -> u16
+// The earliest own edge of node v with mark Basic after the change c, or none.
+pub fn earliest_basic<'a>(plan: &'a Plan, marks: &'a Marks, v: u16, c: NewMark) -> u16
     requires { ⌜ linksOf (now plan) ≤ maxLinks ⌝ }
     ensures { λ r. ⌜ r ≡ earliest (ownOf (now (plan .entry)) v)
-        (λ k. eqb (marked (marksIn (now (plan .entry)) (now (marks .entry)) v) e x k) BASIC) (linksOf (now (plan .entry))) ⌝ }
+        (λ k. eqb (marked (marksIn (now (plan .entry)) (now (marks .entry)) v) c k) BASIC) (linksOf (now (plan .entry))) ⌝ }
 {
-    find(plan, marks, v, e, x, false)
+    find(plan, marks, v, c, false)
 }
 
 // 1 if a count of node v's edges counts k: an own edge, a branch other than j unless all are counted.
@@ -142,7 +164,7 @@ fn one<'a>(plan: &'a Plan, marks: &'a Marks, v: u16, all: bool, j: u16, k: u16) 
     if k == j {
         return 0;
     }
-    if mark_of(plan, marks, v, NONE, BASIC, k) == BRANCH {
+    if mark_at(plan, marks, v, k) == BRANCH {
         return 1;
     }
     0

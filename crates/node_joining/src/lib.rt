@@ -26,12 +26,12 @@ ghost use Rattle.node_joining.specs.laws.Copies.{copiesIn};
 
 // Edge j becomes a branch and its other end is told, with the Find bit.
 fn join(j: u16, find: u8, a: Response) -> Response
-    requires { ⌜ (j ≢ none) × (a .edge ≡ none) × (a .second .edge ≡ none) ⌝ }
+    requires { ⌜ (j ≢ none) × (a .newmark .edge ≡ none) × (a .second .edge ≡ none) ⌝ }
     ensures { λ r. ⌜ ((m : ℕ → ℕ) (cs : List Send) → Does m cs (joinOver j find) a r) ⌝ }
 {
     let mut b = a;
-    b.edge = j;
-    b.mark = BRANCH;
+    b.newmark.edge = j;
+    b.newmark.mark = BRANCH;
     node_response::say(
         b,
         node_response::an_initiate(j, a.node.level, a.node.identity, find),
@@ -40,7 +40,7 @@ fn join(j: u16, find: u8, a: Response) -> Response
 
 // A Connect of a lower level, on edge j.
 fn absorb<'a>(plan: &'a Plan, marks: &'a Marks, v: u16, j: u16, a: Response) -> Response
-    requires { ⌜ (linksOf (now plan) ≤ maxLinks) × (j ≢ none) × (a .edge ≡ none) × (a .second .edge ≡ none) ⌝ }
+    requires { ⌜ (linksOf (now plan) ≤ maxLinks) × (j ≢ none) × (a .newmark .edge ≡ none) × (a .second .edge ≡ none) ⌝ }
     ensures { λ r. ⌜ ((m : ℕ → ℕ) (cs : List Send) → Does m cs (absorb (ownOf (now (plan .entry)) v) j) a r) ⌝ }
 {
     if a.node.status != FIND {
@@ -69,14 +69,14 @@ fn core_end(plan: &Plan, j: u16, a: Response) -> Response
 // Connect, by an awake node: it may have been woken by it, and then its level is 0.
 pub fn on_connect<'a>(plan: &'a Plan, marks: &'a Marks, v: u16, x: Packet, a: Response) -> Response
     requires { ⌜ (linksOf (now plan) ≤ maxLinks) × (isOwn (now plan) v (x .edge) ≡ true) × (a .second .edge ≡ none)
-        × ((a .edge ≡ none) ⊎ (a .node .level ≡ 0)) ⌝ }
+        × ((a .newmark .edge ≡ none) ⊎ (a .node .level ≡ 0)) ⌝ }
     ensures { λ r. ⌜ ((cs : List Send) → Does (marksIn (now (plan .entry)) (now (marks .entry)) v) cs
         (onConnect (ownOf (now (plan .entry)) v) (limitOf (now (plan .entry))) (x .level) (x .edge)) a r) ⌝ }
 {
     if x.level < a.node.level {
         return absorb(plan, marks, v, x.edge, a);
     }
-    if node_edges::mark_of(plan, marks, v, a.edge, a.mark, x.edge) == BASIC {
+    if node_edges::mark_of(plan, marks, v, a.newmark, x.edge) == BASIC {
         return node_response::put_back(a);
     }
     core_end(plan, x.edge, a)
@@ -90,7 +90,7 @@ fn wide(x: u16) -> u32
 
 // Initiate, by an awake node, before which nothing was done.
 pub fn on_initiate<'a>(plan: &'a Plan, marks: &'a Marks, v: u16, x: Packet, a: Response) -> Response
-    requires { ⌜ (linksOf (now plan) ≤ maxLinks) × (a .edge ≡ none) × (a .copies ≡ 0) × (a .first .edge ≡ none) × (a .second .edge ≡ none) ⌝ }
+    requires { ⌜ (linksOf (now plan) ≤ maxLinks) × (a .newmark .edge ≡ none) × (a .copies ≡ 0) × (a .first .edge ≡ none) × (a .second .edge ≡ none) ⌝ }
     ensures { λ r. ⌜ Does (marksIn (now (plan .entry)) (now (marks .entry)) v)
         (copiesIn (ownOf (now (plan .entry)) v) (x .edge) (initiate (x .level) (x .carried) (x .find)) (marksIn (now (plan .entry)) (now (marks .entry)) v))
         (onInitiate (ownOf (now (plan .entry)) v) (x .level) (x .carried) (x .find) (x .edge)) a r ⌝ }

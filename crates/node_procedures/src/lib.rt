@@ -61,15 +61,12 @@ pub fn do_test<'a>(plan: &'a Plan, marks: &'a Marks, v: u16, a: Response) -> Res
     requires { ⌜ (linksOf (now plan) ≤ maxLinks) × (a .second .edge ≡ none) ⌝ }
     ensures { λ r. ⌜ ((cs : List Send) → Does (marksIn (now (plan .entry)) (now (marks .entry)) v) cs (doTest (ownOf (now (plan .entry)) v)) a r) ⌝ }
 {
-    test_on(
-        node_edges::earliest_basic(plan, marks, v, a.edge, a.mark),
-        a,
-    )
+    test_on(node_edges::earliest_basic(plan, marks, v, a.newmark), a)
 }
 
 // Procedure wakeup, for the earliest own edge k, or none. Nothing was done before it.
 fn wake_on(k: u16, a: Response) -> Response
-    requires { ⌜ (a .edge ≡ none) × (a .first .edge ≡ none) × (a .second .edge ≡ none) ⌝ }
+    requires { ⌜ (a .newmark .edge ≡ none) × (a .first .edge ≡ none) × (a .second .edge ≡ none) ⌝ }
     ensures { λ r. ⌜ ((m : ℕ → ℕ) (cs : List Send) → Does m cs (wakeOn k) a r) × (r .second .edge ≡ none) × (r .node .level ≡ 0) ⌝ }
 {
     let mut n = Node {
@@ -90,14 +87,14 @@ fn wake_on(k: u16, a: Response) -> Response
         return b;
     }
     b.node = n;
-    b.edge = k;
-    b.mark = BRANCH;
+    b.newmark.edge = k;
+    b.newmark.mark = BRANCH;
     node_response::say(b, node_response::a_connect(k, 0))
 }
 
 // Procedure wakeup. Nothing was done before it.
 pub fn wakeup<'a>(plan: &'a Plan, marks: &'a Marks, v: u16, a: Response) -> Response
-    requires { ⌜ (linksOf (now plan) ≤ maxLinks) × (a .edge ≡ none) × (a .first .edge ≡ none) × (a .second .edge ≡ none) ⌝ }
+    requires { ⌜ (linksOf (now plan) ≤ maxLinks) × (a .newmark .edge ≡ none) × (a .first .edge ≡ none) × (a .second .edge ≡ none) ⌝ }
     ensures { λ r. ⌜ ((m : ℕ → ℕ) (cs : List Send) → Does m cs (wakeup (ownOf (now (plan .entry)) v)) a r)
         × (r .second .edge ≡ none) × (r .node .level ≡ 0) ⌝ }
 {
@@ -106,9 +103,9 @@ pub fn wakeup<'a>(plan: &'a Plan, marks: &'a Marks, v: u16, a: Response) -> Resp
 
 // A sleeper wakes.
 pub fn awake<'a>(plan: &'a Plan, marks: &'a Marks, v: u16, a: Response) -> Response
-    requires { ⌜ (linksOf (now plan) ≤ maxLinks) × (a .edge ≡ none) × (a .first .edge ≡ none) × (a .second .edge ≡ none) ⌝ }
+    requires { ⌜ (linksOf (now plan) ≤ maxLinks) × (a .newmark .edge ≡ none) × (a .first .edge ≡ none) × (a .second .edge ≡ none) ⌝ }
     ensures { λ r. ⌜ ((m : ℕ → ℕ) (cs : List Send) → Does m cs (awake (ownOf (now (plan .entry)) v)) a r)
-        × (r .second .edge ≡ none) × ((r .edge ≡ none) ⊎ (r .node .level ≡ 0)) ⌝ }
+        × (r .second .edge ≡ none) × ((r .newmark .edge ≡ none) ⊎ (r .node .level ≡ 0)) ⌝ }
 {
     if a.node.status == ASLEEP {
         return wakeup(plan, marks, v, a);
@@ -118,7 +115,7 @@ pub fn awake<'a>(plan: &'a Plan, marks: &'a Marks, v: u16, a: Response) -> Respo
 
 // Procedure change-root. No mark was changed before it.
 pub fn change_root<'a>(plan: &'a Plan, marks: &'a Marks, v: u16, a: Response) -> Response
-    requires { ⌜ (linksOf (now plan) ≤ maxLinks) × (a .edge ≡ none) × (a .second .edge ≡ none)
+    requires { ⌜ (linksOf (now plan) ≤ maxLinks) × (a .newmark .edge ≡ none) × (a .second .edge ≡ none)
         × ((a .node .best ≡ none) ⊎ (isOwn (now plan) v (a .node .best) ≡ true)) ⌝ }
     ensures { λ r. ⌜ ((cs : List Send) → Does (marksIn (now (plan .entry)) (now (marks .entry)) v) cs changeRoot a r) ⌝ }
 {
@@ -126,11 +123,11 @@ pub fn change_root<'a>(plan: &'a Plan, marks: &'a Marks, v: u16, a: Response) ->
     if e == NONE {
         return node_response::refuse(a);
     }
-    if node_edges::mark_of(plan, marks, v, a.edge, a.mark, e) == BRANCH {
+    if node_edges::mark_of(plan, marks, v, a.newmark, e) == BRANCH {
         return node_response::say(a, node_response::a_change(e));
     }
     let mut b = a;
-    b.edge = e;
-    b.mark = BRANCH;
+    b.newmark.edge = e;
+    b.newmark.mark = BRANCH;
     node_response::say(b, node_response::a_connect(e, a.node.level))
 }

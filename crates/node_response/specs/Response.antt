@@ -41,7 +41,7 @@ workOf m cs a =
     record {
       answer = a .answer;
       node = a .node;
-      mark = marked m (a .edge) (a .mark);
+      mark = marked m (a .newmark);
       sends = copiesOf (a .copies) cs ++ (packetSends (a .first) ++ packetSends (a .second));
     }
 
@@ -62,4 +62,4 @@ pub record Says (m : ℕ → ℕ) (cs : List Send) (x : Packet) (a r : Response)
 
 -- nothing done yet
 abbrev pub begun : Node → Response
-begun n = record { answer = TAKEN; node = n; edge = none; mark = BASIC; copies = 0; first = packetFor none change; second = packetFor none change }
+begun n = record { answer = TAKEN; node = n; newmark = record { edge = none; mark = BASIC }; copies = 0; first = packetFor none change; second = packetFor none change }

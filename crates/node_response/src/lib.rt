@@ -5,6 +5,7 @@ use node::BASIC;
 use node::Node;
 use node::REFUSED;
 use node::TAKEN;
+use node_edges::NewMark;
 ghost use mathlib.Core.Path.{_≡_};
 ghost use mathlib.Core.List.{List};
 ghost use Prim.Native.Nat.{ℕ};
@@ -36,13 +37,12 @@ pub struct Packet {
     pub find: u8,
 }
 
-// answer: TAKEN, BACK or REFUSED. edge's mark becomes mark, edge none for no mark. copies: 1 if the served message is copied to every other
+// answer: TAKEN, BACK or REFUSED. copies: 1 if the served message is copied to every other
 // branch. The copies go out first, then first, then second.
 pub struct Response {
     pub answer: u32,
     pub node: Node,
-    pub edge: u16,
-    pub mark: u8,
+    pub newmark: NewMark,
     pub copies: u8,
     pub first: Packet,
     pub second: Packet,
@@ -135,8 +135,10 @@ pub fn begin(n: Node) -> Response
     Response {
         answer: TAKEN,
         node: n,
-        edge: NONE,
-        mark: BASIC,
+        newmark: NewMark {
+            edge: NONE,
+            mark: BASIC,
+        },
         copies: 0,
         first: x,
         second: x,

@@ -37,20 +37,20 @@ fn struck(x: u8) -> u8
 
 // Edge j is rejected, unless it is a branch.
 fn strike<'a>(plan: &'a Plan, marks: &'a Marks, v: u16, j: u16, a: Response) -> Response
-    requires { ⌜ (linksOf (now plan) ≤ maxLinks) × (isOwn (now plan) v j ≡ true) × (a .edge ≡ none) ⌝ }
+    requires { ⌜ (linksOf (now plan) ≤ maxLinks) × (isOwn (now plan) v j ≡ true) × (a .newmark .edge ≡ none) ⌝ }
     ensures { λ r. ⌜ ((cs : List Send) → Does (marksIn (now (plan .entry)) (now (marks .entry)) v) cs (strike j) a r) × (r .second ≡ a .second) ⌝ }
 {
-    let x = struck(node_edges::mark_of(plan, marks, v, a.edge, a.mark, j));
+    let x = struck(node_edges::mark_of(plan, marks, v, a.newmark, j));
     let mut b = a;
-    b.edge = j;
-    b.mark = x;
+    b.newmark.edge = j;
+    b.newmark.mark = x;
     b
 }
 
 // Test, by an awake node: it may have been woken by it, and then its level is 0.
 pub fn on_test<'a>(plan: &'a Plan, marks: &'a Marks, v: u16, x: Packet, a: Response) -> Response
     requires { ⌜ (linksOf (now plan) ≤ maxLinks) × (isOwn (now plan) v (x .edge) ≡ true) × (a .second .edge ≡ none)
-        × ((a .edge ≡ none) ⊎ (a .node .level ≡ 0)) × (0 < x .level) ⌝ }
+        × ((a .newmark .edge ≡ none) ⊎ (a .node .level ≡ 0)) × (0 < x .level) ⌝ }
     ensures { λ r. ⌜ ((cs : List Send) → Does (marksIn (now (plan .entry)) (now (marks .entry)) v) cs
         (onTest (ownOf (now (plan .entry)) v) (x .level) (x .carried) (x .edge)) a r) ⌝ }
 {
@@ -70,7 +70,7 @@ pub fn on_test<'a>(plan: &'a Plan, marks: &'a Marks, v: u16, x: Packet, a: Respo
 
 // Reject, on edge j.
 pub fn on_reject<'a>(plan: &'a Plan, marks: &'a Marks, v: u16, j: u16, a: Response) -> Response
-    requires { ⌜ (linksOf (now plan) ≤ maxLinks) × (isOwn (now plan) v j ≡ true) × (a .second .edge ≡ none) × (a .edge ≡ none) ⌝ }
+    requires { ⌜ (linksOf (now plan) ≤ maxLinks) × (isOwn (now plan) v j ≡ true) × (a .second .edge ≡ none) × (a .newmark .edge ≡ none) ⌝ }
     ensures { λ r. ⌜ ((cs : List Send) → Does (marksIn (now (plan .entry)) (now (marks .entry)) v) cs (onReject (ownOf (now (plan .entry)) v) j) a r) ⌝ }
 {
     node_procedures::do_test(plan, marks, v, strike(plan, marks, v, j, a))
@@ -122,7 +122,7 @@ fn child_report(plan: &Plan, weight: u16, j: u16, a: Response) -> Response
 
 // Report over the core.
 fn core_report<'a>(plan: &'a Plan, marks: &'a Marks, v: u16, weight: u16, a: Response) -> Response
-    requires { ⌜ (linksOf (now plan) ≤ maxLinks) × (a .edge ≡ none) × (a .second .edge ≡ none)
+    requires { ⌜ (linksOf (now plan) ≤ maxLinks) × (a .newmark .edge ≡ none) × (a .second .edge ≡ none)
         × ((a .node .best ≡ none) ⊎ (isOwn (now plan) v (a .node .best) ≡ true))
         × ((weight < maxLinks) ⊎ (weight ≡ none)) × ((a .node .weight < maxLinks) ⊎ (a .node .weight ≡ none)) ⌝ }
     ensures { λ r. ⌜ ((cs : List Send) → Does (marksIn (now (plan .entry)) (now (marks .entry)) v) cs (coreReport (ownOf (now (plan .entry)) v) weight) a r) ⌝ }
@@ -143,7 +143,7 @@ fn core_report<'a>(plan: &'a Plan, marks: &'a Marks, v: u16, weight: u16, a: Res
 
 // Report.
 pub fn on_report<'a>(plan: &'a Plan, marks: &'a Marks, v: u16, x: Packet, a: Response) -> Response
-    requires { ⌜ (linksOf (now plan) ≤ maxLinks) × (a .edge ≡ none) × (a .second .edge ≡ none)
+    requires { ⌜ (linksOf (now plan) ≤ maxLinks) × (a .newmark .edge ≡ none) × (a .second .edge ≡ none)
         × ((a .node .best ≡ none) ⊎ (isOwn (now plan) v (a .node .best) ≡ true))
         × ((x .carried < maxLinks) ⊎ (x .carried ≡ none)) × ((a .node .weight < maxLinks) ⊎ (a .node .weight ≡ none)) ⌝ }
     ensures { λ r. ⌜ ((cs : List Send) → Does (marksIn (now (plan .entry)) (now (marks .entry)) v) cs (onReport (ownOf (now (plan .entry)) v) (x .carried) (x .edge)) a r) ⌝ }

@@ -10,7 +10,6 @@ use base::NONE;
 use field::Cells;
 use field::Field;
 use field::Marks;
-use node::BASIC;
 use node::Node;
 use plan::Plan;
 
@@ -68,7 +67,7 @@ fn mark<'a>(plan: &'a Plan, marks: &'a Marks, out: &mut [u8], at: usize, v: u16,
     if !node_edges::owns(plan, v, k) {
         return at;
     }
-    let x = node_edges::mark_of(plan, marks, v, NONE, BASIC, k);
+    let x = node_edges::mark_at(plan, marks, v, k);
     let a = item(out, at, k);
     format_text::put_named(out, a, b":", x as u64)
 }

@@ -11,7 +11,7 @@ use Rattle.field_cells.proofs.put_mark.Tie as tie
 
 returns : tie.Need-returns
 unfolding markPut isOwn
-returns c = simp (← c .before .links .ensures, le-ltb _ _ (c .if1 .taken))
+returns c = simp (← c .before .before .links .ensures, le-ltb _ _ (c .if1 .taken))
 
 returns-2 : tie.Need-returns-2
 unfolding markPut
@@ -19,9 +19,9 @@ returns-2 c = simp (sym (c .before .owns .ensures) ∙ not-true _ (c .if2 .taken
 
 element-write-marks : tie.Need-element-write-marks
 element-write-marks c =
-    let s = c .before .before .before .before .before in
+    let s = c .before .before .before .before .before .before in
     let a = s .args in
-    omega (arith, c .end-at .ensures, end-small (a .plan .now) (a .v) (a .k) (omega (arith, c .before .before .before .if1 .left, c .before .before .before .before .links .ensures, s .pre)))
+    omega (arith, c .end-at .ensures, end-small (a .plan .now) (a .v) (a .c .edge) (omega (arith, c .before .before .before .if1 .left, c .before .before .before .before .before .links .ensures, s .pre)))
 
 returns-3 : tie.Need-returns-3
 unfolding markPut

@@ -1,8 +1,7 @@
--- field_place::is_copied: the definition's three tests, one at each return: an own link, not the message's, a branch (`marked-same`).
+-- field_place::is_copied: the definition's three tests, one at each return: an own link, not the message's, a branch.
 use mathlib.Core.Path.{sym, _∙_}
 use borrow.Author.Tests.{not-true, not-false, eq-eqb, ne-eqb}
 use borrow.Author.Needs.{needs}
-use Rattle.node_edges.specs.laws.Own.{marked-same}
 use Rattle.field_place.proofs.is_copied.Statement.{statement}
 use Rattle.field_place.proofs.is_copied.Tie as tie
 
@@ -21,8 +20,7 @@ returns-3 c =
     let l = e .before in
     let o = l .before in
     let own = sym (o .before .owns .ensures) ∙ not-false _ (o .if1 .left) in
-    let a = o .before .before .args in
-    simp (own, ne-eqb _ _ (λ q. e .if2 .left (q ∙ sym (l .link-of .ensures))), c .mark-of .ensures own ∙ marked-same _ 0 (a .k))
+    simp (own, ne-eqb _ _ (λ q. e .if2 .left (q ∙ sym (l .link-of .ensures))), c .mark-at .ensures own)
 
 pub is-copied-spec : {M : Type 1} → statement M
 is-copied-spec =

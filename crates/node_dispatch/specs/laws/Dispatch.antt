@@ -44,7 +44,7 @@ module _ (level carried find : ℕ) where
       link (inr e) = inr (eqb-true carried none e)
 
 pub begun-fresh : {a : Response} {n : Node} → a ≡ begun n → Fresh a
-begun-fresh e = record { edge = ap (λ x. x .edge) e; copies = ap (λ x. x .copies) e; first = ap (λ x. x .first .edge) e; second = ap (λ x. x .second .edge) e }
+begun-fresh e = record { edge = ap (λ x. x .newmark .edge) e; copies = ap (λ x. x .copies) e; first = ap (λ x. x .first .edge) e; second = ap (λ x. x .second .edge) e }
 
 -- a sleeper refuses all but Connect and Test
 module _ (kind status : ℕ) where

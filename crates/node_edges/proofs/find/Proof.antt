@@ -15,11 +15,11 @@ use Rattle.node_edges.proofs.find.Statement.{statement}
 use Rattle.node_edges.proofs.find.Tie as tie
 
 abbrev Inv-loop : tie.InvT-loop
-Inv-loop plan marks v e x all links best₀ k₀ best k =
-    (k ≤ links) × (best ≡ earliest (ownOf plan v) (looked all (marked (marksIn plan marks v) e x)) k) × ((best < maxLinks) ⊎ (best ≡ none)) × (links ≡ linksOf plan)
+Inv-loop plan marks v c all links best₀ k₀ best k =
+    (k ≤ links) × (best ≡ earliest (ownOf plan v) (looked all (marked (marksIn plan marks v) c)) k) × ((best < maxLinks) ⊎ (best ≡ none)) × (links ≡ linksOf plan)
 
 abbrev μ-loop : tie.MeasureT-loop
-μ-loop plan marks v e x all links best₀ k₀ best k = links - k
+μ-loop plan marks v c all links best₀ k₀ best k = links - k
 
 loop-holds : tie.Need-loop-holds Inv-loop μ-loop
 unfolding earliest

@@ -3,7 +3,7 @@ use borrow.Author.Needs.{needs}
 use borrow.Author.Tests.{not-true, not-false}
 use mathlib.Core.Path.{sym, _∙_}
 use native.Mathlib.Omega.{arith}
-use Rattle.node_edges.specs.laws.Own.{counts-not, counts-all, counts-self, counts-branch, counts-other, marked-same}
+use Rattle.node_edges.specs.laws.Own.{counts-not, counts-all, counts-self, counts-branch, counts-other}
 use Rattle.node_edges.proofs.one.Statement.{statement}
 use Rattle.node_edges.proofs.one.Tie as tie
 
@@ -20,13 +20,13 @@ returns-4 : tie.Need-returns-4
 returns-4 c =
     let e = c .before .before .before .before .before in
     let own = sym (e .owns .ensures) ∙ not-false _ (c .before .before .before .before .if1 .left) in
-    (sym (counts-branch _ _ _ _ _ own (c .before .before .before .if2 .left) (c .before .before .if3 .left) (sym (c .before .mark-of .ensures own ∙ marked-same _ _ _) ∙ c .if4 .taken)), omega arith)
+    (sym (counts-branch _ _ _ _ _ own (c .before .before .before .if2 .left) (c .before .before .if3 .left) (sym (c .before .mark-at .ensures own) ∙ c .if4 .taken)), omega arith)
 
 returns-5 : tie.Need-returns-5
 returns-5 c =
     let e = c .before .before .before .before .before in
     let own = sym (e .owns .ensures) ∙ not-false _ (c .before .before .before .before .if1 .left) in
-    (sym (counts-other _ _ _ _ _ own (c .before .before .before .if2 .left) (c .before .before .if3 .left) (λ h. c .if4 .left (c .before .mark-of .ensures own ∙ marked-same _ _ _ ∙ h))), omega arith)
+    (sym (counts-other _ _ _ _ _ own (c .before .before .before .if2 .left) (c .before .before .if3 .left) (λ h. c .if4 .left (c .before .mark-at .ensures own ∙ h))), omega arith)
 
 pub one-spec : {M : Type 1} → statement M
 one-spec =

@@ -13,28 +13,25 @@ use Rattle.plan.specs.Links.{Plan}
 use Rattle.plan.specs.Weights.{earlier}
 use Rattle.field.specs.Edges.{isOwn, ownOf}
 use Rattle.node.specs.Work.{Own, BASIC, BRANCH, earliest, number}
+use Rattle.node_edges.specs.declared.NewMark.{NewMark}
 use Rattle.node_edges.specs.Own.{marked, looked, counts}
 
-pub marked-same : (m : ℕ → ℕ) (x k : ℕ) → marked m none x k ≡ m k
-unfolding marked
-marked-same m x k = refl
-
-module _ (m : ℕ → ℕ) (e x k : ℕ) where
-  pub marked-none : e ≡ none → marked m e x ≡ m
+module _ (m : ℕ → ℕ) (c : NewMark) (k : ℕ) where
+  pub marked-none : c .edge ≡ none → marked m c ≡ m
   unfolding marked
   marked-none h = simp (eq-eqb _ _ h)
 
-  pub marked-here : e ≢ none → e ≡ k → marked m e x k ≡ x
+  pub marked-here : c .edge ≢ none → c .edge ≡ k → marked m c k ≡ c .mark
   unfolding marked
-  marked-here n h = rw (ne-eqb _ _ n, ← h) (upd-same m e x)
+  marked-here n h = rw (ne-eqb _ _ n, ← h) (upd-same m (c .edge) (c .mark))
 
-  pub marked-other : e ≢ k → marked m e x k ≡ m k
+  pub marked-other : c .edge ≢ k → marked m c k ≡ m k
   unfolding marked
-  marked-other h = bool-case (eqb e none)
+  marked-other h = bool-case (eqb (c .edge) none)
     where
-      bool-case : (b : Bool) → cond b m (upd m e x) k ≡ m k
+      bool-case : (b : Bool) → cond b m (upd m (c .edge) (c .mark)) k ≡ m k
       bool-case true = refl
-      bool-case false = upd-other m e x k h
+      bool-case false = upd-other m (c .edge) (c .mark) k h
 
 -- whether the search looks at an edge, by the code's tests
 module _ (own all : Bool) (m : ℕ → ℕ) (k : ℕ) where

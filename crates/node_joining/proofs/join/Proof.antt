@@ -7,7 +7,7 @@ use Rattle.node_joining.proofs.join.Tie as tie
 
 returns : tie.Need-returns
 returns c =
-    let p = c .before .before .pre in
+    let p = c .before .before .before .before .pre in
     λ m cs. told-as (does-then (c .say .ensures m cs .does _ _ (c .before .an-initiate .ensures) (p .0)) (marks-edge m cs _ _ _ (p .1) (p .0))) refl
 
 pub join-spec : {M : Type 1} → statement M

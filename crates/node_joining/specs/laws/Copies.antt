@@ -25,32 +25,32 @@ abbrev pub informedAs : ℕ → ℕ → ℕ → ℕ → Node → Node
 informedAs status l f j n =
     record { status = status; level = l; identity = f; weight = none; best = none; test = n .test; branch = j; count = n .count; halted = n .halted }
 
-module _ (o : Own) (m : ℕ → ℕ) (a : Response) (clean : a .edge ≡ none) where
+module _ (o : Own) (m : ℕ → ℕ) (a : Response) (clean : a .newmark .edge ≡ none) where
   -- the count of the branches
   pub count-branches : (cs : List Send) (j k : ℕ) → number o (branches j (workOf m cs a .mark)) k ≡ number o (branches j m) k
-  count-branches cs j k = rw (marked-none m (a .edge) (a .mark) 0 clean)
+  count-branches cs j k = rw (marked-none m (a .newmark) 0 clean)
 
   module _ (l f find j : ℕ) (c : a .copies ≡ 0) (x : a .first .edge ≡ none) (y : a .second .edge ≡ none) where
     does-tell : (status : ℕ) → status ≡ cond (eqb find 1) FIND FOUND
         → Does m (copiesIn o j (initiate l f find) m) (told o l f find j) a
-        (record { answer = a .answer; node = informedAs status l f j (a .node); edge = a .edge; mark = a .mark; copies = 1; first = a .first; second = a .second })
+        (record { answer = a .answer; node = informedAs status l f j (a .node); newmark = a .newmark; copies = 1; first = a .first; second = a .second })
     does-tell status e =
         told-as (does-then (tells-all m _ _ (λ h. omega (arith, c)) x y) (sets-node m _ a (informedAs status l f j (a .node))))
-        (rw (marked-none m (a .edge) (a .mark) 0 clean, e))
+        (rw (marked-none m (a .newmark) 0 clean, e))
 
     pub tell-found : find ≢ 1
         → Does m (copiesIn o j (initiate l f find) m) (told o l f find j) a
-        (record { answer = a .answer; node = informedAs FOUND l f j (a .node); edge = a .edge; mark = a .mark; copies = 1; first = a .first; second = a .second })
+        (record { answer = a .answer; node = informedAs FOUND l f j (a .node); newmark = a .newmark; copies = 1; first = a .first; second = a .second })
     tell-found h = does-tell FOUND (rw (ne-eqb _ _ h))
 
     pub tell-find : find ≡ 1
         → Does m (copiesIn o j (initiate l f find) m) (told o l f find j) a
-        (record { answer = a .answer; node = informedAs FIND l f j (a .node); edge = a .edge; mark = a .mark; copies = 1; first = a .first; second = a .second })
+        (record { answer = a .answer; node = informedAs FIND l f j (a .node); newmark = a .newmark; copies = 1; first = a .first; second = a .second })
     tell-find h = does-tell FIND (rw (eq-eqb _ _ h))
 
 -- find-count with the branches, as they were counted: n branches, d own edges, s in all
 module _ (o : Own) (m : ℕ → ℕ) (cs : List Send) (a : Response) (l f find j n d s : ℕ)
-    (clean : a .edge ≡ none) (h : find ≡ 1) (en : n ≡ number o (branches j m) (o.edges)) (ed : d ≡ degree o) (es : s ≡ a .node .count + n) where
+    (clean : a .newmark .edge ≡ none) (h : find ≡ 1) (en : n ≡ number o (branches j m) (o.edges)) (ed : d ≡ degree o) (es : s ≡ a .node .count + n) where
   total : s ≡ a .node .count + number o (branches j (workOf m cs a .mark)) (o.edges)
   total = omega (arith, es, en, count-branches o m a clean cs j (o.edges))
 

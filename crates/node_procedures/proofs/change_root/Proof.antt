@@ -25,7 +25,7 @@ returns-2 c =
 
 returns-3 : tie.Need-returns-3
 returns-3 c =
-    let t = c .before .before in
+    let t = c .before .before .before .before in
     let e = t .before .before in
     let own = other-case (e .before .pre .3) (e .if1 .left) in
     λ cs. told-as (does-then (c .say2 .ensures _ cs .does _ _ (c .before .a-connect .ensures) (e .if1 .left)) (marks-edge _ cs _ _ _ (e .before .pre .1) (e .if1 .left)))

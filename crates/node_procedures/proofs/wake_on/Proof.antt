@@ -15,7 +15,7 @@ returns c = (λ m cs. told-as (sets-node m cs _ _) (sym (wake-alone _ _ (c .if1 
 
 returns-2 : tie.Need-returns-2
 returns-2 c =
-    let e1 = c .before .before in
+    let e1 = c .before .before .before .before in
     let p = e1 .before .pre in
     let zeros : ℕ → ℕ = λ k. 0 in (
       λ m cs. told-as (does-then (c .say .ensures m cs .does _ _ (c .before .a-connect .ensures) (e1 .if1 .left)) (does-then (marks-edge m cs _ _ _ (p .0) (e1 .if1 .left)) (sets-node m cs _ _)))

@@ -58,11 +58,11 @@ module _ (C F S X : List Send) (y : Send) (p : X ≡ y ∷ []) (s : S ≡ []) wh
 -- one message more, in the first place or in the second
 module _ (m : ℕ → ℕ) (cs : List Send) (x : Packet) (a : Response) (free : a .second .edge ≡ none) where
   pub says-first : a .first .edge ≡ none
-      → Says m cs x a (record { answer = a .answer; node = a .node; edge = a .edge; mark = a .mark; copies = a .copies; first = x; second = a .second })
+      → Says m cs x a (record { answer = a .answer; node = a .node; newmark = a .newmark; copies = a .copies; first = x; second = a .second })
   says-first h =
       record {
         does = λ to msg e n. record {
-          work = ap (λ l. record { answer = a .answer; node = a .node; mark = marked m (a .edge) (a .mark); sends = l })
+          work = ap (λ l. record { answer = a .answer; node = a .node; mark = marked m (a .newmark); sends = l })
               (sends-first (copiesOf (a .copies) cs) _ _ _ _ (packet-sends x to msg e n) (packet-none (a .second) free) (packet-none (a .first) h));
           formed = λ g. record { first = formed-for x to msg e; second = g .second };
         };
@@ -70,11 +70,11 @@ module _ (m : ℕ → ℕ) (cs : List Send) (x : Packet) (a : Response) (free : 
       }
 
   pub says-second : a .first .edge ≢ none
-      → Says m cs x a (record { answer = a .answer; node = a .node; edge = a .edge; mark = a .mark; copies = a .copies; first = a .first; second = x })
+      → Says m cs x a (record { answer = a .answer; node = a .node; newmark = a .newmark; copies = a .copies; first = a .first; second = x })
   says-second h =
       record {
         does = λ to msg e n. record {
-          work = ap (λ l. record { answer = a .answer; node = a .node; mark = marked m (a .edge) (a .mark); sends = l })
+          work = ap (λ l. record { answer = a .answer; node = a .node; mark = marked m (a .newmark); sends = l })
               (sends-second (copiesOf (a .copies) cs) (packetSends (a .first)) _ _ _ (packet-sends x to msg e n) (packet-none (a .second) free));
           formed = λ g. record { first = g .first; second = formed-for x to msg e };
         };
@@ -83,13 +83,13 @@ module _ (m : ℕ → ℕ) (cs : List Send) (x : Packet) (a : Response) (free : 
 
 -- another node
 pub sets-node : (m : ℕ → ℕ) (cs : List Send) (a : Response) (n : Node)
-    → Does m cs (withNode n) a (record { answer = a .answer; node = n; edge = a .edge; mark = a .mark; copies = a .copies; first = a .first; second = a .second })
+    → Does m cs (withNode n) a (record { answer = a .answer; node = n; newmark = a .newmark; copies = a .copies; first = a .first; second = a .second })
 sets-node m cs a n = record { work = refl; formed = λ g. record { first = g .first; second = g .second } }
 
 -- the mark of a response
 module _ (m : ℕ → ℕ) (cs : List Send) (a : Response) (k c : ℕ) where
-  pub marks-edge : a .edge ≡ none → k ≢ none
-      → Does m cs (setMark k c) a (record { answer = a .answer; node = a .node; edge = k; mark = c; copies = a .copies; first = a .first; second = a .second })
+  pub marks-edge : a .newmark .edge ≡ none → k ≢ none
+      → Does m cs (setMark k c) a (record { answer = a .answer; node = a .node; newmark = record { edge = k; mark = c }; copies = a .copies; first = a .first; second = a .second })
   unfolding marked
   marks-edge h n =
       record { work = rw (ne-eqb _ _ n, eq-eqb _ _ h); formed = λ g. record { first = g .first; second = g .second } }
@@ -97,11 +97,11 @@ module _ (m : ℕ → ℕ) (cs : List Send) (a : Response) (k c : ℕ) where
 -- the copies of an Initiate, before all else
 module _ (m : ℕ → ℕ) (cs : List Send) (a : Response) where
   pub tells-all : a .copies ≢ 1 → a .first .edge ≡ none → a .second .edge ≡ none
-      → Does m cs (copied cs) a (record { answer = a .answer; node = a .node; edge = a .edge; mark = a .mark; copies = 1; first = a .first; second = a .second })
+      → Does m cs (copied cs) a (record { answer = a .answer; node = a .node; newmark = a .newmark; copies = 1; first = a .first; second = a .second })
   unfolding copiesOf
   tells-all c f s =
       record {
-        work = ap (λ l. record { answer = a .answer; node = a .node; mark = marked m (a .edge) (a .mark); sends = l })
+        work = ap (λ l. record { answer = a .answer; node = a .node; mark = marked m (a .newmark); sends = l })
             (rw (ne-eqb _ _ c, packet-none (a .first) f, packet-none (a .second) s) (append-nil cs));
         formed = λ g. record { first = g .first; second = g .second };
       }

@@ -17,9 +17,10 @@ mark-of-requires c κs = omega (arith, own-below _ _ _ (c .pre .1))
 
 returns : tie.Need-returns
 returns c =
-    let p = c .before .before .pre in (
+    let k = c .before .before in
+    let p = k .before .before .pre in (
       λ cs. told-as (marks-edge _ cs _ _ _ (p .2) (λ h. omega (arith, own-below _ _ _ (p .1))))
-          (strike-with _ _ _ (c .struck .ensures ∙ ap (λ (y : ℕ). cond (eqb y BASIC) REJECTED y) (c .before .mark-of .ensures (p .1)))),
+          (strike-with _ _ _ (k .struck .ensures ∙ ap (λ (y : ℕ). cond (eqb y BASIC) REJECTED y) (k .before .mark-of .ensures (p .1)))),
       refl,
     )
 

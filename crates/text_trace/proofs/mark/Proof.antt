@@ -5,7 +5,6 @@ use borrow.Author.Tests.{not-true, not-false}
 use Rattle.format_text.specs.Put.{put}
 use Rattle.format_text.specs.laws.Put.{put-none, put-on}
 use Rattle.format_text.specs.Lines.{named}
-use Rattle.node_edges.specs.laws.Own.{marked-same}
 use Rattle.text_trace.specs.Text.{item}
 use Rattle.text_trace.specs.laws.Text.{mark-none, mark-shown}
 use Rattle.text_trace.proofs.mark.Statement.{statement}
@@ -24,7 +23,7 @@ returns-2 c =
     let test = told .before in
     let own = sym (test .before .owns .ensures) ∙ not-false _ (test .if1 .left) in
     put-on _ (item _) (named ":" _) (first .item .ensures) (last .put-named .ensures)
-    ∙ ap (put _) (sym (mark-shown _ _ _ _ _ own (told .mark-of .ensures own ∙ marked-same _ 0 _)))
+    ∙ ap (put _) (sym (mark-shown _ _ _ _ _ own (told .mark-at .ensures own)))
 
 pub mark-spec : {M : Type 1} → statement M
 mark-spec =

@@ -1,0 +1,31 @@
+-- field_search::first_in_queue: a loop; none of the first i words is in the queue (`Sought`), one more by `sought-on`. It ends by `found` or
+-- `found-none`.
+use Prim.Native.Nat.{_-_}
+use lib.ListN.{length}
+use borrow.Author.Needs.{needs}
+use Rattle.field.specs.Step.{inQueue}
+use Rattle.field_search.proofs.Search.{Sought, sought-start, found, sought-on, found-none}
+use Rattle.field_search.proofs.first_in_queue.Statement.{statement}
+use Rattle.field_search.proofs.first_in_queue.Tie as tie
+
+abbrev Inv-loop : tie.InvT-loop
+Inv-loop plan words v i₀ i = Sought (inQueue plan v) words i
+
+abbrev μ-loop : tie.MeasureT-loop
+μ-loop plan words v i₀ i = length words - i
+
+pub first-in-queue-spec : {M : Type 1} → statement M
+first-in-queue-spec =
+    tie.close
+    (tie.spec
+    Inv-loop
+    μ-loop
+    (λ c. search (needs, sought-start))
+    (λ c. search needs)
+    (λ c. search needs)
+    (λ c κs. search needs)
+    (λ c. search (needs, found))
+    (λ c. search needs)
+    (λ c. search needs)
+    (λ c. search (needs, sought-on))
+    (λ c. search (needs, found-none)))
