@@ -1,60 +1,55 @@
-/* Prints the refusal number of a plan or a frame, 0 for taken.
+/* Checks a plan, a frame or a schedule: prints the refusal's number and its sentence, "0: taken" if there is none.
  *
- *     check plan FILE
- *     check frame FILE
+ *     check plan|frame|schedule FILE
  *
- * To build, at the top of the repository:
+ * Exit 0 taken, 1 refused, 2 wrong usage or a failed read or write. To build, at the top of the repository after
+ * tools/build, or anywhere after tools/install:
  *
- *     rt staticlib host_console
- *     cc -std=c99 -O2 -Iinclude examples/check.c target/staticlib/libhost_console.a -o check */
+ *     cc -std=c99 -Iinclude examples/check.c target/lib/libmuruapy.a -o check
+ *     cc -std=c99 check.c $(pkg-config --cflags --libs muruapy) -o check */
 #include "muruapy.h"
 
 #include <stdio.h>
-#include <stdlib.h>
 #include <string.h>
-
-/* The whole file in memory of its own, and its length; a null pointer if it cannot be read. */
-static uint8_t *contents(const char *name, size_t *length)
-{
-    FILE *file = fopen(name, "rb");
-    if (!file)
-        return NULL;
-    size_t room = 8192, have = 0;
-    uint8_t *bytes = malloc(room);
-    while (bytes) {
-        have += fread(bytes + have, 1, room - have, file);
-        if (have < room)
-            break;
-        uint8_t *more = realloc(bytes, room *= 2);
-        if (!more)
-            free(bytes);
-        bytes = more;
-    }
-    if (bytes && ferror(file)) {
-        free(bytes);
-        bytes = NULL;
-    }
-    fclose(file);
-    *length = have;
-    return bytes;
-}
 
 int main(int argc, char **argv)
 {
-    int plan = argc == 3 && strcmp(argv[1], "plan") == 0;
-    int frame = argc == 3 && strcmp(argv[1], "frame") == 0;
-    if (!plan && !frame) {
-        fprintf(stderr, "usage: %s plan|frame FILE\n", argv[0]);
+    /* No more bytes are needed: a 16-bit length tells of 65535 behind its own three, and one more shows that the file is
+     * longer. The numbers are then those of the whole file. */
+    static uint8_t bytes[65539];
+    size_t length;
+    uint32_t refusal;
+    FILE *file;
+
+    if (argc != 3) {
+        fprintf(stderr, "usage: %s plan|frame|schedule FILE\n", argv[0]);
         return 2;
     }
-    size_t length;
-    uint8_t *bytes = contents(argv[2], &length);
-    if (!bytes) {
+    file = fopen(argv[2], "rb");
+    if (!file) {
         perror(argv[2]);
         return 2;
     }
-    uint32_t refusal = plan ? muruapy_plan_check(bytes, length) : muruapy_frame_check(bytes, length);
-    printf("%lu\n", (unsigned long)refusal);
-    free(bytes);
-    return 0;
+    length = fread(bytes, 1, sizeof bytes, file);
+    if (ferror(file)) {
+        perror(argv[2]);
+        return 2;
+    }
+    fclose(file);
+
+    if (strcmp(argv[1], "plan") == 0) {
+        refusal = muruapy_plan_check(bytes, length);
+    } else if (strcmp(argv[1], "frame") == 0) {
+        refusal = muruapy_frame_check(bytes, length);
+    } else if (strcmp(argv[1], "schedule") == 0) {
+        refusal = muruapy_schedule_check(bytes, length);
+    } else {
+        fprintf(stderr, "%s: a plan, a frame or a schedule, not %s\n", argv[0], argv[1]);
+        return 2;
+    }
+
+    printf("%lu: %s\n", (unsigned long)refusal, muruapy_refusal_text(refusal));
+    if (fflush(stdout) != 0)
+        return 2;
+    return refusal == MURUAPY_TAKEN ? 0 : 1;
 }

@@ -1,35 +1,483 @@
-/* Checks of Muruapy's plans and radio frames, for C.
+/* Muruapy: link trees for the radio modules of a display field, from C.
  *
- * Link with libhost_console.a, which `rt staticlib host_console` writes to target/staticlib. It needs nothing else but memcpy, memmove and
- * memset, which its compiled code may call (the C library has them); it keeps no state and allocates nothing. Each function is proved to answer
- * the number that document 01 gives for the bytes. */
+ * A plan says which modules there are and how well they hear each other. The modules of a field come, by messages
+ * between neighbours, to one minimum spanning tree of the plan's links; this library checks, reads and writes plans,
+ * frames and schedules, builds the tree, and takes a field through its messages step by step. Formats, numbers and the
+ * rules of a module are told in docs/FORMATS.md, installed as share/doc/muruapy/FORMATS.md.
+ *
+ * Linking. `cc -Iinclude program.c libmuruapy.a`, or `pkg-config --cflags --libs muruapy` once installed. The archive
+ * needs memcpy, memmove and memset and nothing else. It is for x86-64 with the System V calling convention (Linux).
+ *
+ * Proofs. Each function that the archive exports is proved to answer and to leave in lent memory what a definition says,
+ * for every input, refusals included. Not proved: what is `static inline` here (it only passes members on), and the
+ * caller.
+ *
+ * Answers. A function of type uint32_t, but for muruapy_link_cost and muruapy_ceiling, answers a refusal: 0 for taken,
+ * else the first number of `enum muruapy_refusal` that applies. A REFUSED CALL ALTERS NOTHING: every lent byte, word,
+ * field and number is as it was, but the number of steps or rounds done is always told. In a run and in rounds the
+ * steps before the refused one stand.
+ *
+ * Memory. Nothing is allocated and nothing is kept between calls. What is lent to one call must not overlap, but for two
+ * pointers to const. A pointer must point at memory of the size that is told for it, also where a length is 0: NULL is
+ * never allowed. (The data() of an empty C++ vector may be NULL; pass the address of any object then.)
+ *
+ * Threads. Calls on different memory may run at the same time. Two calls that share memory may do so only if neither
+ * writes it.
+ *
+ * Stack, as measured, rounded up to pages: a call uses at most MURUAPY_STACK_PLAN bytes of it on plans, frames, schedules
+ * and messages, MURUAPY_STACK_FIELD on a field, MURUAPY_STACK_JOB for the whole job. */
 #ifndef MURUAPY_H
 #define MURUAPY_H
 
+#include <stdbool.h>
 #include <stddef.h>
 #include <stdint.h>
+
+#define MURUAPY_VERSION_MAJOR 1
+#define MURUAPY_VERSION_MINOR 0
+#define MURUAPY_VERSION "1.0"
 
 #ifdef __cplusplus
 extern "C" {
 #endif
 
+/* Limits. */
+#define MURUAPY_MODULES 192     /* modules of a plan, at most */
+#define MURUAPY_LINKS 600       /* links of a plan, at most */
+#define MURUAPY_READING 2000    /* the largest reading, in tenths of a decibel */
+#define MURUAPY_NONE 65535      /* "none" where a link's number could stand */
+#define MURUAPY_WORDS 7920      /* words that are enough for every plan: the largest ceiling */
+#define MURUAPY_PLAN_BYTES 4807 /* bytes of the longest plan */
+#define MURUAPY_FRAME_BYTES 6   /* bytes of every frame */
+#define MURUAPY_STEPS 21845     /* steps of a schedule, at most */
+#define MURUAPY_REPORT_BYTES 46202 /* bytes that are enough for every report */
+
+/* Bytes of stack that a call uses, at most. */
+#define MURUAPY_STACK_PLAN 12288  /* plans, frames, schedules, messages: 12 KB */
+#define MURUAPY_STACK_FIELD 36864 /* fields and their report: 36 KB */
+#define MURUAPY_STACK_JOB 73728   /* muruapy_job: 72 KB */
+
+/* Why a call was refused; muruapy_refusal_text has a sentence for each. */
+enum muruapy_refusal {
+    MURUAPY_TAKEN = 0, /* not refused */
+    /* the bytes of a plan; from 14 on its value too; 16 to 18 of one link, then of the next */
+    MURUAPY_PLAN_SHORT = 11,   /* fewer than 3 bytes */
+    MURUAPY_PLAN_VERSION = 12, /* the version byte */
+    MURUAPY_PLAN_LENGTH = 13,  /* the length */
+    MURUAPY_PLAN_MODULES = 14, /* the number of modules */
+    MURUAPY_PLAN_LINKS = 15,   /* the number of links */
+    MURUAPY_LINK_ENDS = 16,    /* the two modules of a link */
+    MURUAPY_LINK_ORDER = 17,   /* the order of the links */
+    MURUAPY_LINK_READING = 18, /* a reading */
+    MURUAPY_PLAN_PARTS = 19,   /* modules that no way joins */
+    /* what the caller lends */
+    MURUAPY_TREE_BUFFER = 20,   /* not one byte for each link */
+    MURUAPY_TOO_FEW_WORDS = 21, /* fewer words than the ceiling */
+    MURUAPY_PLAN_BUFFER = 22,   /* fewer bytes than the plan's */
+    /* a field; never where field and words are as setup and the calls since then left them */
+    MURUAPY_FIELD = 31,          /* it is none */
+    MURUAPY_RESPONSE = 32,       /* a message without a response */
+    MURUAPY_CEILING_PASSED = 33, /* the sent count would pass the ceiling */
+    /* a step */
+    MURUAPY_NO_MODULE = 41,            /* no module of this number */
+    MURUAPY_NO_DIRECTED_LINK = 42,     /* no directed link of this number */
+    MURUAPY_AWAKE = 43,                /* the module to wake is awake */
+    MURUAPY_NOTHING_TO_HAND_OVER = 44, /* no message of the directed link is in the air */
+    MURUAPY_EMPTY_QUEUE = 45,          /* the module to serve has no message */
+    /* the bytes of a schedule, in this order; 54 for a step given alone too */
+    MURUAPY_SCHEDULE_SHORT = 51,   /* fewer than 3 bytes */
+    MURUAPY_SCHEDULE_VERSION = 52, /* the version byte */
+    MURUAPY_SCHEDULE_LENGTH = 53,  /* the length */
+    MURUAPY_STEP_KIND = 54,        /* the kind of a step */
+    /* a frame, in this order */
+    MURUAPY_FRAME_SIZE = 61,  /* not 6 bytes */
+    MURUAPY_FRAME_HEAD = 62,  /* the version byte or the length */
+    MURUAPY_MESSAGE = 63,     /* no message */
+    MURUAPY_FRAME_BUFFER = 64 /* a lent buffer of not 6 bytes */
+};
+
+/* One sentence for a refusal's number, without a full stop; for 0 "taken", for any other number "no refusal has this
+ * number". */
+static inline const char *muruapy_refusal_text(uint32_t number)
+{
+    switch (number) {
+    case MURUAPY_TAKEN: return "taken";
+    case MURUAPY_PLAN_SHORT: return "the plan has fewer than 3 bytes";
+    case MURUAPY_PLAN_VERSION: return "the plan's version byte is not 1";
+    case MURUAPY_PLAN_LENGTH: return "the plan's length is not that of the bytes behind it, or is below 4";
+    case MURUAPY_PLAN_MODULES: return "the plan has no module, or more than 192";
+    case MURUAPY_PLAN_LINKS: return "the plan has more than 600 links, or as many as do not fit its length";
+    case MURUAPY_LINK_ENDS: return "a link's lower module is not below its higher one, or the higher one is no module";
+    case MURUAPY_LINK_ORDER: return "a link does not come after the link before it";
+    case MURUAPY_LINK_READING: return "a reading is above 2000";
+    case MURUAPY_PLAN_PARTS: return "the links do not join all modules";
+    case MURUAPY_TREE_BUFFER: return "the tree's buffer has not one byte for each link";
+    case MURUAPY_TOO_FEW_WORDS: return "fewer words are lent than the ceiling";
+    case MURUAPY_PLAN_BUFFER: return "the buffer is too short for the plan";
+    case MURUAPY_FIELD: return "this is no field: its plan, words, values, marks or sent count are not as they must be";
+    case MURUAPY_RESPONSE: return "the module cannot answer this message in its state";
+    case MURUAPY_CEILING_PASSED: return "more messages would be sent than the ceiling";
+    case MURUAPY_NO_MODULE: return "there is no module of this number";
+    case MURUAPY_NO_DIRECTED_LINK: return "there is no directed link of this number";
+    case MURUAPY_AWAKE: return "the module is awake already";
+    case MURUAPY_NOTHING_TO_HAND_OVER: return "the directed link has nothing to hand over";
+    case MURUAPY_EMPTY_QUEUE: return "the module's queue is empty";
+    case MURUAPY_SCHEDULE_SHORT: return "the schedule has fewer than 3 bytes";
+    case MURUAPY_SCHEDULE_VERSION: return "the schedule's version byte is not 1";
+    case MURUAPY_SCHEDULE_LENGTH: return "the schedule's length is not that of the bytes behind it, or no multiple of 3";
+    case MURUAPY_STEP_KIND: return "a step's kind is not 1, 2 or 3";
+    case MURUAPY_FRAME_SIZE: return "the frame has not 6 bytes";
+    case MURUAPY_FRAME_HEAD: return "the frame's version byte is not 1, or its length is not 3";
+    case MURUAPY_MESSAGE: return "header and carried number are those of no message";
+    case MURUAPY_FRAME_BUFFER: return "the frame's buffer has not 6 bytes";
+    default: return "no refusal has this number";
+    }
+}
+
+/* ---- Plans ---- */
+
+/* A link between two modules, with the path loss that each end reads, in tenths of a decibel. */
+typedef struct muruapy_link {
+    uint16_t lower;  /* the module of the lower number */
+    uint16_t higher; /* the other one */
+    uint16_t near;   /* reading at the lower module */
+    uint16_t far;    /* reading at the higher module */
+} muruapy_link;
+
+/* A plan: the numbers of its file, in the file's order. */
+typedef struct muruapy_plan {
+    uint16_t modules; /* how many modules, 1 to 192 */
+    uint16_t links;   /* how many links, 0 to 600 */
+    muruapy_link link[MURUAPY_LINKS]; /* the first `links` count, in rising order of (lower, higher), no pair twice */
+} muruapy_plan;
+
 /* Checks the bytes of a plan.
  *
- * bytes   the plan's bytes; not a null pointer, also where length is 0. They are read only.
- * length  how many bytes there are; any number, also 0. All of them have to be the plan: a byte after it is refused.
+ * bytes   the plan's bytes, only read
+ * length  how many there are, any number; all of them have to be the plan
  *
- * Answers 0 if the plan is taken, else the first refusal that applies: 11 fewer than 3 bytes; 12 version; 13 length;
- * 14 number of modules; 15 number of links; 16 a link's modules; 17 order of the links; 18 a reading; 19 not connected. */
+ * Answers 0, or 11 to 19. */
 uint32_t muruapy_plan_check(const uint8_t *bytes, size_t length);
+
+/* Reads a plan. The links behind its last one become 0.
+ *
+ * bytes, length  as above
+ * plan           gets the plan
+ *
+ * Answers 0, or 11 to 19. */
+uint32_t muruapy_plan_read(const uint8_t *bytes, size_t length, muruapy_plan *plan);
+
+/* Checks a plan's value.
+ *
+ * plan  any numbers, only read
+ *
+ * Answers 0, or 14 to 19. */
+uint32_t muruapy_plan_value_check(const muruapy_plan *plan);
+
+/* Writes a plan.
+ *
+ * plan   any numbers, only read
+ * bytes  gets the plan at its front, 7 + 8 * links bytes; the bytes behind keep
+ * room   how many bytes there are
+ *
+ * Answers 0, or 14 to 19, or 22. */
+uint32_t muruapy_plan_write(const muruapy_plan *plan, uint8_t *bytes, size_t room);
+
+/* The cost of a link, by which the tree is chosen.
+ *
+ * plan  any numbers, only read; it is not checked
+ * link  the link's number, any number
+ *
+ * Answers the sum of the link's two readings, or MURUAPY_NONE where `link` is not below both the plan's links and 600.
+ * The cost of a link of a plan that is taken is 0 to 4000, below MURUAPY_NONE. Refuses nothing. */
+uint32_t muruapy_link_cost(const muruapy_plan *plan, uint16_t link);
+
+/* The ceiling: how many messages a field sends at most, and how many words it needs.
+ *
+ * modules  how many modules there are, any number
+ * links    how many links, any number
+ *
+ * Answers 5 * modules * log + 2 * links, where log is the whole part of the binary logarithm of modules (0 for 0).
+ * Refuses nothing. */
+uint32_t muruapy_ceiling(uint16_t modules, uint16_t links);
+
+/* The minimum spanning tree of a plan, worked out centrally.
+ *
+ * plan  any numbers, only read
+ * tree  gets 1 for a link of the tree and 0 for another, by link number
+ * room  how many bytes there are: just as many as links
+ *
+ * Answers 0, or 14 to 19, or 20. */
+uint32_t muruapy_tree(const muruapy_plan *plan, uint8_t *tree, size_t room);
+
+/* ---- Messages and frames ---- */
+
+/* The kinds of messages. A message is a header byte, made of a kind, a level and a Find bit, and a carried number, the
+ * number of a link or MURUAPY_NONE. Beside each kind: level; Find bit; carried number. */
+enum muruapy_kind {
+    MURUAPY_CONNECT = 1,    /* 0 to 7; 0; none */
+    MURUAPY_INITIATE = 2,   /* 1 to 7; 0 or 1; the identity of a fragment, which is its core link, below 600 */
+    MURUAPY_TEST = 3,       /* 1 to 7; 0; an identity, below 600 */
+    MURUAPY_ACCEPT = 4,     /* 0; 0; none */
+    MURUAPY_REJECT = 5,     /* 0; 0; none */
+    MURUAPY_REPORT = 6,     /* 0; 0; the best weight: the link that has it, below 600, or none */
+    MURUAPY_CHANGE_ROOT = 7 /* 0; 0; none */
+};
+
+/* Makes a header byte.
+ *
+ * kind   0 to 7; those of messages are in `enum muruapy_kind`
+ * level  0 to 7
+ * find   the Find bit, 0 or 1
+ *
+ * Answers the header byte, or 255, which no message has, where one of them is more. Refuses nothing. */
+uint8_t muruapy_header(uint8_t kind, uint16_t level, uint8_t find);
+
+/* The parts of a header byte.
+ *
+ * header  any byte
+ *
+ * Answer the kind (0 to 7), the level (0 to 7), the Find bit (0 or 1). */
+uint8_t muruapy_header_kind(uint8_t header);
+uint16_t muruapy_header_level(uint8_t header);
+uint8_t muruapy_header_find(uint8_t header);
+
+/* Whether two numbers are a message.
+ *
+ * header   its header byte, any byte
+ * carried  its carried number, any number
+ *
+ * Answers true exactly for those of the list above; bit 7 of the header is 0 in all of them. */
+bool muruapy_message_listed(uint8_t header, uint16_t carried);
 
 /* Checks the bytes of a radio frame.
  *
- * bytes   the frame's bytes; not a null pointer, also where length is 0. They are read only.
- * length  how many bytes there are; any number, also 0.
+ * bytes   the frame's bytes, only read
+ * length  how many there are, any number
  *
- * Answers 0 if the frame is taken, else the first refusal that applies: 61 not 6 bytes; 62 version or length; 63 header
- * or carried number of no listed message. */
+ * Answers 0, or 61 to 63. */
 uint32_t muruapy_frame_check(const uint8_t *bytes, size_t length);
+
+/* Reads a frame.
+ *
+ * bytes, length  as above
+ * header         gets the message's header byte
+ * carried        gets its carried number
+ *
+ * Answers 0, or 61 to 63. */
+uint32_t muruapy_frame_read(const uint8_t *bytes, size_t length, uint8_t *header, uint16_t *carried);
+
+/* Writes the frame of a message.
+ *
+ * header, carried  the message, any numbers
+ * bytes            gets the frame
+ * room             how many bytes there are: 6
+ *
+ * Answers 0, or 63, or 64. */
+uint32_t muruapy_frame_write(uint8_t header, uint16_t carried, uint8_t *bytes, size_t room);
+
+/* ---- Fields ---- */
+
+/* What a module knows. A link is told by its number, below the plan's links; none is MURUAPY_NONE; own links are those
+ * that end at the module. */
+typedef struct muruapy_module {
+    uint16_t status;      /* 0 asleep, 1 Find, 2 Found */
+    uint16_t level;       /* 0 to the whole part of the binary logarithm of the number of modules */
+    uint16_t identity;    /* of its fragment: a link or none; none exactly at level 0 */
+    uint16_t best_weight; /* the link that has it, or none */
+    uint16_t best_edge;   /* an own link or none */
+    uint16_t test_edge;   /* an own link or none */
+    uint16_t in_branch;   /* an own link or none */
+    uint16_t find_count;  /* 0 to the number of own links */
+    uint16_t halted;      /* 0 or 1 */
+} muruapy_module;
+
+/* A field. The messages that wait lie in words of the caller's, at least as many as the ceiling, beside the field: from
+ * the front and without gaps, 0 behind the last. */
+typedef struct muruapy_field {
+    muruapy_plan plan;                       /* its plan */
+    muruapy_module modules[MURUAPY_MODULES]; /* by number; the first plan.modules count */
+    uint8_t marks[MURUAPY_LINKS][2];         /* marks[k]: what link k's lower module, then its higher one, marks it: 0
+                                                Basic, 1 Branch, 2 Rejected; the first plan.links count */
+    uint32_t sent;                           /* how many messages were sent: the ceiling at most */
+} muruapy_field;
+
+/* The kinds of steps, and what a step's number is. */
+enum muruapy_step_kind {
+    MURUAPY_WAKE = 1,      /* wakes a module, which must be asleep; the module's number */
+    MURUAPY_HAND_OVER = 2, /* moves a message from the air to its receiver's queue; the directed link's number */
+    MURUAPY_SERVE = 3      /* a module takes the first message of its queue; the module's number */
+};
+
+/* The parts of a word.
+ *
+ * word  any word
+ *
+ * Answer the message's header byte, its carried number, the directed link that it goes by (2 * k from link k's lower
+ * module to the higher one, 2 * k + 1 back), and whether it has been handed over. */
+uint8_t muruapy_word_header(uint64_t word);
+uint16_t muruapy_word_carried(uint64_t word);
+uint16_t muruapy_word_link(uint64_t word);
+bool muruapy_word_handed(uint64_t word);
+
+/* How many words wait.
+ *
+ * words  any words, only read
+ * room   how many there are
+ *
+ * Answers how many stand before the first that is 0: at rest none, `room` where no word is 0. */
+size_t muruapy_waiting(const uint64_t *words, size_t room);
+
+/* The exports below take a field in its parts. Each does what the inline function of the same name without `_parts`
+ * does, which is told there: the lengths that it asks for, what it leaves, its refusals and answers. That one passes
+ *
+ * plan     &field->plan; in setup and the job the plan that is given
+ * held     &field->plan, in setup and the job
+ * modules  field->modules, all 192
+ * marks    field->marks, all 600
+ * sent     &field->sent, or the number itself where it is only read
+ *
+ * and its other arguments as they are. Use the inline functions. */
+uint32_t muruapy_setup_parts(const muruapy_plan *plan, muruapy_plan *held, muruapy_module *modules, uint8_t (*marks)[2],
+                             uint32_t *sent, uint64_t *words, size_t room);
+uint32_t muruapy_field_check_parts(const muruapy_plan *plan, const muruapy_module *modules, const uint8_t (*marks)[2],
+                                   uint32_t sent, const uint64_t *words, size_t room);
+uint32_t muruapy_step_parts(const muruapy_plan *plan, muruapy_module *modules, uint8_t (*marks)[2], uint32_t *sent,
+                            uint64_t *words, size_t room, uint8_t kind, uint16_t number);
+uint32_t muruapy_run_parts(const muruapy_plan *plan, muruapy_module *modules, uint8_t (*marks)[2], uint32_t *sent,
+                           uint64_t *words, size_t room, const uint8_t *bytes, size_t length, size_t *steps);
+uint32_t muruapy_rounds_parts(const muruapy_plan *plan, muruapy_module *modules, uint8_t (*marks)[2], uint32_t *sent,
+                              uint64_t *words, size_t room, uint16_t limit, uint16_t *rounds);
+uint32_t muruapy_job_parts(const muruapy_plan *plan, muruapy_plan *held, muruapy_module *modules, uint8_t (*marks)[2],
+                           uint32_t *sent, uint64_t *words, size_t room, uint16_t *rounds);
+size_t muruapy_report_parts(const muruapy_plan *plan, const muruapy_module *modules, const uint8_t (*marks)[2],
+                            uint32_t sent, uint16_t rounds, uint8_t *text, size_t room);
+
+/* Sets up the field of a plan: all modules asleep, no word waiting.
+ *
+ * plan   any numbers, only read; not the plan within `field`
+ * field  gets the field, the plan too
+ * words  all become 0
+ * room   how many words there are: the ceiling or more
+ *
+ * Answers 0, or 14 to 19, or 21. */
+static inline uint32_t muruapy_setup(const muruapy_plan *plan, muruapy_field *field, uint64_t *words, size_t room)
+{
+    return muruapy_setup_parts(plan, &field->plan, field->modules, field->marks, &field->sent, words, room);
+}
+
+/* Checks a field and its words.
+ *
+ * field  the field, however it was made, only read
+ * words  its words, any, only read
+ * room   how many words there are, any number
+ *
+ * Answers 0, or 31: then muruapy_step, muruapy_run and muruapy_rounds on this field are refused by 31. */
+static inline uint32_t muruapy_field_check(const muruapy_field *field, const uint64_t *words, size_t room)
+{
+    return muruapy_field_check_parts(&field->plan, field->modules, field->marks, field->sent, words, room);
+}
+
+/* Takes one step.
+ *
+ * field   the field, however it was made; gets what the step leaves, but for its plan, which is only read
+ * words   its words, any; get what the step leaves
+ * room    how many words there are, any number
+ * kind    of `enum muruapy_step_kind`; any other is refused by 54
+ * number  of the module or the directed link, any number
+ *
+ * Answers 0, or 31, 54, 41 to 45, 32 or 33 (31 to 33 never where field and words are as setup and the calls since then
+ * left them). */
+static inline uint32_t muruapy_step(muruapy_field *field, uint64_t *words, size_t room, uint8_t kind, uint16_t number)
+{
+    return muruapy_step_parts(&field->plan, field->modules, field->marks, &field->sent, words, room, kind, number);
+}
+
+/* Runs a schedule, up to its first step that is refused.
+ *
+ * field, words, room  as above
+ * bytes               the schedule's bytes, only read
+ * length              how many there are, any number
+ * steps               gets the number of steps done; 0 where the call is refused whole, by 31 or 51 to 54
+ *
+ * Answers 0, or the refusal: of the whole call (31, 51 to 54), or of the step that ended it (41 to 45, 32, 33); then
+ * the steps before it stand. */
+static inline uint32_t muruapy_run(muruapy_field *field, uint64_t *words, size_t room, const uint8_t *bytes,
+                                   size_t length, size_t *steps)
+{
+    return muruapy_run_parts(&field->plan, field->modules, field->marks, &field->sent, words, room, bytes, length, steps);
+}
+
+/* Runs rounds until the field is at rest. A round hands over all that waits in the air and lets each module serve all
+ * that its queue then holds.
+ *
+ * field, words, room  as above
+ * limit               rounds at most, any number
+ * rounds              gets the number of rounds completed; 0 where the call is refused by 31
+ *
+ * Answers 0 at rest or at the limit, or 31, or the refusal of the step that ended it (32 or 33; neither from setup);
+ * then the steps before it stand. */
+static inline uint32_t muruapy_rounds(muruapy_field *field, uint64_t *words, size_t room, uint16_t limit,
+                                      uint16_t *rounds)
+{
+    return muruapy_rounds_parts(&field->plan, field->modules, field->marks, &field->sent, words, room, limit, rounds);
+}
+
+/* The whole job: sets up the field of a plan, wakes module 0, runs rounds to rest. Then every module marks exactly the
+ * links that muruapy_tree writes.
+ *
+ * plan, field, words, room  as for muruapy_setup; field and words get what the last round leaves
+ * rounds                    gets the number of rounds; 0 where the call is refused
+ *
+ * Answers 0, or 14 to 19, or 21. */
+static inline uint32_t muruapy_job(const muruapy_plan *plan, muruapy_field *field, uint64_t *words, size_t room,
+                                   uint16_t *rounds)
+{
+    return muruapy_job_parts(plan, &field->plan, field->modules, field->marks, &field->sent, words, room, rounds);
+}
+
+/* The report of a field as text, as the command `muruapy show` prints it.
+ *
+ * field   any numbers, only read
+ * rounds  the number for its last line, any
+ * text    gets the text at its front, without a 0 behind it; the bytes behind keep
+ * room    how many bytes there are: MURUAPY_REPORT_BYTES are always enough; with fewer the text may be cut off
+ *
+ * Answers the number of bytes put. Refuses nothing. */
+static inline size_t muruapy_report(const muruapy_field *field, uint16_t rounds, uint8_t *text, size_t room)
+{
+    return muruapy_report_parts(&field->plan, field->modules, field->marks, field->sent, rounds, text, room);
+}
+
+/* ---- Schedules ---- */
+
+/* Checks the bytes of a schedule.
+ *
+ * bytes   the schedule's bytes, only read
+ * length  how many there are, any number
+ *
+ * Answers 0, or 51 to 54. */
+uint32_t muruapy_schedule_check(const uint8_t *bytes, size_t length);
+
+/* How many steps a schedule has. It does not check the bytes.
+ *
+ * bytes, length  as above
+ *
+ * Answers (length - 3) / 3, the whole steps behind the first three bytes, also for bytes that the check refuses; 0 for
+ * fewer than 3 bytes. Refuses nothing. */
+size_t muruapy_schedule_steps(const uint8_t *bytes, size_t length);
+
+/* Reads the step at a place of a schedule. It does not check the bytes.
+ *
+ * bytes, length  as above
+ * at             the place: the number of the step, from 0; any number
+ * kind           gets the step's kind; 0 past the last step
+ * number         gets the number of its module or directed link; 0 past the last step
+ * next           gets the place behind it; past the last step `at` itself
+ *
+ * Answers how many steps there are from `at` on: 0 past the last one. Refuses nothing. */
+size_t muruapy_schedule_read(const uint8_t *bytes, size_t length, size_t at, uint8_t *kind, uint16_t *number,
+                             size_t *next);
 
 #ifdef __cplusplus
 }

@@ -1,6 +1,6 @@
 # For the scripts of tests/ and tools/: `. tests/rust.sh` from the top of the repository. Plain rustc, the standard
 # library alone; what is built lies in target/rust.
-RUSTC=${RUSTC:-$(command -v rustc || echo "$HOME/.cargo/bin/rustc")}
+RUSTC=${RUSTC:-$(command -v rustc || echo "${HOME:-}/.cargo/bin/rustc")} # as in tools/test
 built=target/rust
 mkdir -p "$built" || exit 2
 
@@ -16,25 +16,10 @@ scanning() {
     rust --test --crate-name "$1" --extern scan="$built/libscan.rlib" "$2" -o "$built/$1-tests"
 }
 
-# The archive of an exporting crate. `rt staticlib` proves that thin crate again, not what it builds on; not even that
-# where the archive is newer than the sources and what was proved.
-archive() {
-    lib=target/staticlib/lib$1.a
-    if [ ! -f "$lib" ] || [ -n "$(find crates target/rlib -newer "$lib" | head -n 1)" ]; then
-        rt staticlib "$1" >"$built/$1.log" 2>&1 || { tail -n 20 "$built/$1.log"; exit 1; }
-    fi
-}
-
-# A program over the oracle and archives: its name, its source, the exporting crates.
+# A program over the oracle and the compiled library, which tools/build makes: its name, its source.
 linked() {
-    name=$1 source=$2 libs=
-    shift 2
-    for crate in "$@"; do
-        archive "$crate"
-        libs="$libs -l static=$crate"
-    done
+    tools/build || exit 1
     oracle
-    # shellcheck disable=SC2086
-    rust --crate-name "$name" --extern oracle="$built/liboracle.rlib" "$source" -o "$built/$name" \
-        -L native=target/staticlib $libs
+    rust --crate-name "$1" --extern oracle="$built/liboracle.rlib" "$2" -o "$built/$1" \
+        -L native=target/lib -l static=muruapy
 }

@@ -2,16 +2,12 @@
 //! both built for release, in turn. A benchmark, not a test. `bench rattle` and `bench rust` make one side's runs of
 //! rounds alone, for a profiler.
 
-#[path = "../fields/library.rs"]
-#[allow(dead_code)]
-mod fields;
-#[path = "../ground/library.rs"]
-#[allow(dead_code)]
-mod library;
+#[path = "../muruapy.rs"]
+mod muruapy;
 mod plain;
 mod rounds;
 
-use fields::Record;
+use muruapy::Record;
 use oracle::field::{self, WAKE};
 use oracle::fields::{drawn, spoil};
 use oracle::plans::{connected, good, plan, Readings};
@@ -74,6 +70,15 @@ fn on_bytes<'a>(inputs: &'a [Vec<u8>], mut work: impl FnMut(&[u8]) -> u32 + 'a) 
     }
 }
 
+/// A plan's bytes read, and its tree: 0 where all is taken.
+fn tree_of(bytes: &[u8], out: &mut [u8]) -> u32 {
+    let mut numbers = [0; 2402];
+    match muruapy::plan_read(bytes, &mut numbers) {
+        0 => muruapy::tree(&numbers, out),
+        refusal => refusal,
+    }
+}
+
 /// A field and its words.
 type Start = (Record, Vec<u64>);
 
@@ -108,7 +113,7 @@ fn on_fields<'a>(starts: &'a [Start], limit: u16, run: Rounds) -> impl FnMut(usi
 fn agree(inputs: &Inputs) {
     for bytes in inputs.wide.iter().chain(&inputs.few) {
         let (mut a, mut b) = ([0; 600], [0; 600]);
-        assert_eq!((library::tree(bytes, &mut a), plain::tree(bytes, &mut b)), (0, 0));
+        assert_eq!((tree_of(bytes, &mut a), plain::tree(bytes, &mut b)), (0, 0));
         assert_eq!(a, b, "both sides build the same tree");
     }
     let same = |start: &Start, limit: u16| {
@@ -163,10 +168,10 @@ fn tables(inputs: &Inputs) {
     println!("| work | Rattle | plain Rust | ratio | ratio by first quartiles |");
     println!("|---|---|---|---|---|");
     let check = &mut on_bytes(&inputs.wide, plain::check);
-    row("check", REPETITIONS, &mut on_bytes(&inputs.wide, library::plan_check), check);
+    row("check", REPETITIONS, &mut on_bytes(&inputs.wide, muruapy::plan_check), check);
     let (mut a, mut b) = ([0; 600], [0; 600]);
     let mut tree = |name: &str, inputs: &[Vec<u8>]| {
-        let rattle = &mut on_bytes(inputs, |bytes| library::tree(bytes, &mut a));
+        let rattle = &mut on_bytes(inputs, |bytes| tree_of(bytes, &mut a));
         row(name, REPETITIONS, rattle, &mut on_bytes(inputs, |bytes| plain::tree(bytes, &mut b)));
     };
     tree("check and tree, readings 0 to 2000", &inputs.wide);

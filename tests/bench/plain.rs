@@ -1,6 +1,6 @@
 //! The other side of the benchmark: the same work as one would write it in plain safe Rust.
 
-use crate::fields::Record;
+use crate::muruapy::Record;
 
 /// The parts that links have joined so far, by their roots, with path halving.
 struct Parts([u8; 192]);

@@ -3,16 +3,13 @@
 //! anything is written. What is marked `inline(never)` is so that sampling tells the parts of a run apart; left free to
 //! inline, the ratios are the same.
 
-use crate::fields::Record;
+use crate::muruapy::{Cells, Record};
 use crate::plain::check_plan;
-use oracle::plan::MOST_MODULES;
 use oracle::rules::WIDTH;
 
 const NONE: u16 = 65535;
 const HANDED: u64 = 1 << 40;
 const ALWAYS: u64 = 1 << 41;
-
-type Cells = [u16; MOST_MODULES as usize * WIDTH];
 
 #[derive(Clone, Copy, PartialEq)]
 struct Module {

@@ -40,7 +40,7 @@ fn check(tree: &Tree, made: &str) -> bool {
         tables::claims(row, &by, &mut found);
         tables::functions(row, tree, &mut found);
     }
-    for page in ["README.md", "docs/PROOF.md", "docs/PROTOCOL.md", "docs/TOUR.md", "docs/DECISIONS.md"] {
+    for page in ["README.md", "docs/PROOF.md", "docs/PROTOCOL.md", "docs/TOUR.md", "docs/DECISIONS.md", "docs/FORMATS.md"] {
         tables::mentions(page, &fs::read_to_string(page).unwrap_or_default(), &by, &mut found);
     }
     for row in ["docs/PROTOCOL.md", "docs/TOUR.md"].into_iter().flat_map(tables::page_rows) {
@@ -48,7 +48,7 @@ fn check(tree: &Tree, made: &str) -> bool {
     }
     tables::numbers(&proof, &mut found);
     edits::compare(&proof, &mut found);
-    map::compare(&tables::page_rows("README.md"), &listing(), &mut found);
+    map::compare(&fs::read_to_string("README.md").unwrap_or_default(), &listing(), &mut found);
     map::compare_crates(&tables::page_rows("docs/TOUR.md"), tree, &mut found);
     found.faults.extend(difference(&fs::read_to_string("docs/TRUST.md").unwrap_or_default(), made));
     found.faults.iter().for_each(|fault| println!("{fault}"));
@@ -69,7 +69,7 @@ fn main() {
         }
         (Ok(_), Some(asked @ ("edits" | "map" | "crates"))) => {
             let table = match asked {
-                "map" => map::table(&listing()),
+                "map" => map::list(&listing()),
                 "crates" => map::crates_table(&tree),
                 _ => edits::table(),
             };

@@ -3,7 +3,8 @@
 use crate::tables::{Found, Row};
 use scan::Tree;
 
-const TITLES: [&str; 2] = ["Crates", "What they hold"];
+/// README.md keeps to this many columns.
+const COLUMNS: usize = 98;
 const EACH: [&str; 2] = ["Crate", "What it holds"];
 
 type Pair = (String, String);
@@ -43,35 +44,47 @@ fn crates(tree: &Tree) -> Vec<Pair> {
     tree.listed.iter().map(|(_, of, _)| (of.clone(), says(of).unwrap_or_default())).collect()
 }
 
-fn rows(titles: [&str; 2], made: &[Pair]) -> String {
-    let rows: Vec<String> = made.iter().map(|(name, says)| format!("| {name} | {says} |\n")).collect();
-    format!("| {} | {} |\n|---|---|\n{}", titles[0], titles[1], rows.concat())
+/// A group as an item of a list, its lines no longer than the page's.
+fn item((crates, says): &Pair) -> String {
+    let mut lines = vec!["-".to_string()];
+    for word in format!("**{crates}**: {says}").split(' ') {
+        let last = lines.last_mut().expect("there is one");
+        match last.chars().count() + 1 + word.chars().count() <= COLUMNS {
+            true => *last += &format!(" {word}"),
+            false => lines.push(format!("  {word}")),
+        }
+    }
+    lines.join("\n") + "\n"
 }
 
-pub fn table(listing: &str) -> String {
-    rows(TITLES, &groups(listing))
+pub fn list(listing: &str) -> String {
+    groups(listing).iter().map(item).collect()
 }
 
 pub fn crates_table(tree: &Tree) -> String {
-    rows(EACH, &crates(tree))
+    let rows: Vec<String> = crates(tree).iter().map(|(name, says)| format!("| {name} | {says} |\n")).collect();
+    format!("| {} | {} |\n|---|---|\n{}", EACH[0], EACH[1], rows.concat())
 }
 
-/// The table with these titles has these rows, in this order, and no others.
-fn same(page: &str, titles: [&str; 2], said: &[Row], made: &[Pair], found: &mut Found) {
-    let cell = |row: &Row, i: usize| row.cells.get(titles[i]).cloned();
-    let said: Vec<Pair> = said.iter().filter_map(|row| Some((cell(row, 0)?, cell(row, 1)?))).collect();
-    found.names += made.len();
-    if let Some((name, says)) = made.iter().find(|row| !said.contains(row)) {
-        found.faults.push(format!("{page}: there is no row | {name} | {says} |"));
-    } else if said != made {
-        found.faults.push(format!("{page}: the table \"{}\" has other rows than the tree gives", titles[0]));
+/// The page has the list, whole and with nothing in between.
+pub fn compare(page: &str, listing: &str, found: &mut Found) {
+    found.names += groups(listing).len();
+    if let Some(gone) = groups(listing).iter().map(item).find(|item| !page.contains(item.as_str())) {
+        found.faults.push(format!("README.md: its map has no item\n{gone}"));
+    } else if !page.contains(&format!("\n\n{}\n", list(listing))) {
+        found.faults.push("README.md: its map has other items than crates.txt gives".to_string());
     }
 }
 
-pub fn compare(said: &[Row], listing: &str, found: &mut Found) {
-    same("README.md", TITLES, said, &groups(listing), found);
-}
-
+/// The table of crates has these rows, in this order, and no others.
 pub fn compare_crates(said: &[Row], tree: &Tree, found: &mut Found) {
-    same("docs/TOUR.md", EACH, said, &crates(tree), found);
+    let made = crates(tree);
+    let cell = |row: &Row, i: usize| row.cells.get(EACH[i]).cloned();
+    let said: Vec<Pair> = said.iter().filter_map(|row| Some((cell(row, 0)?, cell(row, 1)?))).collect();
+    found.names += made.len();
+    if let Some((name, says)) = made.iter().find(|row| !said.contains(row)) {
+        found.faults.push(format!("docs/TOUR.md: there is no row | {name} | {says} |"));
+    } else if said != made {
+        found.faults.push("docs/TOUR.md: the table of crates has other rows than the tree gives".to_string());
+    }
 }

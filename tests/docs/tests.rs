@@ -90,14 +90,16 @@ fn the_map_is_compared() {
     let listing = "# Of all.\n# Ground.\na:\nb: a\n# Above.\nc: a b\n";
     let faults = |page: &str| {
         let mut found = Found::default();
-        map::compare(&rows("README", page), listing, &mut found);
+        map::compare(&format!("# Map\n\n{page}\n"), listing, &mut found);
         found.faults.len()
     };
-    let page = map::table(listing);
-    assert_eq!(page, "| Crates | What they hold |\n|---|---|\n| a, b | Ground. |\n| c | Above. |\n");
+    let page = map::list(listing);
+    assert_eq!(page, "- **a, b**: Ground.\n- **c**: Above.\n");
     assert_eq!(faults(&page), 0);
     assert_eq!(faults(&page.replace("a, b", "a")), 1);
-    assert_eq!(faults(&format!("{page}| a | Ground. |\n")), 1);
+    assert_eq!(faults(&format!("{page}- **a**: Ground.\n")), 1);
+    let long = map::list("# A line of words that is longer than a page is wide, so that it goes on below the first one.\na:\n");
+    assert!(long.lines().count() == 2 && long.lines().all(|line| line.len() < 100), "{long}");
 }
 
 #[test]

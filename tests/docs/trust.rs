@@ -25,8 +25,8 @@ const CALLED: [(&str, &[&str]); 13] = [
     ("format_text", &[]),
 ];
 
-/// The crate of the exports for C, all of them.
-const EXPORTS: &str = "host_console";
+/// The crates of the exports for C, all of them, begin with this.
+const EXPORTS: &str = "library_";
 
 /// Beside the host_ crates, those that are there to be called: each public function of theirs that asks for nothing is listed above or
 /// spared here.
@@ -86,7 +86,7 @@ fn public(tree: &Tree) -> Vec<Key> {
 
 fn called(tree: &Tree) -> Vec<Key> {
     let wanted = |file: &File, item: &Item| {
-        let export = file.of == EXPORTS && file.functions.iter().any(|g| g.exported && g.name == item.name);
+        let export = file.of.starts_with(EXPORTS) && file.functions.iter().any(|g| g.exported && g.name == item.name);
         within(&CALLED, file, item) || export
     };
     public(tree).into_iter().filter(|&(f, i)| wanted(&tree.files[f], &tree.files[f].items[i])).collect()

@@ -1,18 +1,20 @@
-//! Compares the compiled steps and runs with the oracle on fields that a host may make up: valid ones, most of which no
-//! run from setup reaches, spoilt ones, and for each item of 31 some in which this item alone is broken. Answer, cells,
-//! marks, sent count and all words must be the same. Prints counts, or panics at the first difference.
+//! Compares the compiled steps and runs, 31 by itself and the report with the oracle on fields that a host may make up:
+//! valid ones, most of which no run from setup reaches, spoilt ones, and for each item of 31 some in which this item alone
+//! is broken. Answer, cells, marks, sent count and all words must be the same. Prints counts, or panics at the first
+//! difference.
 
 mod items;
-mod library;
+#[path = "../muruapy.rs"]
+mod muruapy;
 mod tally;
 
 use items::{broken, WAYS};
-use library::Record;
+use muruapy::Record;
 use oracle::field::{waiting, Field, Word, HAND_OVER, SERVE, WAKE};
 use oracle::fields::{drawn, spoil};
 use oracle::rng::Rng;
 use oracle::schedule::{encode, Answer, Step};
-use oracle::{plans, rounds, schedule};
+use oracle::{plans, report, rounds, schedule};
 use std::collections::BTreeMap;
 use tally::{list, Tally};
 
@@ -53,6 +55,25 @@ fn same<T: PartialEq + std::fmt::Debug>(
     assert_eq!(lent, around(case.words_after), "the words, or those beside them, after {:?}", case.field);
 }
 
+/// The calls that alter nothing of a field: 31 by itself, how many words wait, the report, also in a text that is too short.
+fn looked_at(rng: &mut Rng, field: &Field, words: &[u64]) {
+    let record = Record::of(field, rng);
+    assert_eq!(record.check(words), field.check(words).err().unwrap_or(0), "31 by itself, for {field:?}");
+    assert_eq!(muruapy::waiting(words), waiting(words), "how many words wait");
+    let accepted = field.plan.check().is_ok();
+    if accepted && rng.once_in(8) {
+        let rounds = rng.next() as u16;
+        let text = report::text(field, rounds as u32).into_bytes();
+        for room in [text.len(), text.len() + rng.range(1, 50), rng.below(text.len())] {
+            let mut out = vec![b'~'; room];
+            let put = text.len().min(room);
+            assert_eq!(record.report(rounds, &mut out), put, "the length of the report");
+            assert_eq!(out[..put], text[..put], "the report");
+            assert!(out[put..].iter().all(|byte| *byte == b'~'), "behind the report");
+        }
+    }
+}
+
 /// One step on both sides; the oracle's outcome goes on.
 fn compare_step(rng: &mut Rng, tally: &mut Tally, field: &mut Field, words: &mut Vec<u64>, step: Step) -> u32 {
     let (mut field_after, mut words_after) = (field.clone(), words.clone());
@@ -62,6 +83,7 @@ fn compare_step(rng: &mut Rng, tally: &mut Tally, field: &mut Field, words: &mut
     assert!(answer == 0 || field_after == *field && words_after == *words, "a refusal changes nothing");
     let case = Case { field, words, field_after: &field_after, words_after: &words_after };
     same(rng, case, answer, |record, words| record.step(words, step.kind, step.number));
+    looked_at(rng, field, words);
     tally.step(field, words, step, outcome);
     (*field, *words) = (field_after, words_after);
     answer

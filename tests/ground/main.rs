@@ -1,9 +1,11 @@
-//! Compares the compiled plan check, plan reader and writer, tree builder, frame check, frame reader and writer and the
-//! ceiling with the oracle, input by input; writers and builder on values that no reader gives, too. Prints one line of
-//! counts, or panics at the first difference.
+//! Compares the compiled calls on plans, frames, header bytes and words with the oracle, input by input; those on plan
+//! values also on values that no reader gives. Prints one line of counts, or panics at the first difference.
 
-mod library;
+#[path = "../muruapy.rs"]
+mod muruapy;
 
+use muruapy::Numbers;
+use oracle::field::Word;
 use oracle::plan::{Link, Plan, NONE};
 use oracle::rng::Rng;
 use oracle::{frame, kruskal, plan, plans};
@@ -49,22 +51,36 @@ fn refused(rng: &mut Rng, tally: &mut Tally, len: usize, number: u32, call: impl
     lend(rng, len, number, &[], call);
 }
 
-/// Bytes that may be a plan: check, copy and tree, with buffers that fit, are longer and are shorter.
+/// What reading leaves in a lent plan: the numbers with zeros behind them, or what lay there.
+fn numbers_read(plan: &Result<Plan, u32>, before: &Numbers) -> Numbers {
+    let Ok(plan) = plan else { return *before };
+    let mut numbers = [0; 2402];
+    let four = plan.links.iter().flat_map(|link| [link.lower, link.higher, link.at_lower, link.at_higher]);
+    let all = [plan.modules, plan.links.len() as u16].into_iter().chain(four);
+    all.zip(&mut numbers).for_each(|(number, place)| *place = number);
+    numbers
+}
+
+/// Bytes that may be a plan: check and reader; then written again and the tree, with buffers that fit, are longer and are
+/// shorter.
 fn compare_plan(rng: &mut Rng, tally: &mut Tally, bytes: &[u8]) {
     tally.plans += 1;
-    let tree = |out: &mut [u8]| library::tree(bytes, out);
-    let copy = |out: &mut [u8]| library::plan_copy(bytes, out);
-    match plan::read(bytes) {
+    let expected = plan::read(bytes);
+    let before: Numbers = std::array::from_fn(|_| rng.next() as u16);
+    let mut numbers = before;
+    let answer = expected.as_ref().err().copied().unwrap_or(0);
+    assert_eq!(muruapy::plan_check(bytes), answer, "the check");
+    assert_eq!(muruapy::plan_read(bytes, &mut numbers), answer, "the reader");
+    assert!(numbers == numbers_read(&expected, &before), "the plan read, or kept");
+    let tree = |out: &mut [u8]| muruapy::tree(&numbers, out);
+    let copy = |out: &mut [u8]| muruapy::plan_write(&numbers, out);
+    match expected {
         Err(number) => {
             tally.refused += 1;
-            assert_eq!(library::plan_check(bytes), number, "the check");
-            let len = rng.pick(&[0, 1, bytes.len() / 8, bytes.len(), bytes.len() + 9]);
-            refused(rng, tally, len, number, tree);
-            lend(rng, len, number, &[], copy);
+            tally.count(number);
         }
         Ok(plan) => {
             tally.good_plans += 1;
-            assert_eq!(library::plan_check(bytes), 0, "the check");
             let l = plan.links.len();
             lend(rng, l, 0, &kruskal::tree(&plan), tree);
             for len in [l + 1, l + 600, rng.below(l.max(1)), l.saturating_sub(1)] {
@@ -82,20 +98,31 @@ fn compare_plan(rng: &mut Rng, tally: &mut Tally, bytes: &[u8]) {
     }
 }
 
-/// Bytes that may be a frame: check and copy, with a buffer that fits and others.
+/// The reader of a frame's bytes: the message's header and carried number, or what lay there.
+fn read_frame(bytes: &[u8]) -> (u8, u16) {
+    let expected = frame::read(bytes);
+    let (mut header, mut carried) = (0xEE, 0xEEEE);
+    let answer = muruapy::frame_read(bytes, &mut header, &mut carried);
+    assert_eq!(answer, expected.err().unwrap_or(0), "the reader of {bytes:02x?}");
+    let wanted = expected.map_or((0xEE, 0xEEEE), |message| (message.header(), message.carried));
+    assert_eq!((header, carried), wanted, "the frame read, or kept, of {bytes:02x?}");
+    wanted
+}
+
+/// Bytes that may be a frame: check and reader; then written again, with a buffer that fits and others.
 fn compare_frame(rng: &mut Rng, tally: &mut Tally, bytes: &[u8]) {
     tally.frames += 1;
-    let copy = |out: &mut [u8]| library::frame_copy(bytes, out);
+    let (header, carried) = read_frame(bytes);
+    let copy = |out: &mut [u8]| muruapy::frame_write(header, carried, out);
     let other = rng.pick(&[0, 1, 5, 7, 8, 12]);
     match frame::read(bytes) {
         Err(number) => {
             tally.refused += 1;
-            assert_eq!(library::frame_check(bytes), number, "the check");
-            refused(rng, tally, 6, number, copy);
-            lend(rng, other, number, &[], copy);
+            tally.count(number);
+            assert_eq!(muruapy::frame_check(bytes), number, "the check");
         }
         Ok(_) => {
-            assert_eq!(library::frame_check(bytes), 0, "the check");
+            assert_eq!(muruapy::frame_check(bytes), 0, "the check");
             lend(rng, 6, 0, bytes, copy);
             refused(rng, tally, other, 64, copy);
         }
@@ -118,16 +145,22 @@ fn alike(
     assert_eq!(buffer, expected, "the lent bytes, or those beside them");
 }
 
-/// A plan value, taken or refused, with anything past its links: written, and its tree built.
+/// A plan value, taken or refused, with anything past its links: checked, its costs, written, and its tree built.
 fn compare_value(rng: &mut Rng, tally: &mut Tally, plan: &Plan) {
     tally.values += 1;
     if plan.check().is_err() {
         tally.refused += 1;
     }
-    let value = library::Value::of(plan, rng);
+    let value = muruapy::numbers(plan, rng);
+    assert_eq!(muruapy::plan_value_check(&value), plan.check().err().unwrap_or(0), "the check of a value");
+    for k in [0, rng.below(700) as u16, plan.links.len() as u16, 599, 600, NONE] {
+        let there = (k as usize) < plan.links.len().min(600);
+        let cost = if there { plan.cost(k) } else { NONE as u32 };
+        assert_eq!(muruapy::link_cost(&value, k), cost, "the cost of link {k}");
+    }
     let size = 7 + 8 * plan.links.len();
     for len in [size, size + rng.range(1, 40), size - 1, rng.below(size)] {
-        alike(rng, tally, len, |out| plan::write(plan, out).map(|_| ()), |out| value.write(out));
+        alike(rng, tally, len, |out| plan::write(plan, out).map(|_| ()), |out| muruapy::plan_write(&value, out));
     }
     let l = plan.links.len();
     let built = |out: &mut [u8]| {
@@ -139,7 +172,7 @@ fn compare_value(rng: &mut Rng, tally: &mut Tally, plan: &Plan) {
         Ok(())
     };
     for len in [l, l + 1, rng.below(l + 1)] {
-        alike(rng, tally, len, built, |out| value.tree(out));
+        alike(rng, tally, len, built, |out| muruapy::tree(&value, out));
     }
 }
 
@@ -147,7 +180,7 @@ fn compare_value(rng: &mut Rng, tally: &mut Tally, plan: &Plan) {
 fn compare_write(rng: &mut Rng, tally: &mut Tally, header: u8, carried: u16) {
     for len in [6, rng.pick(&[0, 1, 5, 7, 8, 12])] {
         let oracle = |out: &mut [u8]| frame::write(header, carried, out);
-        alike(rng, tally, len, oracle, |out| library::frame_write(header, carried, out));
+        alike(rng, tally, len, oracle, |out| muruapy::frame_write(header, carried, out));
     }
 }
 
@@ -172,12 +205,44 @@ fn all_frames(tally: &mut Tally) {
             let c = carried.to_be_bytes();
             let bytes = [1, 0, 3, header, c[0], c[1]];
             let number = frame::read(&bytes).err().unwrap_or(0);
-            assert_eq!(library::frame_check(&bytes), number, "frame {bytes:02x?}");
+            assert_eq!(muruapy::frame_check(&bytes), number, "frame {bytes:02x?}");
+            assert_eq!(muruapy::message_listed(header, carried), number == 0, "listed {bytes:02x?}");
+            read_frame(&bytes);
             let (mut out, before) = ([9; 6], [9; 6]);
-            assert_eq!(library::frame_write(header, carried, &mut out), number, "write {bytes:02x?}");
+            assert_eq!(muruapy::frame_write(header, carried, &mut out), number, "write {bytes:02x?}");
             assert_eq!(out, if number == 0 { bytes } else { before }, "written {bytes:02x?}");
             tally.frames += 1;
         }
+    }
+}
+
+/// Every header byte taken apart, and every one that can be made; 255 where a part does not fit.
+fn all_headers() {
+    for h in 0..=255u8 {
+        assert_eq!(muruapy::header_parts(h), (h & 7, (h >> 3 & 7) as u16, h >> 6 & 1), "header {h:02x}");
+    }
+    for kind in 0..=255u8 {
+        for level in (0..20).chain([255, 256, 8 * 256, 65535]) {
+            for find in [0, 1, 2, 3, 128, 255] {
+                let fits = kind < 8 && level < 8 && find < 2;
+                let byte = if fits { kind + 8 * level as u8 + 64 * find } else { 255 };
+                assert_eq!(muruapy::header(kind, level, find), byte, "header of {kind}, {level}, {find}");
+            }
+        }
+    }
+}
+
+/// The parts of any word, and of words as the oracle packs them.
+fn words(rng: &mut Rng) {
+    for _ in 0..20_000 {
+        let word = rng.next();
+        let parts = (word as u8, (word >> 8) as u16, (word >> 24) as u16, word >> 40 & 1 == 1);
+        assert_eq!(muruapy::word_parts(word), parts, "word {word:x}");
+        let level = rng.below(8) as u16;
+        let message = frame::Message::connect(level);
+        let (directed, handed) = (rng.below(1200) as u16, rng.once_in(2));
+        let packed = Word { message, directed, handed }.pack();
+        assert_eq!(muruapy::word_parts(packed), (message.header(), message.carried, directed, handed));
     }
 }
 
@@ -185,7 +250,7 @@ fn all_ceilings() -> usize {
     let mut compared = 0;
     for n in 0..=192 {
         for l in 0..=600 {
-            assert_eq!(library::ceiling(n, l), plan::ceiling(n, l), "the ceiling of {n}, {l}");
+            assert_eq!(muruapy::ceiling(n, l), plan::ceiling(n, l), "the ceiling of {n}, {l}");
             compared += 1;
         }
     }
@@ -195,7 +260,7 @@ fn all_ceilings() -> usize {
 /// Document 01's samples for plans, tree, ceiling and frames, with the numbers written out here.
 fn samples(rng: &mut Rng) {
     for (n, l, m) in [(1, 0, 0), (2, 1, 12), (3, 3, 21), (192, 600, 7920)] {
-        assert_eq!(library::ceiling(n, l), m);
+        assert_eq!(muruapy::ceiling(n, l), m);
     }
     let link = |lower, higher, at_lower, at_higher| Link { lower, higher, at_lower, at_higher };
     let path = |n: u16| Plan { modules: n, links: (1..n).map(|v| link(v - 1, v, 2, 3)).collect() }.encode();
@@ -217,13 +282,15 @@ fn samples(rng: &mut Rng) {
         (&two[..14], 13),
     ];
     for (bytes, number) in numbers {
-        assert_eq!(library::plan_check(bytes), number);
+        assert_eq!(muruapy::plan_check(bytes), number);
     }
     let triangle = Plan { modules: 3, links: vec![link(0, 1, 2, 3), link(0, 2, 2, 3), link(1, 2, 2, 3)] };
-    lend(rng, 3, 0, &[1, 1, 0], |out| library::tree(&triangle.encode(), out));
+    let value = muruapy::numbers(&triangle, rng);
+    lend(rng, 3, 0, &[1, 1, 0], |out| muruapy::tree(&value, out));
     for frame in [[1, 0, 3, 0x52, 0, 5], [1, 0, 3, 1, 0xFF, 0xFF]] {
-        assert_eq!(library::frame_check(&frame), 0);
-        lend(rng, 6, 0, &frame, |out| library::frame_copy(&frame, out));
+        assert_eq!(muruapy::frame_check(&frame), 0);
+        let (header, carried) = read_frame(&frame);
+        lend(rng, 6, 0, &frame, |out| muruapy::frame_write(header, carried, out));
     }
     assert_eq!(frame::read(&[1, 0, 3, 0x52, 0, 5]), Ok(frame::Message::initiate(2, 5, true)));
     assert_eq!(frame::read(&[1, 0, 3, 1, 0xFF, 0xFF]), Ok(frame::Message::connect(0)));
@@ -238,7 +305,7 @@ fn sample_files(rng: &mut Rng, tally: &mut Tally) {
         if path.extension().is_some_and(|e| e == "plan") {
             let number = name.strip_prefix("refused-").map_or(0, |rest| rest[..2].parse().unwrap());
             let bytes = std::fs::read(&path).unwrap();
-            assert_eq!(library::plan_check(&bytes), number, "{name}");
+            assert_eq!(muruapy::plan_check(&bytes), number, "{name}");
             compare_plan(rng, tally, &bytes);
         }
     }
@@ -249,6 +316,8 @@ fn main() {
     let mut tally = Tally::default();
     samples(&mut rng);
     let ceilings = all_ceilings();
+    all_headers();
+    words(&mut rng);
     for i in 0..450 {
         let plan = plans::good(&mut rng, plans::KINDS[i % plans::KINDS.len()]);
         compare_plan(&mut rng, &mut tally, &plan.encode());

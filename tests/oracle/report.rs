@@ -1,6 +1,6 @@
 //! What the reporting program prints for a plan: module 0 is woken, then rounds run with limit 65535.
 
-use crate::field::{setup, WAKE};
+use crate::field::{setup, Field, WAKE};
 use crate::plan;
 use crate::rounds;
 use crate::rules::BRANCH;
@@ -16,25 +16,29 @@ pub fn report(bytes: &[u8]) -> String {
     field.step(&mut words, WAKE, 0).expect("module 0 sleeps");
     let answer = rounds::run(&mut field, &mut words, 65535);
     assert_eq!(answer.refusal, None, "rounds from setup are not refused");
+    assert!(field.marks.iter().all(|[a, b]| a == b), "both ends say the same");
+    text(&field, answer.done)
+}
 
+/// The lines of any field: a branch by the lower end's mark, every module that has halted.
+pub fn text(field: &Field, rounds: u32) -> String {
+    let plan = &field.plan;
     let mut out = String::new();
     writeln!(out, "modules {}", plan.modules).unwrap();
     writeln!(out, "links {}", plan.links.len()).unwrap();
     let mut total = 0;
     for (k, link) in plan.links.iter().enumerate() {
-        if field.marks[k] == [BRANCH, BRANCH] {
+        if field.marks[k][0] == BRANCH {
             let cost = plan.cost(k as u16);
             writeln!(out, "branch {} {} {}", link.lower, link.higher, cost).unwrap();
             total += cost;
         }
     }
     writeln!(out, "total {total}").unwrap();
-    let halted: Vec<u16> = (0..plan.modules).filter(|v| field.modules[*v as usize].halted == 1).collect();
-    match halted[..] {
-        [a, b] => writeln!(out, "core {a} {b}").unwrap(),
-        _ => writeln!(out, "core none").unwrap(),
-    }
+    let halted = (0..plan.modules).filter(|v| field.modules[*v as usize].halted == 1);
+    let ends: String = halted.map(|v| format!(" {v}")).collect();
+    writeln!(out, "core{}", if plan.modules < 2 { " none" } else { &ends }).unwrap();
     writeln!(out, "messages {} of {}", field.sent, plan.ceiling()).unwrap();
-    writeln!(out, "rounds {}", answer.done).unwrap();
+    writeln!(out, "rounds {rounds}").unwrap();
     out
 }

@@ -2,16 +2,15 @@
 //! oracle's: on fields from a woken module on, to rest, and on fields that a host may make up, valid and spoilt. Rounds
 //! completed, refusal, the whole record and all words must be the same. Prints counts, or panics at the first difference.
 
-#[path = "../fields/library.rs"]
-#[allow(dead_code)]
-mod fields;
+#[path = "../muruapy.rs"]
+mod muruapy;
 #[path = "../bench/plain.rs"]
 #[allow(dead_code)]
 mod plain;
 #[path = "../bench/rounds.rs"]
 mod rounds;
 
-use fields::Record;
+use muruapy::Record;
 use oracle::field::{setup_value, Field, WAKE};
 use oracle::fields::{drawn, spoil};
 use oracle::plans;

@@ -1,16 +1,18 @@
-//! Compares the compiled setup, schedule check and schedule reader with the oracle. Setup: on plan values good and
-//! damaged, in words that hold anything, fewer than M, M and more; the answer, every word, every number of the field.
+//! Compares the compiled setup, whole job, schedule check and schedule reader with the oracle. Setup and job: on plan
+//! values good and damaged, in words that hold anything, fewer than M, M and more; the answer, every word, every number of
+//! the field, which lay full of other numbers before.
 //! The reader: on schedules good and damaged, opened, at every place and past the end. Prints counts, or panics at the first
 //! difference.
 
-mod library;
+#[path = "../muruapy.rs"]
+mod muruapy;
 
-use library::{numbers, read_step, schedule_check, schedule_open, Numbers, Parts};
-use oracle::field::{setup_value, Field, HAND_OVER, SERVE, WAKE};
+use muruapy::{numbers, schedule_check, schedule_read, schedule_steps, Record};
+use oracle::field::{setup_value, HAND_OVER, SERVE, WAKE};
 use oracle::plan::{Link, Plan};
 use oracle::plans;
+use oracle::rounds;
 use oracle::rng::Rng;
-use oracle::rules::{Module, WIDTH};
 use oracle::schedule::{encode, read, Reader, Step};
 use std::collections::BTreeMap;
 
@@ -18,6 +20,7 @@ const GOOD: usize = 450;
 const DAMAGED: usize = 3000;
 const SCHEDULES: usize = 3000;
 const LONG: usize = 12;
+const JOBS: usize = 500;
 
 /// How often each answer must come, about half as often as with the seed of main.
 type Least = [(u32, usize)];
@@ -25,6 +28,7 @@ type Least = [(u32, usize)];
 #[rustfmt::skip]
 const SETUPS: &Least =
     &[(0, 2500), (14, 750), (15, 220), (16, 1600), (17, 700), (18, 400), (19, 900), (21, 1400)];
+const DONE: &Least = &[(0, 240), (14, 25), (15, 2), (16, 50), (17, 23), (18, 16), (19, 29), (21, 110)];
 const CHECKS: &Least = &[(0, 550), (51, 150), (52, 200), (53, 470), (54, 110)];
 
 /// How often each answer came.
@@ -47,24 +51,6 @@ impl Tally {
     }
 }
 
-/// The field that setup hands back. It holds the plan as given and sets all cells and marks, past the plan's modules and
-/// links too; beside a refusal it is zeros.
-fn handed_back(plan: &Numbers, field: &Result<Field, u32>) -> Parts {
-    let mut parts = Parts::zeros();
-    if let Ok(field) = field {
-        parts.plan = *plan;
-        parts.cells.chunks_exact_mut(WIDTH).for_each(|values| values.copy_from_slice(&Module::SETUP.values()));
-        for (values, module) in parts.cells.chunks_exact_mut(WIDTH).zip(&field.modules) {
-            values.copy_from_slice(&module.values());
-        }
-        for (ends, marks) in parts.marks.chunks_exact_mut(2).zip(&field.marks) {
-            ends.copy_from_slice(marks);
-        }
-        parts.sent = field.sent;
-    }
-    parts
-}
-
 const GUARD: usize = 8;
 
 /// Setup of a plan value in `len` words on both sides, with other words beside the lent ones; some are zero before.
@@ -74,11 +60,12 @@ fn compare_setup(rng: &mut Rng, tally: &mut Tally, plan: &Plan, len: usize) {
     let mut expected = words.clone();
     let field = setup_value(plan.clone(), &mut expected[GUARD..GUARD + len]);
     let answer = field.as_ref().err().copied().unwrap_or(0);
-    let (mut parts, before) = (Parts::any(rng), given);
-    assert_eq!(parts.setup(&given, &mut words[GUARD..GUARD + len]), answer, "the answer, {len} words, for {plan:?}");
+    let (mut record, before) = (Record::any(rng), given);
+    let expected_record = if answer == 0 { Record::at_setup(&given) } else { record.clone() };
+    assert_eq!(record.setup(&given, &mut words[GUARD..GUARD + len]), answer, "the answer, {len} words, for {plan:?}");
     assert!(given == before, "the lent plan stays");
     assert_eq!(words, expected, "the words, or those beside them, {len} of them, for {plan:?}");
-    assert!(parts == handed_back(&given, &field), "the field, {len} words, for {plan:?}");
+    assert!(record == expected_record, "the field, or the one that lay there, {len} words, for {plan:?}");
     tally.count(answer);
 }
 
@@ -88,6 +75,43 @@ fn setups(rng: &mut Rng, tally: &mut Tally, plan: &Plan) {
     let some = rng.below(m + 1);
     for len in [m.saturating_sub(1), m, m + 1, m + rng.range(2, 3000), some] {
         compare_setup(rng, tally, plan, len);
+    }
+}
+
+/// The whole job on a plan value in `len` words, on both sides: rounds, answer, field and words.
+fn compare_job(rng: &mut Rng, tally: &mut Tally, plan: &Plan, len: usize) {
+    let given = numbers(plan, rng);
+    let mut words: Vec<u64> = (0..len).map(|_| rng.next()).collect();
+    let mut expected_words = words.clone();
+    let mut record = Record::any(rng);
+    let mut expected = record.clone();
+    let (mut done, mut refusal) = (0, 0);
+    match setup_value(plan.clone(), &mut expected_words) {
+        Err(number) => refusal = number,
+        Ok(mut field) => {
+            field.step(&mut expected_words, WAKE, 0).expect("module 0 sleeps");
+            let answer = rounds::run(&mut field, &mut expected_words, 65535);
+            assert_eq!(answer.refusal, None, "a job is not refused past setup");
+            done = answer.done as usize;
+            expected = Record::at_setup(&given);
+            expected.put(&field);
+        }
+    }
+    assert_eq!(record.job(&given, &mut words), (done, refusal), "the job in {len} words, for {plan:?}");
+    assert!(record == expected, "the field after the job in {len} words, for {plan:?}");
+    assert!(words == expected_words, "the words after the job in {len} words, for {plan:?}");
+    tally.count(refusal);
+}
+
+/// Jobs on good plans in M words, more and fewer, and on damaged ones.
+fn jobs(rng: &mut Rng, tally: &mut Tally) {
+    for i in 0..JOBS {
+        let plan = plans::good(rng, plans::KINDS[i % plans::KINDS.len()]);
+        let m = plan.ceiling() as usize;
+        let len = if rng.once_in(4) { rng.below(m + 1) } else { m + rng.below(3) };
+        compare_job(rng, tally, &plan, len);
+        let damaged = plans::damaged_value(rng);
+        compare_job(rng, tally, &damaged, m);
     }
 }
 
@@ -107,7 +131,7 @@ fn compare_place(bytes: &[u8], place: usize) {
     let mut reader = Reader::at(bytes, place);
     let left = reader.left();
     let step = reader.next().unwrap_or(Step { kind: 0, number: 0 });
-    assert_eq!(read_step(bytes, place), (left, step, reader.place), "place {place} of {bytes:02x?}");
+    assert_eq!(schedule_read(bytes, place), (left, step, reader.place), "place {place} of {bytes:02x?}");
 }
 
 /// A schedule's bytes, taken or refused: the check, the reader opened and at every place, and all its steps read one after
@@ -117,18 +141,18 @@ fn compare_schedule(tally: &mut Tally, bytes: &[u8]) {
     let answer = steps.as_ref().err().copied().unwrap_or(0);
     assert_eq!(schedule_check(bytes), answer, "the check of {bytes:02x?}");
     tally.count(answer);
-    assert_eq!(schedule_open(bytes), Reader::at(bytes, 0).left(), "a reader opened on {bytes:02x?}");
+    assert_eq!(schedule_steps(bytes), Reader::at(bytes, 0).left(), "a reader opened on {bytes:02x?}");
     for place in (0..bytes.len() / 3 + 3).chain([usize::MAX / 3, usize::MAX / 3 + 1, usize::MAX - 1, usize::MAX]) {
         compare_place(bytes, place);
     }
     if let Ok(steps) = steps {
         let mut place = 0;
         for (i, expected) in steps.iter().enumerate() {
-            let (left, step, next) = read_step(bytes, place);
+            let (left, step, next) = schedule_read(bytes, place);
             assert_eq!((left, step), (steps.len() - i, *expected), "read {i} of {bytes:02x?}");
             place = next;
         }
-        assert_eq!(read_step(bytes, place).0, 0, "all of {bytes:02x?} is read");
+        assert_eq!(schedule_read(bytes, place).0, 0, "all of {bytes:02x?} is read");
     }
 }
 
@@ -198,6 +222,9 @@ fn main() {
     }
     println!("setup: {GOOD} good and {DAMAGED} damaged plan values agree, each in five numbers of words");
     println!("setup: {SCHEDULES} schedules and {LONG} long ones agree, at every place");
+    let mut ends = Tally::default();
+    jobs(&mut rng, &mut ends);
     answers.report("setups", SETUPS);
+    ends.report("jobs", DONE);
     checks.report("schedules", CHECKS);
 }

@@ -1,7 +1,0 @@
--- What the comparison asks a schedule reader: how many steps are left, a step, and its place after that.
-use Rattle.host_reader.specs.declared.Schedule.{Schedule}
-use Rattle.host_reader.specs.Reader.{leftOf, readOf}
-use Rattle.test_setup.specs.declared.Found.{Found}
-
-abbrev pub foundBy : Schedule → Found
-foundBy s = record { left = leftOf s; step = readOf s .step; place = readOf s .reader .at }

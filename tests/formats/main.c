@@ -1,0 +1,537 @@
+/* Runs the examples of docs/FORMATS.md through the library: formats PAGE, in the folder that has samples/. The page says
+ * itself what its fenced blocks mean ("Examples"). Fails at the first that does not hold, at a block that it does not
+ * know, and where a page has fewer examples of a sort than it must have. */
+#include "muruapy.h"
+
+#include <stdarg.h>
+#include <stdio.h>
+#include <stdlib.h>
+#include <string.h>
+
+enum { MOST = 8192 };
+
+static const char *page;
+static unsigned long at; /* the line that is read */
+
+static void fault(const char *form, ...)
+{
+    va_list rest;
+    va_start(rest, form);
+    printf("%s:%lu: ", page, at);
+    vprintf(form, rest);
+    puts("");
+    va_end(rest);
+    exit(1);
+}
+
+static void same(const char *what, unsigned long got, unsigned long said)
+{
+    if (got != said)
+        fault("%s is %lu, not %lu", what, got, said);
+}
+
+/* ---- how many examples there are, by sort and number ---- */
+
+enum sort { PLAN, FRAME, SCHEDULE, STEP, CALL, CEILING, HEADER, WORD, REPORT, SORTS };
+
+static const char *const names[SORTS] = {"plan", "frame", "schedule", "step", "run or rounds", "ceiling",
+                                         "header", "word", "report"};
+static unsigned long seen[SORTS][100];
+
+static const struct least {
+    enum sort sort;
+    unsigned first, last; /* of these numbers each */
+    unsigned long count;
+} least[] = {
+    {PLAN, 0, 0, 4},   {PLAN, 11, 19, 1},     {FRAME, 0, 0, 8}, {FRAME, 61, 63, 2}, {SCHEDULE, 0, 0, 2},
+    {SCHEDULE, 51, 54, 1}, {STEP, 0, 0, 20},  {STEP, 41, 45, 1}, {STEP, 54, 54, 1}, {CALL, 0, 0, 6},
+    {CALL, 41, 41, 1}, {CALL, 54, 54, 1},     {CEILING, 0, 0, 5}, {HEADER, 0, 0, 6}, {WORD, 0, 0, 4},
+    {REPORT, 0, 0, 1},
+};
+
+static void count(enum sort sort, uint32_t number)
+{
+    if (number > 99)
+        fault("no refusal has the number %lu", (unsigned long)number);
+    seen[sort][number]++;
+}
+
+static unsigned long counted(void)
+{
+    unsigned long all = 0;
+    for (size_t i = 0; i < sizeof least / sizeof least[0]; i++)
+        for (unsigned n = least[i].first; n <= least[i].last; n++)
+            if (seen[least[i].sort][n] < least[i].count)
+                fault("%lu examples of %s %u are too few", seen[least[i].sort][n], names[least[i].sort], n);
+    for (int sort = 0; sort < SORTS; sort++)
+        for (int n = 0; n < 100; n++)
+            all += seen[sort][n];
+    return all;
+}
+
+/* ---- reading a line ---- */
+
+/* The next word of a line, which is cut off it; NULL at the end. */
+static char *word(char **line)
+{
+    char *start = *line + strspn(*line, " ");
+    if (*start == 0)
+        return NULL;
+    *line = start + strcspn(start, " ");
+    if (**line)
+        *(*line)++ = 0;
+    return start;
+}
+
+/* A number, in all of its word. */
+static unsigned long long number(char **line, int base)
+{
+    char *text = word(line), *end;
+    if (!text || !strchr("0123456789abcdef", *text))
+        fault("a number is missing");
+    unsigned long long value = strtoull(text, &end, base);
+    if (*end)
+        fault("%s is no number", text);
+    return value;
+}
+
+static void no_more(char **line)
+{
+    const char *left = word(line);
+    if (left)
+        fault("%s is one word too many", left);
+}
+
+/* The word that has to come. */
+static void expect(char **line, const char *said)
+{
+    const char *text = word(line);
+    if (!text || strcmp(text, said) != 0)
+        fault("%s has to come, not %s", said, text ? text : "nothing");
+}
+
+/* Memory of just this size, so that a checker of memory sees one byte too many; never NULL. */
+static void *memory(size_t size)
+{
+    void *room = malloc(size ? size : 1);
+    if (!room)
+        fault("no memory");
+    return room;
+}
+
+/* ---- bytes: plans, frames, schedules ---- */
+
+struct bytes {
+    uint8_t *at;
+    size_t length;
+};
+
+static void more_bytes(struct bytes *b, char **line)
+{
+    for (char *text = word(line); text; text = word(line)) {
+        char *rest = text;
+        if (strlen(text) != 2 || b->length == MOST)
+            fault("%s is no byte", text);
+        b->at[b->length++] = (uint8_t)number(&rest, 16);
+    }
+}
+
+/* A taken plan: read and written it is the same; each buffer that is too short, too long or too small is refused. */
+static void taken_plan(struct bytes b, char **wanted)
+{
+    static muruapy_plan plan;
+    static muruapy_field field;
+    uint16_t rounds;
+    same("the reader's answer", muruapy_plan_read(b.at, b.length, &plan), 0);
+    same("the check of the value", muruapy_plan_value_check(&plan), 0);
+    same("the length", b.length, 7 + 8ul * plan.links);
+    uint8_t *out = memory(b.length);
+    same("a short buffer", muruapy_plan_write(&plan, out, b.length - 1), MURUAPY_PLAN_BUFFER);
+    same("the writer's answer", muruapy_plan_write(&plan, out, b.length), 0);
+    if (memcmp(out, b.at, b.length) != 0)
+        fault("the plan comes back as other bytes");
+
+    uint8_t *tree = memory(plan.links + 1u);
+    same("a long tree", muruapy_tree(&plan, tree, plan.links + 1u), MURUAPY_TREE_BUFFER);
+    same("the builder's answer", muruapy_tree(&plan, tree, plan.links), 0);
+    const char *more = word(wanted);
+    if (more && strcmp(more, "tree") != 0)
+        fault("%s is not known here", more);
+    for (uint16_t k = 0; more && k < plan.links; k++)
+        same("a link's byte in the tree", tree[k], (unsigned long)number(wanted, 10));
+
+    size_t room = muruapy_ceiling(plan.modules, plan.links);
+    uint64_t *words = memory(room * sizeof *words);
+    if (room > 0)
+        same("setup with a word too few", muruapy_setup(&plan, &field, words, room - 1), MURUAPY_TOO_FEW_WORDS);
+    same("the job's answer", muruapy_job(&plan, &field, words, room, &rounds), 0);
+    for (uint16_t k = 0; k < plan.links; k++)
+        for (int end = 0; end < 2; end++)
+            same("a mark at rest", field.marks[k][end], tree[k] ? 1 : 2);
+    free(words);
+    free(tree);
+    free(out);
+}
+
+static void refused_plan(struct bytes b, uint32_t refusal)
+{
+    static muruapy_plan plan, before;
+    memset(&plan, 0x5a, sizeof plan);
+    before = plan;
+    same("the reader's answer", muruapy_plan_read(b.at, b.length, &plan), refusal);
+    if (memcmp(&plan, &before, sizeof plan) != 0)
+        fault("a refused reader has altered the plan");
+}
+
+static void plan_bytes(struct bytes b, uint32_t refusal, char **wanted)
+{
+    same("the check's answer", muruapy_plan_check(b.at, b.length), refusal);
+    if (refusal == 0)
+        taken_plan(b, wanted);
+    else
+        refused_plan(b, refusal);
+}
+
+static void frame_bytes(struct bytes b, uint32_t refusal, char **wanted)
+{
+    uint8_t header = 0xee, out[7];
+    uint16_t carried = 0xeeee;
+    same("the check's answer", muruapy_frame_check(b.at, b.length), refusal);
+    same("the reader's answer", muruapy_frame_read(b.at, b.length, &header, &carried), refusal);
+    if (refusal != 0) {
+        same("the header beside a refusal", header, 0xee);
+        same("the carried number beside a refusal", carried, 0xeeee);
+        if (refusal == MURUAPY_MESSAGE)
+            same("the writer's answer", muruapy_frame_write(b.at[3], (uint16_t)(b.at[4] << 8 | b.at[5]), out, 6), refusal);
+        return;
+    }
+    expect(wanted, "header");
+    same("the header", header, (unsigned long)number(wanted, 16));
+    expect(wanted, "carried");
+    same("the carried number", carried, (unsigned long)number(wanted, 10));
+    if (!muruapy_message_listed(header, carried))
+        fault("the message is not listed");
+    same("a long buffer", muruapy_frame_write(header, carried, out, 7), MURUAPY_FRAME_BUFFER);
+    same("the writer's answer", muruapy_frame_write(header, carried, out, 6), 0);
+    if (memcmp(out, b.at, 6) != 0)
+        fault("the frame comes back as other bytes");
+}
+
+static void schedule_bytes(struct bytes b, uint32_t refusal, char **wanted)
+{
+    same("the check's answer", muruapy_schedule_check(b.at, b.length), refusal);
+    if (refusal != 0)
+        return;
+    size_t place = 0, next;
+    uint8_t kind;
+    uint16_t step;
+    while (muruapy_schedule_read(b.at, b.length, place, &kind, &step, &next) > 0) {
+        same("a step's kind", kind, b.at[3 + 3 * place]);
+        same("a step's number", step, (unsigned)(b.at[4 + 3 * place] << 8 | b.at[5 + 3 * place]));
+        place = next;
+    }
+    expect(wanted, "steps");
+    same("the number of steps", place, (unsigned long)number(wanted, 10));
+}
+
+/* A block `bytes`, as it ends; `wanted` is the rest of its first line. */
+static void bytes_end(struct bytes b, char *wanted)
+{
+    char *sort = word(&wanted);
+    uint32_t refusal = (uint32_t)number(&wanted, 10);
+    struct bytes own = {memory(b.length), b.length};
+    memcpy(own.at, b.at, b.length);
+    if (strcmp(sort, "plan") == 0) {
+        plan_bytes(own, refusal, &wanted);
+        count(PLAN, refusal);
+    } else if (strcmp(sort, "frame") == 0) {
+        frame_bytes(own, refusal, &wanted);
+        count(FRAME, refusal);
+    } else if (strcmp(sort, "schedule") == 0) {
+        schedule_bytes(own, refusal, &wanted);
+        count(SCHEDULE, refusal);
+    } else {
+        fault("no such bytes: %s", sort);
+    }
+    no_more(&wanted);
+    free(own.at);
+}
+
+/* ---- numbers ---- */
+
+static void numbers_line(const char *sort, char *line)
+{
+    if (strcmp(sort, "ceiling") == 0) {
+        uint16_t modules = (uint16_t)number(&line, 10), links = (uint16_t)number(&line, 10);
+        same("the ceiling", muruapy_ceiling(modules, links), (unsigned long)number(&line, 10));
+        count(CEILING, 0);
+    } else if (strcmp(sort, "header") == 0) {
+        uint8_t kind = (uint8_t)number(&line, 10);
+        uint16_t level = (uint16_t)number(&line, 10);
+        uint8_t find = (uint8_t)number(&line, 10), header = (uint8_t)number(&line, 16);
+        same("the header", muruapy_header(kind, level, find), header);
+        if (header != 0xff) {
+            same("the kind", muruapy_header_kind(header), kind);
+            same("the level", muruapy_header_level(header), level);
+            same("the Find bit", muruapy_header_find(header), find);
+        }
+        count(HEADER, 0);
+    } else if (strcmp(sort, "word") == 0) {
+        uint64_t packed = number(&line, 16);
+        same("the header", muruapy_word_header(packed), (unsigned long)number(&line, 16));
+        same("the carried number", muruapy_word_carried(packed), (unsigned long)number(&line, 10));
+        same("the directed link", muruapy_word_link(packed), (unsigned long)number(&line, 10));
+        same("handed over", muruapy_word_handed(packed), (unsigned long)number(&line, 10));
+        count(WORD, 0);
+    } else {
+        fault("no such numbers: %s", sort);
+    }
+    no_more(&line);
+}
+
+/* ---- calls ---- */
+
+static muruapy_field field;
+static uint64_t *words;
+static size_t room;
+static struct bytes planned;
+
+/* The first call sets up the field of the plan. */
+static void set_up(void)
+{
+    static muruapy_plan plan;
+    if (words)
+        return;
+    same("the plan's answer", muruapy_plan_read(planned.at, planned.length, &plan), 0);
+    room = muruapy_ceiling(plan.modules, plan.links);
+    words = memory(room * sizeof *words);
+    same("setup's answer", muruapy_setup(&plan, &field, words, room), 0);
+}
+
+/* The words that wait are those of the line's rest; all others are 0. */
+static void compare_words(char **line)
+{
+    size_t i = 0;
+    for (char *text = word(line); text; text = word(line), i++) {
+        char *rest = text;
+        uint64_t said = number(&rest, 16);
+        if (i == room || words[i] != said)
+            fault("word %lu is %llx", (unsigned long)i, i < room ? (unsigned long long)words[i] : 0ull);
+    }
+    same("the number of waiting words", muruapy_waiting(words, room), i);
+    for (; i < room; i++)
+        if (words[i] != 0)
+            fault("a word behind the last is not 0");
+    same("the field's own check", muruapy_field_check(&field, words, room), 0);
+}
+
+static void calls_line(char *line)
+{
+    char *call = word(&line), *colon = line ? strchr(line, ':') : NULL;
+    if (!call)
+        return;
+    if (strcmp(call, "plan") == 0) {
+        more_bytes(&planned, &line);
+        return;
+    }
+    if (!colon)
+        fault("a colon is missing");
+    *colon = ' ';
+    set_up();
+    uint32_t refusal;
+    if (strcmp(call, "step") == 0) {
+        uint8_t kind = (uint8_t)number(&line, 10);
+        uint16_t which = (uint16_t)number(&line, 10);
+        refusal = muruapy_step(&field, words, room, kind, which);
+        expect(&line, "->");
+        same("the step's answer", refusal, (unsigned long)number(&line, 10));
+        count(STEP, refusal);
+    } else {
+        size_t steps = 0;
+        uint16_t rounds = 0;
+        if (strcmp(call, "rounds") == 0) {
+            refusal = muruapy_rounds(&field, words, room, (uint16_t)number(&line, 10), &rounds);
+            expect(&line, "->");
+            steps = rounds;
+        } else if (strcmp(call, "run") == 0) {
+            char *arrow = strstr(line, "->");
+            uint8_t lent[MOST];
+            struct bytes schedule = {lent, 0};
+            if (!arrow)
+                fault("-> is missing");
+            *arrow = 0;
+            more_bytes(&schedule, &line);
+            line = arrow + 2;
+            refusal = muruapy_run(&field, words, room, schedule.at, schedule.length, &steps);
+        } else {
+            fault("no such call: %s", call);
+            return;
+        }
+        same("the call's answer", refusal, (unsigned long)number(&line, 10));
+        same("how many were done", steps, (unsigned long)number(&line, 10));
+        count(CALL, refusal);
+    }
+    compare_words(&line);
+}
+
+static void calls_end(void)
+{
+    set_up();
+    free(words);
+    words = NULL;
+    planned.length = 0;
+}
+
+/* ---- report ---- */
+
+static char reported[MURUAPY_REPORT_BYTES + 1];
+static char said[MURUAPY_REPORT_BYTES + 1];
+
+static void report_begin(const char *name)
+{
+    static uint8_t bytes[MURUAPY_PLAN_BYTES];
+    static muruapy_plan plan;
+    uint16_t rounds;
+    FILE *file = fopen(name, "rb");
+    if (!file)
+        fault("cannot read %s", name);
+    size_t length = fread(bytes, 1, sizeof bytes, file);
+    fclose(file);
+    same("the plan's answer", muruapy_plan_read(bytes, length, &plan), 0);
+    size_t needed = muruapy_ceiling(plan.modules, plan.links);
+    uint64_t *lent = memory(needed * sizeof *lent);
+    same("the job's answer", muruapy_job(&plan, &field, lent, needed, &rounds), 0);
+    free(lent);
+    length = muruapy_report(&field, rounds, (uint8_t *)reported, MURUAPY_REPORT_BYTES);
+    reported[length] = 0;
+    said[0] = 0;
+}
+
+static void report_end(void)
+{
+    if (strcmp(reported, said) != 0)
+        fault("the report is:\n%s", reported);
+    count(REPORT, 0);
+}
+
+/* ---- the tables of limits and of refusals ---- */
+
+static const struct limit {
+    const char *name;
+    unsigned long number;
+} limits[] = {
+#define LIMIT(name) {"| `" #name "` |", name}
+    LIMIT(MURUAPY_MODULES), LIMIT(MURUAPY_LINKS),       LIMIT(MURUAPY_READING),
+    LIMIT(MURUAPY_NONE),    LIMIT(MURUAPY_WORDS),       LIMIT(MURUAPY_PLAN_BYTES),
+    LIMIT(MURUAPY_FRAME_BYTES), LIMIT(MURUAPY_STEPS),   LIMIT(MURUAPY_REPORT_BYTES),
+};
+
+enum { LIMITS = sizeof limits / sizeof limits[0] };
+
+static int limit_met[LIMITS], refusal_met[100];
+
+static void table_line(const char *line)
+{
+    char wanted[64];
+    unsigned n;
+    for (int i = 0; i < LIMITS; i++) {
+        sprintf(wanted, "| %lu %s", limits[i].number, limits[i].name);
+        if (strstr(line, limits[i].name)) {
+            if (!strstr(line, wanted))
+                fault("the header says %lu", limits[i].number);
+            limit_met[i] = 1;
+        }
+    }
+    if (sscanf(line, "| %2u | the %1s", &n, wanted) == 2)
+        refusal_met[n]++;
+}
+
+static void tables_end(void)
+{
+    for (int i = 0; i < LIMITS; i++)
+        if (!limit_met[i])
+            fault("the table of limits lacks %s", limits[i].name);
+    for (unsigned n = 1; n < 100; n++) {
+        int known = strcmp(muruapy_refusal_text(n), muruapy_refusal_text(1000)) != 0;
+        if (refusal_met[n] != known)
+            fault("the table of refusals has %d rows for %u", refusal_met[n], n);
+    }
+}
+
+/* ---- the page ---- */
+
+/* A line within a block, without its comment. */
+static void block_line(const char *kind, char *rest, struct bytes *b, char *line)
+{
+    char *comment = strchr(line, '#');
+    if (comment && strcmp(kind, "report") != 0)
+        *comment = 0;
+    if (strcmp(kind, "bytes") == 0)
+        more_bytes(b, &line);
+    else if (strcmp(kind, "numbers") == 0)
+        numbers_line(rest, line);
+    else if (strcmp(kind, "calls") == 0)
+        calls_line(line);
+    else if (strcmp(kind, "report") == 0 && strlen(said) + strlen(line) + 2 < sizeof said)
+        strcat(strcat(said, line), "\n");
+}
+
+static void block_end(const char *kind, char *rest, struct bytes b)
+{
+    if (strcmp(kind, "bytes") == 0)
+        bytes_end(b, rest);
+    else if (strcmp(kind, "calls") == 0)
+        calls_end();
+    else if (strcmp(kind, "report") == 0)
+        report_end();
+}
+
+static void read_page(FILE *file)
+{
+    static uint8_t space[MOST], plan_space[MOST];
+    static char line[1024], first[1024];
+    struct bytes b = {space, 0};
+    char *kind = NULL, *rest = NULL;
+    planned.at = plan_space;
+    while (fgets(line, sizeof line, file)) {
+        at++;
+        line[strcspn(line, "\n")] = 0;
+        if (strncmp(line, "```", 3) != 0) {
+            if (kind)
+                block_line(kind, rest, &b, line);
+            else
+                table_line(line);
+            continue;
+        }
+        if (kind) {
+            block_end(kind, rest, b);
+            kind = NULL;
+            continue;
+        }
+        strcpy(first, line + 3);
+        rest = first;
+        b.length = 0;
+        kind = word(&rest);
+        if (!kind || (strcmp(kind, "bytes") && strcmp(kind, "numbers") && strcmp(kind, "calls") &&
+                      strcmp(kind, "report") && strcmp(kind, "text")))
+            fault("a block of no known sort");
+        if (strcmp(kind, "report") == 0)
+            report_begin(rest);
+    }
+    if (kind)
+        fault("a block that does not end");
+}
+
+int main(int argc, char **argv)
+{
+    FILE *file = argc == 2 ? fopen(page = argv[1], "r") : NULL;
+    if (!file) {
+        fprintf(stderr, "usage: formats PAGE\n");
+        return 2;
+    }
+    read_page(file);
+    fclose(file);
+    tables_end();
+    printf("formats: %lu examples agree\n", counted());
+    return 0;
+}

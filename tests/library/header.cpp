@@ -1,0 +1,50 @@
+// The header in C++11, before anything else and twice. Every function is named, so a name that is not C's does not link.
+#include "muruapy.h"
+#include "muruapy.h"
+
+#include "layout.h"
+
+#include <cstdio>
+#include <memory>
+#include <string>
+#include <vector>
+
+template <typename F> static bool there(F *function)
+{
+    return function != nullptr;
+}
+
+static bool all_there()
+{
+    return there(&muruapy_plan_check) && there(&muruapy_plan_read) && there(&muruapy_plan_value_check) &&
+           there(&muruapy_plan_write) && there(&muruapy_link_cost) && there(&muruapy_ceiling) && there(&muruapy_tree) &&
+           there(&muruapy_header) && there(&muruapy_header_kind) && there(&muruapy_header_level) &&
+           there(&muruapy_header_find) && there(&muruapy_message_listed) && there(&muruapy_frame_check) &&
+           there(&muruapy_frame_read) && there(&muruapy_frame_write) && there(&muruapy_word_header) &&
+           there(&muruapy_word_carried) && there(&muruapy_word_link) && there(&muruapy_word_handed) &&
+           there(&muruapy_waiting) && there(&muruapy_setup_parts) && there(&muruapy_field_check_parts) &&
+           there(&muruapy_step_parts) && there(&muruapy_run_parts) && there(&muruapy_rounds_parts) &&
+           there(&muruapy_job_parts) && there(&muruapy_report_parts) && there(&muruapy_schedule_check) &&
+           there(&muruapy_schedule_steps) && there(&muruapy_schedule_read) && there(&muruapy_setup) &&
+           there(&muruapy_field_check) && there(&muruapy_step) && there(&muruapy_run) && there(&muruapy_rounds) &&
+           there(&muruapy_job) && there(&muruapy_report) && there(&muruapy_refusal_text);
+}
+
+int main()
+{
+    const std::vector<uint8_t> bytes = {1, 0, 12, 0, 2, 0, 1, 0, 0, 0, 1, 0, 3, 0, 4};
+    std::unique_ptr<muruapy_plan> plan(new muruapy_plan);
+    std::unique_ptr<muruapy_field> field(new muruapy_field);
+    std::vector<uint8_t> text(MURUAPY_REPORT_BYTES);
+    uint16_t rounds = 0;
+    if (!all_there() || muruapy_plan_read(bytes.data(), bytes.size(), plan.get()) != MURUAPY_TAKEN)
+        return 1;
+    std::vector<uint64_t> words(muruapy_ceiling(plan->modules, plan->links));
+    if (muruapy_job(plan.get(), field.get(), words.data(), words.size(), &rounds) != MURUAPY_TAKEN || rounds != 4)
+        return 1;
+    const std::string said(text.begin(), text.begin() + static_cast<std::ptrdiff_t>(muruapy_report(
+                                                            field.get(), rounds, text.data(), text.size())));
+    if (said != "modules 2\nlinks 1\nbranch 0 1 7\ntotal 7\ncore 0 1\nmessages 6 of 12\nrounds 4\n")
+        return 1;
+    return 0;
+}

@@ -1,0 +1,28 @@
+/* The structs as the library takes them: numbers beside one another, nothing between them. An array of -1 members does not
+ * compile. */
+#define HOLDS(name, claim) extern char name[(claim) ? 1 : -1]
+
+HOLDS(link_size, sizeof(muruapy_link) == 8);
+HOLDS(link_higher, offsetof(muruapy_link, higher) == 2);
+HOLDS(link_near, offsetof(muruapy_link, near) == 4);
+HOLDS(link_far, offsetof(muruapy_link, far) == 6);
+HOLDS(plan_size, sizeof(muruapy_plan) == 4804);
+HOLDS(plan_links, offsetof(muruapy_plan, links) == 2);
+HOLDS(plan_link, offsetof(muruapy_plan, link) == 4);
+HOLDS(module_size, sizeof(muruapy_module) == 18);
+HOLDS(module_level, offsetof(muruapy_module, level) == 2);
+HOLDS(module_identity, offsetof(muruapy_module, identity) == 4);
+HOLDS(module_best_weight, offsetof(muruapy_module, best_weight) == 6);
+HOLDS(module_best_edge, offsetof(muruapy_module, best_edge) == 8);
+HOLDS(module_test_edge, offsetof(muruapy_module, test_edge) == 10);
+HOLDS(module_in_branch, offsetof(muruapy_module, in_branch) == 12);
+HOLDS(module_find_count, offsetof(muruapy_module, find_count) == 14);
+HOLDS(module_halted, offsetof(muruapy_module, halted) == 16);
+HOLDS(field_size, sizeof(muruapy_field) == 9464);
+HOLDS(field_modules, offsetof(muruapy_field, modules) == 4804);
+HOLDS(field_marks, offsetof(muruapy_field, marks) == 4804 + 192 * 18);
+HOLDS(field_sent, offsetof(muruapy_field, sent) == 4804 + 192 * 18 + 600 * 2);
+HOLDS(version, MURUAPY_VERSION_MAJOR >= 1 && MURUAPY_VERSION_MINOR >= 0 && sizeof(MURUAPY_VERSION) >= 4);
+HOLDS(plan_bytes, MURUAPY_PLAN_BYTES == 7 + 8 * MURUAPY_LINKS);
+HOLDS(ceiling, MURUAPY_WORDS == 5 * MURUAPY_MODULES * 7 + 2 * MURUAPY_LINKS);
+HOLDS(steps, MURUAPY_STEPS == 65535 / 3);

@@ -1,0 +1,88 @@
+#include "site.h"
+
+#include <string.h>
+
+/* A const pointer to pages that nobody may write is kept as a plain one; the calls below pass it as what it is. */
+static void *piece_of(const void *content, size_t size, bool writable)
+{
+    return writable ? lend(content, size) : (void *)(uintptr_t)show(content, size);
+}
+
+struct site lend_site(const struct state *from, bool whole, enum lent how)
+{
+    const muruapy_field *f = &from->field;
+    bool writable = how != READ;
+    struct site s;
+    memset(&s, 0, sizeof s);
+    if (whole) {
+        s.whole = piece_of(f, sizeof *f, writable);
+    } else {
+        s.plan = piece_of(&f->plan, sizeof f->plan, how == NEW);
+        s.modules = piece_of(f->modules, sizeof f->modules, writable);
+        s.marks = piece_of(f->marks, sizeof f->marks, writable);
+        s.sent = piece_of(&f->sent, sizeof f->sent, writable);
+    }
+    s.room = from->room;
+    s.words = piece_of(from->words, s.room * sizeof *s.words, writable);
+    return s;
+}
+
+void fetch(const struct site *s, struct state *to)
+{
+    muruapy_field *f = &to->field;
+    if (s->whole) {
+        memcpy(f, s->whole, sizeof *f);
+    } else {
+        memcpy(&f->plan, s->plan, sizeof f->plan);
+        memcpy(f->modules, s->modules, sizeof f->modules);
+        memcpy(f->marks, s->marks, sizeof f->marks);
+        f->sent = *s->sent;
+    }
+    memcpy(to->words, s->words, s->room * sizeof *s->words);
+}
+
+uint32_t do_setup(const struct site *s, const muruapy_plan *plan)
+{
+    return s->whole ? muruapy_setup(plan, s->whole, s->words, s->room)
+                    : muruapy_setup_parts(plan, s->plan, s->modules, s->marks, s->sent, s->words, s->room);
+}
+
+uint32_t do_check(const struct site *s)
+{
+    return s->whole ? muruapy_field_check(s->whole, s->words, s->room)
+                    : muruapy_field_check_parts(s->plan, s->modules, (const uint8_t(*)[2])s->marks, *s->sent, s->words,
+                                                s->room);
+}
+
+uint32_t do_step(const struct site *s, uint8_t kind, uint16_t number)
+{
+    return s->whole
+               ? muruapy_step(s->whole, s->words, s->room, kind, number)
+               : muruapy_step_parts(s->plan, s->modules, s->marks, s->sent, s->words, s->room, kind, number);
+}
+
+uint32_t do_run(const struct site *s, const uint8_t *bytes, size_t length, size_t *steps)
+{
+    return s->whole ? muruapy_run(s->whole, s->words, s->room, bytes, length, steps)
+                    : muruapy_run_parts(s->plan, s->modules, s->marks, s->sent, s->words, s->room, bytes, length,
+                                        steps);
+}
+
+uint32_t do_rounds(const struct site *s, uint16_t limit, uint16_t *rounds)
+{
+    return s->whole ? muruapy_rounds(s->whole, s->words, s->room, limit, rounds)
+                    : muruapy_rounds_parts(s->plan, s->modules, s->marks, s->sent, s->words, s->room, limit, rounds);
+}
+
+uint32_t do_job(const struct site *s, const muruapy_plan *plan, uint16_t *rounds)
+{
+    return s->whole ? muruapy_job(plan, s->whole, s->words, s->room, rounds)
+                    : muruapy_job_parts(plan, s->plan, s->modules, s->marks, s->sent, s->words, s->room, rounds);
+}
+
+size_t do_report(const struct site *s, uint16_t rounds, uint8_t *text, size_t room)
+{
+    return s->whole ? muruapy_report(s->whole, rounds, text, room)
+                    : muruapy_report_parts(s->plan, s->modules, (const uint8_t(*)[2])s->marks, *s->sent, rounds, text,
+                                           room);
+}

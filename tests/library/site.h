@@ -1,0 +1,39 @@
+/* A field lent to a call: as one struct through the header's inline functions, or each of its parts as a guarded piece of
+ * its own to the exports behind them. */
+#ifndef SITE_H
+#define SITE_H
+
+#include "calls.h"
+
+/* A field with its words, in plain memory. */
+struct state {
+    muruapy_field field;
+    uint64_t words[MURUAPY_WORDS + 2];
+    size_t room;
+};
+
+struct site {
+    muruapy_field *whole; /* NULL: the parts below */
+    muruapy_plan *plan;
+    muruapy_module *modules;
+    uint8_t (*marks)[2];
+    uint32_t *sent;
+    uint64_t *words;
+    size_t room;
+};
+
+/* The state for a call that writes all of it, all but the plan, or nothing. */
+enum lent { NEW, OLD, READ };
+struct site lend_site(const struct state *from, bool whole, enum lent how);
+/* What the call left goes into the state. */
+void fetch(const struct site *s, struct state *to);
+
+uint32_t do_setup(const struct site *s, const muruapy_plan *plan);
+uint32_t do_check(const struct site *s);
+uint32_t do_step(const struct site *s, uint8_t kind, uint16_t number);
+uint32_t do_run(const struct site *s, const uint8_t *bytes, size_t length, size_t *steps);
+uint32_t do_rounds(const struct site *s, uint16_t limit, uint16_t *rounds);
+uint32_t do_job(const struct site *s, const muruapy_plan *plan, uint16_t *rounds);
+size_t do_report(const struct site *s, uint16_t rounds, uint8_t *text, size_t room);
+
+#endif
