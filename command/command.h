@@ -30,6 +30,7 @@ int dot(const struct call *call);
 int svg(const struct call *call);
 int rehearse(const struct call *call);
 int replay(const struct call *call);
+int cue(const struct call *call);
 
 /* ---- input.c: files that are read ---- */
 

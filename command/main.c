@@ -23,6 +23,7 @@ static const struct subcommand {
     {"svg", "PLAN", "print the links and the tree as a picture", "", 1, 1, svg},
     {"rehearse", "PLAN -o FILE [--seed N] [WAKE...]",
      "wake modules (0 if none is named), run to rest, write the schedule", "os", 1, INT_MAX, rehearse},
+    {"cue", "PLAN MODULE", "print how each module hears a cue that this one sends", "", 2, 2, cue},
     {"replay", "PLAN SCHEDULE...", "tell each step of schedules in words, then the field", "", 2, INT_MAX, replay},
 };
 

@@ -2,8 +2,9 @@
  *
  * A plan says which modules there are and how well they hear each other. The modules of a field come, by messages
  * between neighbours, to one minimum spanning tree of the plan's links; this library checks, reads and writes plans,
- * frames and schedules, builds the tree, and takes a field through its messages step by step. Formats, numbers and the
- * rules of a module are told in docs/FORMATS.md, installed as share/doc/muruapy/FORMATS.md.
+ * frames and schedules, builds the tree, takes a field through its messages step by step, and sends cues down the tree
+ * that it comes to. Formats, numbers and the rules of a module are told in docs/FORMATS.md, installed as
+ * share/doc/muruapy/FORMATS.md.
  *
  * Linking. `cc -Iinclude program.c libmuruapy.a`, or `pkg-config --cflags --libs muruapy` once installed. The archive
  * needs memcpy, memmove and memset and nothing else. It is for x86-64 with the System V calling convention (Linux).
@@ -13,9 +14,9 @@
  * caller.
  *
  * Answers. A function of type uint32_t, but for muruapy_link_cost and muruapy_ceiling, answers a refusal: 0 for taken,
- * else the first number of `enum muruapy_refusal` that applies. A REFUSED CALL ALTERS NOTHING: every lent byte, word,
- * field and number is as it was, but the number of steps or rounds done is always told. In a run and in rounds the
- * steps before the refused one stand.
+ * else the first number of `enum muruapy_refusal` that applies. muruapy_cue_deliver has it as the first of two numbers.
+ * A REFUSED CALL ALTERS NOTHING: every lent byte, word, field, record and number is as it was, but the number of steps
+ * or rounds done is always told. In a run and in rounds the steps before the refused one stand.
  *
  * Memory. Nothing is allocated and nothing is kept between calls. What is lent to one call must not overlap, but for two
  * pointers to const. A pointer must point at memory of the size that is told for it, also where a length is 0: NULL is
@@ -34,8 +35,8 @@
 #include <stdint.h>
 
 #define MURUAPY_VERSION_MAJOR 1
-#define MURUAPY_VERSION_MINOR 0
-#define MURUAPY_VERSION "1.0"
+#define MURUAPY_VERSION_MINOR 1
+#define MURUAPY_VERSION "1.1"
 
 #ifdef __cplusplus
 extern "C" {
@@ -54,7 +55,7 @@ extern "C" {
 
 /* Bytes of stack that a call uses, at most. */
 #define MURUAPY_STACK_PLAN 12288  /* plans, frames, schedules, messages: 12 KB */
-#define MURUAPY_STACK_FIELD 36864 /* fields and their report: 36 KB */
+#define MURUAPY_STACK_FIELD 36864 /* fields, their report, cues: 36 KB */
 #define MURUAPY_STACK_JOB 73728   /* muruapy_job: 72 KB */
 
 /* Why a call was refused; muruapy_refusal_text has a sentence for each. */
@@ -78,7 +79,7 @@ enum muruapy_refusal {
     MURUAPY_FIELD = 31,          /* it is none */
     MURUAPY_RESPONSE = 32,       /* a message without a response */
     MURUAPY_CEILING_PASSED = 33, /* the sent count would pass the ceiling */
-    /* a step */
+    /* a step; 42 for a delivery of a cue too */
     MURUAPY_NO_MODULE = 41,            /* no module of this number */
     MURUAPY_NO_DIRECTED_LINK = 42,     /* no directed link of this number */
     MURUAPY_AWAKE = 43,                /* the module to wake is awake */
@@ -90,10 +91,14 @@ enum muruapy_refusal {
     MURUAPY_SCHEDULE_LENGTH = 53,  /* the length */
     MURUAPY_STEP_KIND = 54,        /* the kind of a step */
     /* a frame, in this order */
-    MURUAPY_FRAME_SIZE = 61,  /* not 6 bytes */
-    MURUAPY_FRAME_HEAD = 62,  /* the version byte or the length */
-    MURUAPY_MESSAGE = 63,     /* no message */
-    MURUAPY_FRAME_BUFFER = 64 /* a lent buffer of not 6 bytes */
+    MURUAPY_FRAME_SIZE = 61,   /* not 6 bytes */
+    MURUAPY_FRAME_HEAD = 62,   /* the version byte or the length */
+    MURUAPY_MESSAGE = 63,      /* no message */
+    MURUAPY_FRAME_BUFFER = 64, /* a lent buffer of not 6 bytes */
+    /* a cue, in this order, behind 31; at a delivery 42 comes behind them */
+    MURUAPY_NO_TREE = 71,   /* the marks are not those of the tree */
+    MURUAPY_NO_SENDER = 72, /* no module of the sender's number */
+    MURUAPY_CUES = 73       /* the cue records: too few, or not as a start and deliveries leave them */
 };
 
 /* One sentence for a refusal's number, without a full stop; for 0 "taken", for any other number "no refusal has this
@@ -130,6 +135,9 @@ static inline const char *muruapy_refusal_text(uint32_t number)
     case MURUAPY_FRAME_HEAD: return "the frame's version byte is not 1, or its length is not 3";
     case MURUAPY_MESSAGE: return "header and carried number are those of no message";
     case MURUAPY_FRAME_BUFFER: return "the frame's buffer has not 6 bytes";
+    case MURUAPY_NO_TREE: return "an end of a tree link is not marked Branch, or an end of another link is";
+    case MURUAPY_NO_SENDER: return "there is no module of the sender's number";
+    case MURUAPY_CUES: return "the cue records are fewer than the modules, or not as a start and deliveries leave them";
     default: return "no refusal has this number";
     }
 }
@@ -302,6 +310,20 @@ typedef struct muruapy_field {
     uint32_t sent;                           /* how many messages were sent: the ceiling at most */
 } muruapy_field;
 
+/* What a module has heard of a cue. The caller lends a record for each module, by number. */
+typedef struct muruapy_cue {
+    uint8_t heard; /* 1 if it has heard, else 0, and then all else is 0 and none */
+    uint16_t cue;  /* the cue, any number */
+    uint16_t link; /* the link it came by; none at the sender */
+    uint16_t hops; /* how many links from the sender; 0 there */
+} muruapy_cue;
+
+/* What a delivery comes to. */
+typedef struct muruapy_delivery {
+    uint32_t refusal; /* 0 for taken, else the refusal */
+    uint32_t heard;   /* 1 if a module heard; 0 if no copy waited (idle), and beside a refusal */
+} muruapy_delivery;
+
 /* The kinds of steps, and what a step's number is. */
 enum muruapy_step_kind {
     MURUAPY_WAKE = 1,      /* wakes a module, which must be asleep; the module's number */
@@ -353,6 +375,13 @@ uint32_t muruapy_job_parts(const muruapy_plan *plan, muruapy_plan *held, muruapy
 size_t muruapy_report_parts(const muruapy_plan *plan, const muruapy_module *modules, const uint8_t (*marks)[2],
                             uint32_t sent, uint16_t rounds, uint8_t *text, size_t room);
 
+/* The two on cues take a whole field by value: they only read it, and this is the form that is proved. The inline
+ * functions of the same names without `_value` pass *field, and their other arguments as they are. Use those. */
+uint32_t muruapy_cue_start_value(muruapy_field field, const uint64_t *words, size_t room, muruapy_cue *cues,
+                                 size_t count, uint16_t sender, uint16_t cue);
+muruapy_delivery muruapy_cue_deliver_value(muruapy_field field, const uint64_t *words, size_t room, muruapy_cue *cues,
+                                           size_t count, uint16_t link);
+
 /* Sets up the field of a plan: all modules asleep, no word waiting.
  *
  * plan   any numbers, only read; not the plan within `field`
@@ -372,7 +401,8 @@ static inline uint32_t muruapy_setup(const muruapy_plan *plan, muruapy_field *fi
  * words  its words, any, only read
  * room   how many words there are, any number
  *
- * Answers 0, or 31: then muruapy_step, muruapy_run and muruapy_rounds on this field are refused by 31. */
+ * Answers 0, or 31: then muruapy_step, muruapy_run and muruapy_rounds on this field are refused by 31, and so are
+ * muruapy_cue_start and muruapy_cue_deliver. */
 static inline uint32_t muruapy_field_check(const muruapy_field *field, const uint64_t *words, size_t room)
 {
     return muruapy_field_check_parts(&field->plan, field->modules, field->marks, field->sent, words, room);
@@ -447,6 +477,45 @@ static inline uint32_t muruapy_job(const muruapy_plan *plan, muruapy_field *fiel
 static inline size_t muruapy_report(const muruapy_field *field, uint16_t rounds, uint8_t *text, size_t room)
 {
     return muruapy_report_parts(&field->plan, field->modules, field->marks, field->sent, rounds, text, room);
+}
+
+/* ---- Cues ---- */
+
+/* Starts a cue at a module: of as many records as there are modules, the sender's says that it has heard, all others
+ * that they have not. A copy then waits on each branch of the sender. A cue that was under way is gone.
+ *
+ * field   the field, however it was made, only read: it must be marked with the plan's tree, as the job leaves it
+ * words   its words, any, only read
+ * room    how many words there are, any number
+ * cues    the records, any; the first field->plan.modules are written, those behind keep
+ * count   how many records there are: the number of modules or more
+ * sender  the number of the module that the cue starts from, any number
+ * cue     the cue, any number
+ *
+ * Answers 0, or 31, 71, 72 or 73 (too few records). */
+static inline uint32_t muruapy_cue_start(const muruapy_field *field, const uint64_t *words, size_t room,
+                                         muruapy_cue *cues, size_t count, uint16_t sender, uint16_t cue)
+{
+    return muruapy_cue_start_value(*field, words, room, cues, count, sender, cue);
+}
+
+/* Delivers the copy that waits on a directed link: the module there hears the cue, by this link and a hop further than
+ * the one before it, and passes a copy to each other branch of its own. A copy waits where the link is in the tree, the
+ * module that the directed link leaves has heard, and the one that it leads to has not. In any order of deliveries each
+ * module hears the cue once at most; when no copy waits, all have heard it.
+ *
+ * field, words, room  as above
+ * cues                the records, as a start and the deliveries since then left them; only that of the module that
+ *                     hears is written
+ * count               how many records there are: the number of modules or more; those behind are not looked at
+ * link                the directed link, any number: 2 * k from link k's lower module to the higher one, 2 * k + 1 back
+ *
+ * Answers with refusal 0, and heard 1 if a module heard, 0 if no copy waited there (then all records keep); or with
+ * refusal 31, 71, 73 or 42, and heard 0. */
+static inline muruapy_delivery muruapy_cue_deliver(const muruapy_field *field, const uint64_t *words, size_t room,
+                                                   muruapy_cue *cues, size_t count, uint16_t link)
+{
+    return muruapy_cue_deliver_value(*field, words, room, cues, count, link);
 }
 
 /* ---- Schedules ---- */

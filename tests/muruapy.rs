@@ -1,8 +1,9 @@
 //! The compiled library as safe Rust functions: every export of include/muruapy.h, once, for the tests that compare it
-//! with the oracle. A slice of Rattle passes as a pointer and a length, an array as a pointer. No function here asks for
-//! anything: every input is taken or refused by a number.
+//! with the oracle. A slice of Rattle passes as a pointer and a length, an array as a pointer, a struct by value. No function
+//! here asks for anything: every input is taken or refused by a number.
 #![allow(dead_code)] // each test calls some of them
 
+use oracle::cue::Cue;
 use oracle::field::Field;
 use oracle::plan::{Plan, MOST_LINKS, MOST_MODULES};
 use oracle::rng::Rng;
@@ -60,6 +61,13 @@ extern "C" {
     fn muruapy_report_parts(
         plan: *const Numbers, cells: *const Cells, marks: *const Marks, sent: u32, rounds: u16, text: *mut u8, room: usize,
     ) -> usize;
+
+    fn muruapy_cue_start_value(
+        field: Record, words: *const u64, room: usize, cues: *mut Cue, count: usize, sender: u16, cue: u16,
+    ) -> u32;
+    fn muruapy_cue_deliver_value(
+        field: Record, words: *const u64, room: usize, cues: *mut Cue, count: usize, link: u16,
+    ) -> Delivered;
 
     fn muruapy_schedule_check(bytes: *const u8, len: usize) -> u32;
     fn muruapy_schedule_steps(bytes: *const u8, len: usize) -> usize;
@@ -165,7 +173,17 @@ pub fn schedule_read(bytes: &[u8], at: usize) -> (usize, Step, usize) {
     (left, Step { kind, number }, next)
 }
 
-/// A field in its parts: the plan's numbers, WIDTH cells for each module, link k's marks at 2 × k and 2 × k + 1.
+/// What a delivery answers: 0 or the refusal, 1 for heard and 0 for idle.
+#[repr(C)]
+#[derive(Clone, Copy, Debug, PartialEq, Eq)]
+pub struct Delivered {
+    pub refusal: u32,
+    pub heard: u32,
+}
+
+/// A field in its parts: the plan's numbers, WIDTH cells for each module, link k's marks at 2 × k and 2 × k + 1. As a whole
+/// it is laid out as in C, for the calls that take it by value.
+#[repr(C)]
 #[derive(Clone, Debug, PartialEq, Eq)]
 pub struct Record {
     pub plan: Numbers,
@@ -252,9 +270,8 @@ impl Record {
     pub fn job(&mut self, plan: &Numbers, words: &mut [u64]) -> (usize, u32) {
         let mut done = u16::MAX;
         let Record { plan: held, cells, marks, sent } = self;
-        let refusal = unsafe {
-            muruapy_job_parts(plan, held, cells, marks, sent, words.as_mut_ptr(), words.len(), &mut done)
-        };
+        let refusal =
+            unsafe { muruapy_job_parts(plan, held, cells, marks, sent, words.as_mut_ptr(), words.len(), &mut done) };
         (done as usize, refusal)
     }
 
@@ -262,5 +279,17 @@ impl Record {
     pub fn report(&self, rounds: u16, text: &mut [u8]) -> usize {
         let Record { plan, cells, marks, sent } = self;
         unsafe { muruapy_report_parts(plan, cells, marks, *sent, rounds, text.as_mut_ptr(), text.len()) }
+    }
+
+    /// A cue started: 0 or the refusal.
+    pub fn start_cue(&self, words: &[u64], cues: &mut [Cue], sender: u16, cue: u16) -> u32 {
+        let (field, records) = (self.clone(), cues.as_mut_ptr());
+        unsafe { muruapy_cue_start_value(field, words.as_ptr(), words.len(), records, cues.len(), sender, cue) }
+    }
+
+    /// A copy of a cue delivered.
+    pub fn deliver_cue(&self, words: &[u64], cues: &mut [Cue], link: u16) -> Delivered {
+        let (field, records) = (self.clone(), cues.as_mut_ptr());
+        unsafe { muruapy_cue_deliver_value(field, words.as_ptr(), words.len(), records, cues.len(), link) }
     }
 }

@@ -1,13 +1,15 @@
-//! The compiled Rattle plan check, tree builder and rounds beside plain Rust, as ratios in one run: the same inputs,
+//! The compiled Rattle plan check, tree builder, rounds and delivery of a cue beside plain Rust, as ratios in one run: the same inputs,
 //! both built for release, in turn. A benchmark, not a test. `bench rattle` and `bench rust` make one side's runs of
 //! rounds alone, for a profiler.
 
+mod cues;
 #[path = "../muruapy.rs"]
 mod muruapy;
 mod plain;
 mod rounds;
 
-use muruapy::Record;
+use muruapy::{Delivered, Record};
+use oracle::cue::Cue;
 use oracle::field::{self, WAKE};
 use oracle::fields::{drawn, spoil};
 use oracle::plans::{connected, good, plan, Readings};
@@ -108,6 +110,33 @@ fn on_fields<'a>(starts: &'a [Start], limit: u16, run: Rounds) -> impl FnMut(usi
     }
 }
 
+/// A cue of module 0 on a field at rest, after one delivery over each directed link: some have heard, some have not.
+fn under_way((record, words): &Start) -> (Start, Vec<Cue>) {
+    let (mut record, mut words) = (record.clone(), words.clone());
+    record.rounds(&mut words, 65535);
+    let mut cues = vec![Cue::UNHEARD; 192];
+    assert_eq!(record.start_cue(&words, &mut cues, 0, 7), 0);
+    for d in 0..1200 {
+        record.deliver_cue(&words, &mut cues, d);
+    }
+    ((record, words), cues)
+}
+
+type Delivers = fn(&Record, &[u64], &mut [Cue], u16) -> Delivered;
+
+/// A side that delivers over each directed link in turn, call by call, the copy of the records not counted.
+fn on_cues<'a>(starts: &'a [(Start, Vec<Cue>)], deliver: Delivers) -> impl FnMut(usize) -> f64 + 'a {
+    let mut link = 0;
+    move |i| {
+        let ((record, words), cues) = &starts[i];
+        let mut cues = cues.clone();
+        link = (link + 7) % 1200;
+        let (time, answer) = micros(|| deliver(black_box(record), words, &mut cues, link));
+        assert_eq!(answer.refusal, 0);
+        time
+    }
+}
+
 /// Both sides build the same trees and come to the same rounds, cells, marks, sent count and words: on the inputs that
 /// are timed, and on made-up fields, whose runs end by refusals too.
 fn agree(inputs: &Inputs) {
@@ -124,6 +153,14 @@ fn agree(inputs: &Inputs) {
     for start in inputs.wide_starts.iter().chain(&inputs.few_starts) {
         assert!(matches!(same(start, 65535), (1.., 0)), "a run from a woken module is not refused");
     }
+    for start in &inputs.cues {
+        let ((record, words), cues) = start;
+        for d in 0..1201 {
+            let (mut a, mut b) = (cues.clone(), cues.clone());
+            let answers = (record.deliver_cue(words, &mut a, d), cues::deliver(record, words, &mut b, d));
+            assert!(answers.0 == answers.1 && a == b, "both sides deliver alike");
+        }
+    }
     let rng = &mut Rng::new(31);
     let mut ends = BTreeSet::new();
     for _ in 0..600 {
@@ -138,12 +175,14 @@ fn agree(inputs: &Inputs) {
     assert_eq!(Vec::from_iter(ends), [0, 31, 32, 33]);
 }
 
-/// The plans' bytes, and the fields with module 0 awake: readings from 0 to 2000, and readings 0 to 2.
+/// The plans' bytes, and the fields with module 0 awake: readings from 0 to 2000, and readings 0 to 2; the former at rest,
+/// with a cue under way.
 struct Inputs {
     wide: Vec<Vec<u8>>,
     few: Vec<Vec<u8>>,
     wide_starts: Vec<Start>,
     few_starts: Vec<Start>,
+    cues: Vec<(Start, Vec<Cue>)>,
 }
 
 impl Inputs {
@@ -158,7 +197,8 @@ impl Inputs {
         let few: Vec<Vec<u8>> = (0..PLANS).map(|_| draw(Readings::Few)).collect();
         let wide_starts: Vec<Start> = wide.iter().map(|bytes| woken(&mut rng, bytes)).collect();
         let few_starts: Vec<Start> = few.iter().map(|bytes| woken(&mut rng, bytes)).collect();
-        Inputs { wide, few, wide_starts, few_starts }
+        let cues = wide_starts.iter().map(under_way).collect();
+        Inputs { wide, few, wide_starts, few_starts, cues }
     }
 }
 
@@ -183,6 +223,8 @@ fn tables(inputs: &Inputs) {
     rounds("a run of no round: 31 alone", &inputs.wide_starts, 0, REPETITIONS);
     rounds("rounds to rest, readings 0 to 2000", &inputs.wide_starts, 65535, RUNS);
     rounds("rounds to rest, many equal costs", &inputs.few_starts, 65535, RUNS);
+    let rattle = &mut on_cues(&inputs.cues, Record::deliver_cue);
+    row("a delivery of a cue", REPETITIONS, rattle, &mut on_cues(&inputs.cues, cues::deliver));
 }
 
 /// What a run to rest does, on average over the plans: it is taken round by round.

@@ -100,13 +100,18 @@ pub fn tree(bytes: &[u8], out: &mut [u8]) -> u32 {
     if out.len() != links.len() / 8 {
         return 20;
     }
-    let cost = |k: usize| be16(links, 8 * k + 4) + be16(links, 8 * k + 6);
+    kruskal(out, |k| std::array::from_fn(|i| be16(links, 8 * k + 2 * i)));
+    0
+}
+
+/// A byte for each link, 1 in the tree: Kruskal over links given by their ends and readings.
+pub fn kruskal(out: &mut [u8], link: impl Fn(usize) -> [u16; 4]) {
+    let cost = |k: usize| link(k)[2] + link(k)[3];
     let mut order: Vec<(u16, u16)> = (0..out.len()).map(|k| (cost(k), k as u16)).collect();
     order.sort();
     let mut parts = Parts::new();
     for (_, k) in order {
-        let at = 8 * k as usize;
-        out[k as usize] = parts.join(be16(links, at) as usize, be16(links, at + 2) as usize) as u8;
+        let [lower, higher, ..] = link(k as usize);
+        out[k as usize] = parts.join(lower as usize, higher as usize) as u8;
     }
-    0
 }

@@ -5,6 +5,7 @@
 //! COMMAND is the command, CHECKED the same built with sanitizers, which gets some of the damaged inputs, REPORT the proved
 //! reporting program, WORK a folder for files, COUNT how many plans are drawn.
 
+mod cues;
 mod pictures;
 mod places;
 mod rehearsals;
@@ -65,7 +66,11 @@ fn plans(tools: &Tools, rng: &mut Rng, count: usize) -> String {
         taken += plan::read(&bytes).is_ok() as usize;
     }
     for i in 0..count {
-        good(tools, &plans::good(rng, KINDS[i % KINDS.len()]), i % 4 == 0);
+        let plan = plans::good(rng, KINDS[i % KINDS.len()]);
+        good(tools, &plan, i % 4 == 0);
+        if i % 4 == 0 {
+            cues::told(tools.any(i / 4), &plan, rng.below(plan.modules as usize) as u16);
+        }
     }
     format!("{} plans", taken + count)
 }

@@ -40,8 +40,11 @@ fn check(tree: &Tree, made: &str) -> bool {
         tables::claims(row, &by, &mut found);
         tables::functions(row, tree, &mut found);
     }
-    for page in ["README.md", "docs/PROOF.md", "docs/PROTOCOL.md", "docs/TOUR.md", "docs/DECISIONS.md", "docs/FORMATS.md"] {
-        tables::mentions(page, &fs::read_to_string(page).unwrap_or_default(), &by, &mut found);
+    let pages = ["README.md", "docs/PROOF.md", "docs/PROTOCOL.md", "docs/TOUR.md", "docs/DECISIONS.md", "docs/FORMATS.md"];
+    let requests = fs::read_dir("docs/requests").into_iter().flatten().flatten();
+    let requests = requests.map(|entry| entry.path().display().to_string());
+    for page in pages.map(String::from).into_iter().chain(requests) {
+        tables::mentions(&page, &fs::read_to_string(&page).unwrap_or_default(), &by, &mut found);
     }
     for row in ["docs/PROTOCOL.md", "docs/TOUR.md"].into_iter().flat_map(tables::page_rows) {
         tables::theorems(&row, &by, &mut found);

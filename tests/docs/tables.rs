@@ -110,10 +110,11 @@ pub fn claims(row: &Row, by: &Names, found: &mut Found) {
     }
 }
 
-/// Each refusal number of document 01 has a row.
+/// Each refusal number of documents 01 and 02 has a row.
 pub fn numbers(rows: &[Row], found: &mut Found) {
     let said: BTreeSet<&str> = rows.iter().filter_map(|row| row.cells.get("Number")).map(String::as_str).collect();
-    for number in [11..=22, 31..=33, 41..=45, 51..=54, 61..=64].into_iter().flatten().map(|n: u32| n.to_string()) {
+    let numbers = [11..=22, 31..=33, 41..=45, 51..=54, 61..=64, 71..=73];
+    for number in numbers.into_iter().flatten().map(|n: u32| n.to_string()) {
         found.names += 1;
         if !said.contains(number.as_str()) {
             found.faults.push(format!("docs/PROOF.md: refusal {number} has no row"));

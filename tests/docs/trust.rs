@@ -1,15 +1,19 @@
-//! docs/TRUST.md: the definitions that demand 3 and the contracts of a host's functions rest on, counted, and what else
+//! docs/TRUST.md: the definitions that the claims and the contracts of a host's functions rest on, counted, and what else
 //! has to be believed (assumed.md).
 use scan::antt::{Item, Sort};
 use scan::tree::File;
 use scan::{Target, Tree};
 use std::collections::{BTreeMap, BTreeSet};
 
-/// The claim: its file and its name.
-const CLAIM: (&str, &str) = ("crates/field_calls/specs/Demand.antt", "Demand3");
+/// The claims: in words, its file, its name.
+const CLAIMS: [(&str, &str, &str); 3] = [
+    ("Demand 3", "crates/field_calls/specs/Demand.antt", "Demand3"),
+    ("What request 01 claims of a cue", "crates/cue/specs/Claims.antt", "CueClaim"),
+    ("That 73 is exact", "crates/cue/specs/Claims.antt", "Exact73"),
+];
 
 /// The functions that a host or one of the two programs calls, by crate; no names: all public ones of the crate.
-const CALLED: [(&str, &[&str]); 13] = [
+const CALLED: [(&str, &[&str]); 14] = [
     ("plan", &["ceiling", "ceiling_of"]),
     ("plan_file", &["check", "read", "write"]),
     ("plan_check", &["check"]),
@@ -22,6 +26,7 @@ const CALLED: [(&str, &[&str]); 13] = [
     ("host_job", &["run_job"]),
     ("host_schedule", &["check"]),
     ("host_reader", &["open", "left", "next"]),
+    ("host_cue", &["start", "deliver"]),
     ("format_text", &[]),
 ];
 
@@ -42,7 +47,7 @@ const SPARED: [(&str, &[&str]); 2] = [
 const HEAD: &str = "\
 # What must be believed
 
-To know what demand 3 and the functions that a host calls claim, read the contracts of the first table and the definitions of the second: they
+To know what the claims (demand 3, request 01) and the functions that a host calls say, read the contracts of the first table and the definitions of the second: they
 are made of these and of the names of the toolchain's libraries below. Theorems and proofs are not among them, since the prover checks those.
 Then read what else is assumed, at the end. (Made by `tools/trust`; the tests compare it with the tree.)
 ";
@@ -106,8 +111,12 @@ pub fn unlisted(tree: &Tree, functions: &[Key]) -> Vec<String> {
         .collect()
 }
 
+fn claim_key(tree: &Tree, (_, path, name): &(&str, &str, &str)) -> Option<Key> {
+    tree.all().find(|(_, _, file, item)| file.path == *path && item.name == *name).map(|(f, i, ..)| (f, i))
+}
+
 /// Names of the tables that no function has, functions that ask for something or are not listed, or a claim that is gone.
-fn amiss(tree: &Tree, claim: &[Key], functions: &[Key]) -> Vec<String> {
+fn amiss(tree: &Tree, functions: &[Key]) -> Vec<String> {
     let all = public(tree);
     let there =
         |of: &str, name: &str| all.iter().any(|&(f, i)| tree.files[f].of == of && tree.files[f].items[i].name == name);
@@ -116,8 +125,9 @@ fn amiss(tree: &Tree, claim: &[Key], functions: &[Key]) -> Vec<String> {
     let asking = functions.iter().map(|&(f, i)| (&tree.files[f], &tree.files[f].items[i]));
     let asking = asking.filter(|(_, item)| asks(item));
     let asking = asking.map(|(file, item)| format!("{}::{} has a requires", file.of, item.name));
-    let claim = claim.is_empty().then(|| format!("{} is not in {}", CLAIM.1, CLAIM.0));
-    gone.chain(asking).chain(unlisted(tree, functions)).chain(claim).collect()
+    let lost = CLAIMS.iter().filter(|claim| claim_key(tree, claim).is_none());
+    let lost = lost.map(|(_, path, name)| format!("{name} is not in {path}"));
+    gone.chain(asking).chain(unlisted(tree, functions)).chain(lost).collect()
 }
 
 fn code(names: impl IntoIterator<Item = String>) -> String {
@@ -163,16 +173,17 @@ fn library_table(outside: &BTreeSet<(String, String)>) -> String {
 
 /// The page, or what is wrong with the tables of this file.
 pub fn page(tree: &Tree) -> Result<String, Vec<String>> {
-    let is_claim = |file: &File, item: &Item| file.path == CLAIM.0 && item.name == CLAIM.1;
-    let claim: Vec<Key> =
-        tree.all().filter(|(_, _, file, item)| is_claim(file, item)).map(|(f, i, ..)| (f, i)).collect();
     let functions = called(tree);
-    let gone = amiss(tree, &claim, &functions);
+    let gone = amiss(tree, &functions);
     if !gone.is_empty() {
         return Err(gone);
     }
-    let (of_claim, _) = closure(tree, &claim);
-    let (mut all, outside) = closure(tree, &[claim, functions.clone()].concat());
+    let claims: Vec<Key> = CLAIMS.iter().filter_map(|claim| claim_key(tree, claim)).collect();
+    let rests = CLAIMS.iter().zip(&claims).map(|((words, path, name), &key)| {
+        format!("- {words} (`{name}`, {path}) rests on {}.\n", sums(tree, &closure(tree, &[key]).0))
+    });
+    let rests: String = rests.collect();
+    let (mut all, outside) = closure(tree, &[claims, functions.clone()].concat());
     all.retain(|k| !functions.contains(k));
     let contracts: usize = functions.iter().map(|&(f, i)| tree.files[f].items[i].lines).sum();
     let called = functions.len();
@@ -180,7 +191,7 @@ pub fn page(tree: &Tree) -> Result<String, Vec<String>> {
         HEAD.to_string(),
         format!("## The contracts\n\nSignature and clauses of the {called} functions that a host or one of the two programs calls: {contracts} lines. None has a `requires`.\n"),
         functions_table(tree, &functions),
-        format!("## The definitions\n\nDemand 3 (`{}`, {}) rests on {}.\n", CLAIM.1, CLAIM.0, sums(tree, &of_claim)),
+        format!("## The definitions\n\n{rests}"),
         files_table(tree, &all),
         format!("Together: {}.\n", sums(tree, &all)),
         LIBRARIES.to_string(),

@@ -3,11 +3,14 @@
 //! is broken. Answer, cells, marks, sent count and all words must be the same. Prints counts, or panics at the first
 //! difference.
 
+#[path = "../counts.rs"]
+mod counts;
 mod items;
 #[path = "../muruapy.rs"]
 mod muruapy;
 mod tally;
 
+use counts::list;
 use items::{broken, WAYS};
 use muruapy::Record;
 use oracle::field::{waiting, Field, Word, HAND_OVER, SERVE, WAKE};
@@ -16,7 +19,7 @@ use oracle::rng::Rng;
 use oracle::schedule::{encode, Answer, Step};
 use oracle::{plans, report, rounds, schedule};
 use std::collections::BTreeMap;
-use tally::{list, Tally};
+use tally::Tally;
 
 const VALID: usize = 6000;
 const STEPS: usize = 5;

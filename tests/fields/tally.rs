@@ -1,17 +1,17 @@
 //! Counts what the calls come to: how each ends, what a step took, put back or met on a full store, and why 32 refused.
 
+use crate::counts::{Counts, Wanted};
 use oracle::field::{waiting, Done, Field, HAND_OVER};
 use oracle::frame::{ACCEPT, CONNECT, INITIATE, NAMES, REJECT, REPORT, TEST};
 use oracle::rules::{ASLEEP, BASIC};
 use oracle::schedule::Step;
-use std::collections::BTreeMap;
 
 #[derive(Default)]
-pub struct Tally(BTreeMap<String, usize>);
+pub struct Tally(Counts);
 
-/// What must come up, by the start of its name, and how often at least: about half as often as with the seed of main.rs.
+/// What must come up: about half as often as with the seed of main.rs.
 #[rustfmt::skip]
-const WANTED: [(&str, &[(&str, usize)]); 6] = [
+const WANTED: &Wanted = &[
     ("step ends with", &[
         ("0", 4000), ("31", 3400), ("32", 1600), ("33", 600), ("41", 500), ("42", 450), ("43", 2500), ("44", 2200),
         ("45", 3000), ("54", 500),
@@ -43,7 +43,7 @@ const WANTED: [(&str, &[(&str, usize)]); 6] = [
 
 impl Tally {
     pub fn count(&mut self, event: impl Into<String>) {
-        *self.0.entry(event.into()).or_default() += 1;
+        self.0.count(event);
     }
 
     /// A step given alone, by the field and the words before it.
@@ -75,23 +75,9 @@ impl Tally {
         self.count(format!("taken: {what}"));
     }
 
-    /// Prints how often each event came up. What must come up did, often enough.
     pub fn report(&self) {
-        for (start, events) in WANTED {
-            let named = self.0.iter().filter_map(|(event, times)| Some((event.strip_prefix(start)?.trim(), *times)));
-            let counts: BTreeMap<&str, usize> = named.collect();
-            println!("fields: {start} {}", list(&counts));
-            for (event, least) in events {
-                let times = counts.get(event).copied().unwrap_or(0);
-                assert!(times >= *least, "{start} {event}: {times} times, {least} wanted");
-            }
-        }
+        self.0.report("fields", WANTED);
     }
-}
-
-pub fn list(counts: &BTreeMap<&str, usize>) -> String {
-    let each: Vec<String> = counts.iter().map(|(event, times)| format!("{event} {times}")).collect();
-    each.join("; ")
 }
 
 /// Which of document 01's causes of 32 holds, for a service of module v that it refused.

@@ -32,10 +32,10 @@ static void same(const char *what, unsigned long got, unsigned long said)
 
 /* ---- how many examples there are, by sort and number ---- */
 
-enum sort { PLAN, FRAME, SCHEDULE, STEP, CALL, CEILING, HEADER, WORD, REPORT, SORTS };
+enum sort { PLAN, FRAME, SCHEDULE, STEP, CALL, START, DELIVERY, CEILING, HEADER, WORD, REPORT, SORTS };
 
-static const char *const names[SORTS] = {"plan", "frame", "schedule", "step", "run or rounds", "ceiling",
-                                         "header", "word", "report"};
+static const char *const names[SORTS] = {"plan",     "frame",   "schedule", "step", "run or rounds", "start of a cue",
+                                         "delivery", "ceiling", "header",   "word", "report"};
 static unsigned long seen[SORTS][100];
 
 static const struct least {
@@ -46,7 +46,8 @@ static const struct least {
     {PLAN, 0, 0, 4},   {PLAN, 11, 19, 1},     {FRAME, 0, 0, 8}, {FRAME, 61, 63, 2}, {SCHEDULE, 0, 0, 2},
     {SCHEDULE, 51, 54, 1}, {STEP, 0, 0, 20},  {STEP, 41, 45, 1}, {STEP, 54, 54, 1}, {CALL, 0, 0, 6},
     {CALL, 41, 41, 1}, {CALL, 54, 54, 1},     {CEILING, 0, 0, 5}, {HEADER, 0, 0, 6}, {WORD, 0, 0, 4},
-    {REPORT, 0, 0, 1},
+    {REPORT, 0, 0, 1},  {START, 0, 0, 2},      {START, 71, 73, 1}, {DELIVERY, 0, 0, 5}, {DELIVERY, 73, 73, 5},
+    {DELIVERY, 42, 42, 1},
 };
 
 static void count(enum sort sort, uint32_t number)
@@ -325,19 +326,76 @@ static void compare_words(char **line)
     same("the field's own check", muruapy_field_check(&field, words, room), 0);
 }
 
-static void calls_line(char *line)
+/* The cue records that are lent. */
+static muruapy_cue *cues;
+static size_t records;
+
+/* Takes the next record of a line, heard/cue/link/hops with - for none; 0 at its end. */
+static int record(char **line, muruapy_cue *taken)
 {
-    char *call = word(&line), *colon = line ? strchr(line, ':') : NULL;
-    if (!call)
-        return;
-    if (strcmp(call, "plan") == 0) {
-        more_bytes(&planned, &line);
-        return;
+    unsigned heard, cue, link = MURUAPY_NONE, hops;
+    int end = 0;
+    const char *text = word(line);
+    if (!text)
+        return 0;
+    if ((sscanf(text, "%u/%u/-/%u%n", &heard, &cue, &hops, &end) != 3 &&
+         sscanf(text, "%u/%u/%u/%u%n", &heard, &cue, &link, &hops, &end) != 4) || text[end])
+        fault("%s is no record", text);
+    *taken = (muruapy_cue){(uint8_t)heard, (uint16_t)cue, (uint16_t)link, (uint16_t)hops};
+    return 1;
+}
+
+static void lend_records(char **line)
+{
+    muruapy_cue all[MURUAPY_MODULES];
+    for (records = 0; records < MURUAPY_MODULES && record(line, &all[records]);)
+        records++;
+    free(cues);
+    cues = memory(records * sizeof *cues);
+    memcpy(cues, all, records * sizeof *cues);
+}
+
+/* The lent records are those of the line's rest. */
+static void compare_records(char **line)
+{
+    muruapy_cue want;
+    size_t v = 0;
+    for (; record(line, &want); v++)
+        if (v == records || cues[v].heard != want.heard || cues[v].cue != want.cue || cues[v].link != want.link ||
+            cues[v].hops != want.hops)
+            fault("record %lu is another", (unsigned long)v);
+    same("the number of records", v, records);
+}
+
+/* A cue is started, or a copy delivered; false for another call. */
+static int cue_line(const char *call, char *line)
+{
+    uint32_t refusal;
+    int starts = strcmp(call, "start") == 0;
+    if (!starts && strcmp(call, "deliver") != 0)
+        return 0;
+    if (!cues)
+        fault("no records are lent");
+    uint16_t of = (uint16_t)number(&line, 10);
+    if (starts) {
+        refusal = muruapy_cue_start(&field, words, room, cues, records, of, (uint16_t)number(&line, 10));
+        expect(&line, "->");
+        same("the start's answer", refusal, (unsigned long)number(&line, 10));
+    } else {
+        muruapy_delivery delivery = muruapy_cue_deliver(&field, words, room, cues, records, of);
+        refusal = delivery.refusal;
+        expect(&line, "->");
+        same("the delivery's answer", refusal, (unsigned long)number(&line, 10));
+        same("heard", delivery.heard, (unsigned long)number(&line, 10));
     }
-    if (!colon)
-        fault("a colon is missing");
-    *colon = ' ';
-    set_up();
+    count(starts ? START : DELIVERY, refusal);
+    compare_records(&line);
+    return 1;
+}
+
+/* A step, a run of rounds or of a schedule. */
+static void field_line(const char *call, char *line)
+{
     uint32_t refusal;
     if (strcmp(call, "step") == 0) {
         uint8_t kind = (uint8_t)number(&line, 10);
@@ -374,11 +432,34 @@ static void calls_line(char *line)
     compare_words(&line);
 }
 
+static void calls_line(char *line)
+{
+    char *call = word(&line), *colon = line ? strchr(line, ':') : NULL;
+    if (!call)
+        return;
+    if (strcmp(call, "plan") == 0) {
+        more_bytes(&planned, &line);
+        return;
+    }
+    if (strcmp(call, "records") == 0) {
+        lend_records(&line);
+        return;
+    }
+    if (!colon)
+        fault("a colon is missing");
+    *colon = ' ';
+    set_up();
+    if (!cue_line(call, line))
+        field_line(call, line);
+}
+
 static void calls_end(void)
 {
     set_up();
     free(words);
+    free(cues);
     words = NULL;
+    cues = NULL;
     planned.length = 0;
 }
 

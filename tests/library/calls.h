@@ -30,5 +30,6 @@ void message_calls(void);
 void schedule_calls(void);
 void field_calls(bool whole);
 void job_calls(bool whole, const char *reports);
+void cue_calls(bool whole);
 
 #endif

@@ -27,7 +27,9 @@ static bool all_there()
            there(&muruapy_job_parts) && there(&muruapy_report_parts) && there(&muruapy_schedule_check) &&
            there(&muruapy_schedule_steps) && there(&muruapy_schedule_read) && there(&muruapy_setup) &&
            there(&muruapy_field_check) && there(&muruapy_step) && there(&muruapy_run) && there(&muruapy_rounds) &&
-           there(&muruapy_job) && there(&muruapy_report) && there(&muruapy_refusal_text);
+           there(&muruapy_job) && there(&muruapy_report) && there(&muruapy_cue_start_value) &&
+           there(&muruapy_cue_deliver_value) && there(&muruapy_cue_start) && there(&muruapy_cue_deliver) &&
+           there(&muruapy_refusal_text);
 }
 
 int main()
@@ -45,6 +47,13 @@ int main()
     const std::string said(text.begin(), text.begin() + static_cast<std::ptrdiff_t>(muruapy_report(
                                                             field.get(), rounds, text.data(), text.size())));
     if (said != "modules 2\nlinks 1\nbranch 0 1 7\ntotal 7\ncore 0 1\nmessages 6 of 12\nrounds 4\n")
+        return 1;
+    std::vector<muruapy_cue> cues(plan->modules);
+    if (muruapy_cue_start(field.get(), words.data(), words.size(), cues.data(), cues.size(), 1, 7) != MURUAPY_TAKEN)
+        return 1;
+    const muruapy_delivery delivery =
+        muruapy_cue_deliver(field.get(), words.data(), words.size(), cues.data(), cues.size(), 1);
+    if (delivery.refusal != MURUAPY_TAKEN || delivery.heard != 1 || cues[0].cue != 7 || cues[0].hops != 1)
         return 1;
     return 0;
 }

@@ -1,5 +1,5 @@
-/* The structs as the library takes them: numbers beside one another, nothing between them. An array of -1 members does not
- * compile. */
+/* The structs as the library takes them: numbers beside one another, nothing between them but a byte in a cue record. An
+ * array of -1 members does not compile. */
 #define HOLDS(name, claim) extern char name[(claim) ? 1 : -1]
 
 HOLDS(link_size, sizeof(muruapy_link) == 8);
@@ -22,6 +22,13 @@ HOLDS(field_size, sizeof(muruapy_field) == 9464);
 HOLDS(field_modules, offsetof(muruapy_field, modules) == 4804);
 HOLDS(field_marks, offsetof(muruapy_field, marks) == 4804 + 192 * 18);
 HOLDS(field_sent, offsetof(muruapy_field, sent) == 4804 + 192 * 18 + 600 * 2);
+HOLDS(cue_size, sizeof(muruapy_cue) == 8);
+HOLDS(cue_heard, offsetof(muruapy_cue, heard) == 0);
+HOLDS(cue_cue, offsetof(muruapy_cue, cue) == 2);
+HOLDS(cue_link, offsetof(muruapy_cue, link) == 4);
+HOLDS(cue_hops, offsetof(muruapy_cue, hops) == 6);
+HOLDS(delivery_size, sizeof(muruapy_delivery) == 8);
+HOLDS(delivery_heard, offsetof(muruapy_delivery, heard) == 4);
 HOLDS(version, MURUAPY_VERSION_MAJOR >= 1 && MURUAPY_VERSION_MINOR >= 0 && sizeof(MURUAPY_VERSION) >= 4);
 HOLDS(plan_bytes, MURUAPY_PLAN_BYTES == 7 + 8 * MURUAPY_LINKS);
 HOLDS(ceiling, MURUAPY_WORDS == 5 * MURUAPY_MODULES * 7 + 2 * MURUAPY_LINKS);

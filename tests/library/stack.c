@@ -12,6 +12,7 @@ enum { STACK = 1 << 20, PAINT = 0xa5, BYTES = 65539 };
 static muruapy_plan plan, refused;
 static muruapy_field field, copy;
 static uint64_t words[MURUAPY_WORDS];
+static muruapy_cue cues[MURUAPY_MODULES];
 static uint8_t bytes[BYTES], schedule[3 + 3 * MURUAPY_STEPS], buffer[BYTES], text[MURUAPY_REPORT_BYTES];
 static size_t length, steps;
 static uint16_t number;
@@ -73,6 +74,23 @@ static void job_refused(void)
 {
     bad |= muruapy_job(&refused, &field, words, MURUAPY_WORDS, &number) != MURUAPY_PLAN_PARTS;
 }
+static void cue_start(void)
+{
+    bad |= muruapy_cue_start(&field, words, MURUAPY_WORDS, cues, MURUAPY_MODULES, 0, 7);
+}
+static void cue_deliver(void)
+{
+    uint16_t link;
+    while (bad == 0 && (link = next_copy(&field, cues)) != MURUAPY_NONE)
+        bad |= muruapy_cue_deliver(&field, words, MURUAPY_WORDS, cues, MURUAPY_MODULES, link).heard != 1;
+}
+static void cues_refused(void)
+{
+    bad |= muruapy_cue_start(&field, words, MURUAPY_WORDS, cues, 0, 0, 7) != MURUAPY_CUES;
+    bad |= muruapy_cue_deliver(&field, words, 0, cues, 0, 0).refusal != MURUAPY_FIELD;
+    bad |= muruapy_cue_deliver(&field, words, MURUAPY_WORDS, cues, MURUAPY_MODULES, 65535).refusal !=
+           MURUAPY_NO_DIRECTED_LINK;
+}
 static void report(void) { bad |= muruapy_report(&field, number, text, sizeof text) == 0; }
 
 /* In this order: a call finds what those before it left. */
@@ -100,6 +118,9 @@ static const struct measured {
     {"muruapy_job", job, MURUAPY_STACK_JOB},
     {"muruapy_job, refused", job_refused, MURUAPY_STACK_JOB},
     {"muruapy_report", report, MURUAPY_STACK_FIELD},
+    {"muruapy_cue_start", cue_start, MURUAPY_STACK_FIELD},
+    {"muruapy_cue_deliver", cue_deliver, MURUAPY_STACK_FIELD},
+    {"cues, refused", cues_refused, MURUAPY_STACK_FIELD},
 };
 
 /* ---- measuring ---- */

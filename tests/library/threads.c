@@ -26,6 +26,7 @@ struct result {
     struct left job, steps, rounds;
     uint8_t tree[MURUAPY_LINKS], text[MURUAPY_REPORT_BYTES];
     size_t length;
+    uint16_t heard_by[MURUAPY_MODULES], hops[MURUAPY_MODULES];
 };
 
 /* Written before the threads start, and only read by them. */
@@ -48,6 +49,22 @@ static uint32_t by_steps(const muruapy_plan *plan, struct left *l, size_t room)
     return refusal;
 }
 
+/* A cue from the last module to all. */
+static uint32_t send_cue(struct result *r, size_t room)
+{
+    const muruapy_field *field = &r->job.field;
+    muruapy_cue cues[MURUAPY_MODULES];
+    uint16_t n = field->plan.modules, link, v;
+    uint32_t refusal = muruapy_cue_start(field, r->job.words, room, cues, n, (uint16_t)(n - 1), 7);
+    while (refusal == 0 && (link = next_copy(field, cues)) != MURUAPY_NONE)
+        refusal = muruapy_cue_deliver(field, r->job.words, room, cues, n, link).refusal;
+    for (v = 0; v < n; v++) {
+        r->heard_by[v] = cues[v].link;
+        r->hops[v] = cues[v].hops;
+    }
+    return refusal;
+}
+
 static void work(const muruapy_plan *plan, struct result *r)
 {
     size_t room = muruapy_ceiling(plan->modules, plan->links);
@@ -61,6 +78,7 @@ static void work(const muruapy_plan *plan, struct result *r)
     if (plan->links < 100)
         bad |= by_steps(plan, &r->steps, room);
     bad |= muruapy_tree(plan, r->tree, plan->links);
+    bad |= send_cue(r, room);
     r->length = muruapy_report(&r->job.field, r->job.rounds, r->text, sizeof r->text);
     need(bad == 0, "threads: a call is refused");
 }

@@ -1,4 +1,4 @@
-/* A sample plan read, and a rehearsal of its field: what the programs threads and stack share. */
+/* A sample plan read, a rehearsal of its field, the copies of a cue: what the programs share. */
 #ifndef WORK_H
 #define WORK_H
 
@@ -34,6 +34,18 @@ static inline uint8_t step_for(const muruapy_plan *plan, uint64_t word, uint16_t
         return MURUAPY_HAND_OVER;
     *number = link % 2 ? plan->link[link / 2].lower : plan->link[link / 2].higher;
     return MURUAPY_SERVE;
+}
+
+/* The first directed link on which a copy waits, MURUAPY_NONE if there is none. */
+static inline uint16_t next_copy(const muruapy_field *field, const muruapy_cue *cues)
+{
+    uint16_t k;
+    for (k = 0; k < field->plan.links; k++) {
+        int up = cues[field->plan.link[k].lower].heard, down = cues[field->plan.link[k].higher].heard;
+        if (field->marks[k][0] == 1 && up != down)
+            return (uint16_t)(2 * k + (up ? 0 : 1));
+    }
+    return MURUAPY_NONE;
 }
 
 #endif

@@ -3,9 +3,10 @@
 
 use crate::field::{Field, Word};
 use crate::frame::{Message, CONNECT, INITIATE, REPORT, TEST};
+use crate::kruskal;
 use crate::plan::{Plan, NONE};
 use crate::rng::Rng;
-use crate::rules::Module;
+use crate::rules::{Module, BASIC, BRANCH, REJECTED};
 
 /// One of the numbers, or none.
 fn or_none(rng: &mut Rng, numbers: &[u16]) -> u16 {
@@ -88,6 +89,17 @@ pub fn drawn(rng: &mut Rng, plan: &Plan) -> (Field, Vec<u64>) {
     }
     let mut words: Vec<u64> = words.iter().map(Word::pack).collect();
     words.resize(most + if full { 0 } else { rng.pick(&[0, 0, 1, 5]) }, 0);
+    (field, words)
+}
+
+/// A valid field that is marked with the plan's tree, though most of the rest fits no finished field: sleepers, waiting
+/// messages. An end of another link is Basic or Rejected.
+pub fn marked(rng: &mut Rng, plan: &Plan) -> (Field, Vec<u64>) {
+    let (mut field, words) = drawn(rng, plan);
+    for (marks, in_tree) in field.marks.iter_mut().zip(kruskal::tree(plan)) {
+        let other = [BASIC, REJECTED];
+        *marks = if in_tree == 1 { [BRANCH; 2] } else { [rng.pick(&other), rng.pick(&other)] };
+    }
     (field, words)
 }
 

@@ -1,11 +1,12 @@
-//! The oracle: a second implementation of document 01 in plain Rust, written from that document and the appendix of
-//! Gallager, Humblet and Spira alone. The tests compare the compiled Rattle code with it. Nothing here is proved and
-//! nothing here is fast: it is meant to be read beside the document.
+//! The oracle: a second implementation of document 01, and of request 01 of document 02, in plain Rust, written from the
+//! documents and the appendix of Gallager, Humblet and Spira alone. The tests compare the compiled Rattle code with it.
+//! Nothing here is proved and nothing here is fast: it is meant to be read beside the documents.
 //!
 //! Standard terms: a module is a node, a link an edge, a plan a weighted graph in a file format, a field the state of
 //! the network, the waiting words its channels and queues.
 
 pub mod compare;
+pub mod cue;
 pub mod field;
 pub mod fields;
 pub mod frame;
@@ -21,3 +22,5 @@ pub mod trace;
 
 #[cfg(test)]
 mod tests;
+#[cfg(test)]
+mod tests_cue;

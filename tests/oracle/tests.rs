@@ -13,7 +13,7 @@ use crate::rules::{BRANCH, FOUND, REJECTED};
 use crate::schedule::{self, Answer, Step};
 use crate::trace;
 
-fn links(list: &[(u16, u16, u16, u16)]) -> Vec<Link> {
+pub fn links(list: &[(u16, u16, u16, u16)]) -> Vec<Link> {
     let link = |&(lower, higher, at_lower, at_higher)| Link { lower, higher, at_lower, at_higher };
     list.iter().map(link).collect()
 }
@@ -22,7 +22,7 @@ fn two_modules() -> Vec<u8> {
     vec![1, 0, 0x0C, 0, 2, 0, 1, 0, 0, 0, 1, 0, 3, 0, 4]
 }
 
-fn set_up(bytes: &[u8]) -> (Field, Vec<u64>) {
+pub fn set_up(bytes: &[u8]) -> (Field, Vec<u64>) {
     let mut words = vec![7; 8000];
     let field = setup(bytes, &mut words).unwrap();
     (field, words)

@@ -9,3 +9,4 @@ pub mod Refuse
 pub mod Loop
 pub mod Table
 pub mod Keep
+pub mod Twice

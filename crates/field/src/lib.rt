@@ -12,6 +12,7 @@ pub type Cells = [u16; CELLS];
 
 pub type Marks = [u8; MAX_ENDS];
 
+#[repr(C)]
 pub struct Field {
     // "The field holds its plan."
     pub plan: Plan,

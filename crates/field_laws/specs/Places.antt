@@ -116,6 +116,11 @@ module _ (p : Plan) (a : Accepted p) (d : ℕ) (l : d < 2 * linksOf p) where
       (λ e. end-lower p _ (linkOf d) refl ∙ omega arith)
       (λ n. end-higher p _ (linkOf d) (λ q. omega (arith, a .each (linkOf d) link-below .ordered)) ∙ omega (arith, n))
 
+  pub from-below : from p d < modulesOf p
+  from-below = eqb-cases (d % 2) 0 (λ b. cond b (lowerOf p (linkOf d)) (higherOf p (linkOf d)) < modulesOf p)
+      (λ e. omega (arith, a .each (linkOf d) link-below .ordered, a .each (linkOf d) link-below .inside))
+      (λ n. a .each (linkOf d) link-below .inside)
+
   pub dest-below : dest p d < modulesOf p
   dest-below = eqb-cases (d % 2) 0 (λ b. cond b (higherOf p (linkOf d)) (lowerOf p (linkOf d)) < modulesOf p)
       (λ e. a .each (linkOf d) link-below .inside)

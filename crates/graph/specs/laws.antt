@@ -1,4 +1,5 @@
 pub mod Ways
+pub mod Path
 pub mod Rank
 pub mod Cut
 pub mod Labels

@@ -4,7 +4,9 @@ use native.Mathlib.Nat.{not-suc-le-zero}
 use native.Mathlib.Omega.{arith}
 use mathlib.Core.Path.{_≡_, refl, sym, ap, _∙_}
 use mathlib.Core.Logic.{_≢_}
-use Rattle.base.specs.laws.Cond.{by-eq}
+use lib.Dec.{eqb}
+use Rattle.base.specs.Cond.{bit}
+use Rattle.base.specs.laws.Cond.{by-eq, eqb-cases, eqb-same, eqb-diff}
 use Rattle.base.specs.Sum.{sum}
 
 pub sum-le : (n : ℕ) (f g : ℕ → ℕ) → ((k : ℕ) → k < n → f k ≤ g k) → sum n f ≤ sum n g
@@ -55,3 +57,16 @@ sum-swap (suc n) m f = ap (λ x. sum m (f n) + x) (sum-swap n m f) ∙ sym (sum-
 -- a term at one place only
 pub sum-single : (n v : ℕ) (f : ℕ → ℕ) → v < n → ((k : ℕ) → v ≢ k → f k ≡ zero) → sum n f ≡ f v
 sum-single n v f l h = omega (arith, sum-change n v f (λ k. zero) l h, sum-zero n (λ k. zero) (λ k lk. refl))
+
+-- one place is counted, and two
+pub sum-one : (n s : ℕ) → s < n → sum n (λ k. bit (eqb s k)) ≡ 1
+sum-one n s l = sum-single n s (λ k. bit (eqb s k)) l (λ k d. rw (eqb-diff s k d)) ∙ rw (eqb-same s)
+
+pub sum-two : (n s v : ℕ) (f : ℕ → ℕ) → s < n → v < n → s ≢ v → f s ≡ 1 → f v ≡ 1 → 2 ≤ sum n f
+sum-two n s v f ls lv d es ev =
+    omega (arith, sum-one n s ls, sum-one n v lv, sum-add n (λ k. bit (eqb s k)) (λ k. bit (eqb v k)), sum-le n (λ k. bit (eqb s k) + bit (eqb v k)) f (λ k l. at k))
+  where
+    at : (k : ℕ) → bit (eqb s k) + bit (eqb v k) ≤ f k
+    at k = eqb-cases s k (λ b. bit b + bit (eqb v k) ≤ f k)
+        (λ q. rw (eqb-diff v k (λ r. d (q ∙ sym r))) (omega (arith, ap f q)))
+        (λ q. eqb-cases v k (λ b. 0 + bit b ≤ f k) (λ r. omega (arith, ap f r)) (λ r. omega arith))

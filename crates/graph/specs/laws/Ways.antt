@@ -75,7 +75,7 @@ module _ {g : Graph} where
 
   -- WAYS
 
-  pub way-append : {S : ℕ → Type 0} {u v w : ℕ} → Way g S u v → Way g S v w → Way g S u w
+  unfoldable pub way-append : {S : ℕ → Type 0} {u v w : ℕ} → Way g S u v → Way g S v w → Way g S u w
   way-append stop y = y
   way-append (go e j s x) y = go e j s (way-append x y)
 

@@ -1,0 +1,3 @@
+-- What a delivery answers, as C has it.
+pub mod Answered
+pub mod laws

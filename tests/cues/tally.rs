@@ -1,0 +1,58 @@
+//! Counts what the calls come to: how each ends, and why a delivery was idle.
+
+use crate::counts::{Counts, Wanted};
+use oracle::cue::{Cue, Delivery};
+use oracle::field::Field;
+
+#[derive(Default)]
+pub struct Tally(Counts);
+
+/// What must come up: about half as often as with the seed of main.rs. (What is broken alone comes as often as asked for.)
+#[rustfmt::skip]
+const WANTED: &Wanted = &[
+    ("journey:", &[
+        ("on 1 module", 25), ("on 2 modules", 20), ("on 3 to 191 modules", 230), ("on 192 modules", 6),
+        ("to the end", 560), ("left under way", 65),
+    ]),
+    ("start ends with", &[("0", 1400), ("31", 310), ("71", 300), ("72", 330), ("73", 320)]),
+    ("delivery ends with", &[
+        ("heard", 14000), ("31", 360), ("71", 320), ("73", 1800), ("73, too few", 330), ("42", 1600),
+    ]),
+    ("delivery idle:", &[
+        ("no tree link", 2200), ("the near end has not heard", 1500), ("the far end has heard", 2500),
+    ]),
+    ("changed records, delivery ends with", &[("0", 95), ("73", 460), ("42", 35)]),
+    ("unfinished:", &[("0", 14), ("0, messages wait", 16), ("71, messages wait", 90)]),
+    ("71 alone:", &[]),
+    ("73 alone:", &[]),
+];
+
+impl Tally {
+    pub fn count(&mut self, event: impl Into<String>) {
+        self.0.count(event);
+    }
+
+    /// A delivery, by the records before it.
+    pub fn delivery(&mut self, field: &Field, tree: &[u8], cues: &[Cue], link: u16, outcome: Result<Delivery, u32>) {
+        let how = match outcome {
+            Err(73) if cues.len() < field.plan.modules as usize => "ends with 73, too few".to_string(),
+            Err(refusal) => format!("ends with {refusal}"),
+            Ok(Delivery::Heard) => "ends with heard".to_string(),
+            Ok(Delivery::Idle) => format!("idle: {}", idle(field, tree, cues, link)),
+        };
+        self.count(format!("delivery {how}"));
+    }
+
+    pub fn report(&self) {
+        self.0.report("cues", WANTED);
+    }
+}
+
+/// Why no copy waits on a directed link.
+fn idle(field: &Field, tree: &[u8], cues: &[Cue], link: u16) -> &'static str {
+    match link {
+        _ if tree[link as usize / 2] == 0 => "no tree link",
+        _ if cues[field.source(link) as usize].heard == 0 => "the near end has not heard",
+        _ => "the far end has heard",
+    }
+}
