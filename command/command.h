@@ -30,6 +30,7 @@ int dot(const struct call *call);
 int svg(const struct call *call);
 int rehearse(const struct call *call);
 int replay(const struct call *call);
+int preview(const struct call *call);
 int cue(const struct call *call);
 
 /* ---- input.c: files that are read ---- */
@@ -63,6 +64,10 @@ int take_bytes(const char *name, struct bytes *bytes);
 
 /* Reads a plan: DONE, REFUSED or FAILED, after a message to standard error. */
 int take_plan(const char *name, muruapy_plan *plan);
+
+/* Reads and checks all schedules, before the first step is taken: DONE, REFUSED or FAILED, after a message. What
+ * `schedules` gets is to be freed, whatever the answer. */
+int take_schedules(char **names, int count, struct bytes **schedules);
 
 /* ---- output.c: files that are written ---- */
 
@@ -152,6 +157,10 @@ int put_schedules(const struct record *record, const char *file, const char *inp
 
 const char *kind_name(uint8_t kind);
 const char *mark_name(uint8_t mark);
+const char *step_name(uint8_t kind);
+
+/* The kind of a step by its word as an argument; 0 for another word. */
+uint8_t step_kind(const char *word);
 
 /* These print a part of a line. */
 void print_message(uint64_t word);

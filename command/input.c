@@ -3,6 +3,7 @@
 
 #include <errno.h>
 #include <stdarg.h>
+#include <stdlib.h>
 #include <string.h>
 
 int stop(int status, const char *format, ...)
@@ -75,4 +76,19 @@ int take_plan(const char *name, muruapy_plan *plan)
         return FAILED;
     uint32_t refusal = muruapy_plan_read(bytes.at, bytes.length, plan);
     return refusal == MURUAPY_TAKEN ? DONE : refuse(name, refusal, plan_place(refusal, &bytes));
+}
+
+int take_schedules(char **names, int count, struct bytes **schedules)
+{
+    struct bytes *all = *schedules = calloc((size_t)count, sizeof *all);
+    if (!all && count > 0)
+        return stop(FAILED, "no memory for %d schedules", count);
+    for (int i = 0; i < count; i++) {
+        if (take_bytes(names[i], &all[i]) != DONE)
+            return FAILED;
+        uint32_t refusal = muruapy_schedule_check(all[i].at, all[i].length);
+        if (refusal != MURUAPY_TAKEN)
+            return refuse(names[i], refusal, schedule_place(refusal, &all[i]));
+    }
+    return DONE;
 }

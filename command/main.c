@@ -24,6 +24,8 @@ static const struct subcommand {
     {"rehearse", "PLAN -o FILE [--seed N] [WAKE...]",
      "wake modules (0 if none is named), run to rest, write the schedule", "os", 1, INT_MAX, rehearse},
     {"cue", "PLAN MODULE", "print how each module hears a cue that this one sends", "", 2, 2, cue},
+    {"preview", "PLAN [SCHEDULE...] wake|hand|serve NUMBER",
+     "tell what a step would send behind the steps of schedules, without taking it", "", 3, INT_MAX, preview},
     {"replay", "PLAN SCHEDULE...", "tell each step of schedules in words, then the field", "", 2, INT_MAX, replay},
 };
 

@@ -124,30 +124,14 @@ static uint32_t tell_steps(char **names, int count, const struct bytes *schedule
     return MURUAPY_TAKEN;
 }
 
-/* Reads and checks all schedules before the first step. */
-static int take_schedules(char **names, int count, struct bytes *schedules)
-{
-    for (int i = 0; i < count; i++) {
-        if (take_bytes(names[i], &schedules[i]) != DONE)
-            return FAILED;
-        uint32_t refusal = muruapy_schedule_check(schedules[i].at, schedules[i].length);
-        if (refusal != MURUAPY_TAKEN)
-            return refuse(names[i], refusal, schedule_place(refusal, &schedules[i]));
-    }
-    return DONE;
-}
-
 int replay(const struct call *call)
 {
     static muruapy_plan plan;
     static struct held held;
-    int count = call->count - 1;
-    struct bytes *schedules = calloc((size_t)count, sizeof *schedules);
-    if (!schedules)
-        return stop(FAILED, "replay: no memory for %d schedules", count);
-    int status = take_plan(call->names[0], &plan);
+    struct bytes *schedules = NULL;
+    int count = call->count - 1, status = take_plan(call->names[0], &plan);
     if (status == DONE)
-        status = take_schedules(call->names + 1, count, schedules);
+        status = take_schedules(call->names + 1, count, &schedules);
     if (status == DONE) {
         set_up(&plan, &held);
         status = tell_steps(call->names + 1, count, schedules, &held) == MURUAPY_TAKEN ? DONE : REFUSED;

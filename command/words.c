@@ -2,9 +2,16 @@
  * own level 0". */
 #include "command.h"
 
+#include <string.h>
+
 static const char *const kinds[8] = {"", "Connect", "Initiate", "Test", "Accept", "Reject", "Report", "Change-root"};
 static const char *const states[3] = {"asleep", "Find", "Found"};
 static const char *const marks[3] = {"Basic", "Branch", "Rejected"};
+
+/* Steps as they are told, and in one word as an argument. */
+static const struct {
+    const char *told, *word;
+} steps[4] = {{"", ""}, {"wake", "wake"}, {"hand over", "hand"}, {"serve", "serve"}};
 
 const char *kind_name(uint8_t kind)
 {
@@ -14,6 +21,19 @@ const char *kind_name(uint8_t kind)
 const char *mark_name(uint8_t mark)
 {
     return marks[mark % 3];
+}
+
+const char *step_name(uint8_t kind)
+{
+    return steps[kind % 4].told;
+}
+
+uint8_t step_kind(const char *word)
+{
+    for (uint8_t kind = MURUAPY_WAKE; kind <= MURUAPY_SERVE; kind++)
+        if (strcmp(word, steps[kind].word) == 0)
+            return kind;
+    return 0;
 }
 
 void print_message(uint64_t word)
@@ -35,8 +55,7 @@ void print_message(uint64_t word)
 
 void print_step(uint8_t kind, uint16_t number)
 {
-    static const char *const steps[4] = {"", "wake", "hand over", "serve"};
-    printf("%s %u", steps[kind % 4], number);
+    printf("%s %u", step_name(kind), number);
 }
 
 void print_put_back(const muruapy_field *field, uint64_t word)

@@ -2,9 +2,9 @@
  *
  * A plan says which modules there are and how well they hear each other. The modules of a field come, by messages
  * between neighbours, to one minimum spanning tree of the plan's links; this library checks, reads and writes plans,
- * frames and schedules, builds the tree, takes a field through its messages step by step, and sends cues down the tree
- * that it comes to. Formats, numbers and the rules of a module are told in docs/FORMATS.md, installed as
- * share/doc/muruapy/FORMATS.md.
+ * frames and schedules, builds the tree, takes a field through its messages step by step, shows what a step would send,
+ * and sends cues down the tree that the field comes to. Formats, numbers and the rules of a module are told in
+ * docs/FORMATS.md, installed as share/doc/muruapy/FORMATS.md.
  *
  * Linking. `cc -Iinclude program.c libmuruapy.a`, or `pkg-config --cflags --libs muruapy` once installed. The archive
  * needs memcpy, memmove and memset and nothing else. It is for x86-64 with the System V calling convention (Linux).
@@ -14,7 +14,8 @@
  * caller.
  *
  * Answers. A function of type uint32_t, but for muruapy_link_cost and muruapy_ceiling, answers a refusal: 0 for taken,
- * else the first number of `enum muruapy_refusal` that applies. muruapy_cue_deliver has it as the first of two numbers.
+ * else the first number of `enum muruapy_refusal` that applies. muruapy_preview and muruapy_cue_deliver have it as the
+ * first of two numbers.
  * A REFUSED CALL ALTERS NOTHING: every lent byte, word, field, record and number is as it was, but the number of steps
  * or rounds done is always told. In a run and in rounds the steps before the refused one stand.
  *
@@ -35,8 +36,8 @@
 #include <stdint.h>
 
 #define MURUAPY_VERSION_MAJOR 1
-#define MURUAPY_VERSION_MINOR 1
-#define MURUAPY_VERSION "1.1"
+#define MURUAPY_VERSION_MINOR 2
+#define MURUAPY_VERSION "1.2"
 
 #ifdef __cplusplus
 extern "C" {
@@ -51,11 +52,12 @@ extern "C" {
 #define MURUAPY_PLAN_BYTES 4807 /* bytes of the longest plan */
 #define MURUAPY_FRAME_BYTES 6   /* bytes of every frame */
 #define MURUAPY_STEPS 21845     /* steps of a schedule, at most */
+#define MURUAPY_SENDS 191       /* messages that one step sends, at most: words that are enough for every preview */
 #define MURUAPY_REPORT_BYTES 46202 /* bytes that are enough for every report */
 
 /* Bytes of stack that a call uses, at most. */
 #define MURUAPY_STACK_PLAN 12288  /* plans, frames, schedules, messages: 12 KB */
-#define MURUAPY_STACK_FIELD 36864 /* fields, their report, cues: 36 KB */
+#define MURUAPY_STACK_FIELD 36864 /* fields, their report, previews, cues: 36 KB */
 #define MURUAPY_STACK_JOB 73728   /* muruapy_job: 72 KB */
 
 /* Why a call was refused; muruapy_refusal_text has a sentence for each. */
@@ -98,7 +100,9 @@ enum muruapy_refusal {
     /* a cue, in this order, behind 31; at a delivery 42 comes behind them */
     MURUAPY_NO_TREE = 71,   /* the marks are not those of the tree */
     MURUAPY_NO_SENDER = 72, /* no module of the sender's number */
-    MURUAPY_CUES = 73       /* the cue records: too few, or not as a start and deliveries leave them */
+    MURUAPY_CUES = 73,      /* the cue records: too few, or not as a start and deliveries leave them */
+    /* a preview, behind all that its step is refused by */
+    MURUAPY_PREVIEW_BUFFER = 75 /* fewer words than the step would send */
 };
 
 /* One sentence for a refusal's number, without a full stop; for 0 "taken", for any other number "no refusal has this
@@ -138,6 +142,7 @@ static inline const char *muruapy_refusal_text(uint32_t number)
     case MURUAPY_NO_TREE: return "an end of a tree link is not marked Branch, or an end of another link is";
     case MURUAPY_NO_SENDER: return "there is no module of the sender's number";
     case MURUAPY_CUES: return "the cue records are fewer than the modules, or not as a start and deliveries leave them";
+    case MURUAPY_PREVIEW_BUFFER: return "the buffer is too short for the words that the step would send";
     default: return "no refusal has this number";
     }
 }
@@ -310,6 +315,12 @@ typedef struct muruapy_field {
     uint32_t sent;                           /* how many messages were sent: the ceiling at most */
 } muruapy_field;
 
+/* What a preview of a step comes to. */
+typedef struct muruapy_previewed {
+    uint32_t refusal; /* 0 for taken, else the refusal */
+    uint32_t count;   /* how many messages the step would send; 0 beside a refusal */
+} muruapy_previewed;
+
 /* What a module has heard of a cue. The caller lends a record for each module, by number. */
 typedef struct muruapy_cue {
     uint8_t heard; /* 1 if it has heard, else 0, and then all else is 0 and none */
@@ -366,6 +377,9 @@ uint32_t muruapy_field_check_parts(const muruapy_plan *plan, const muruapy_modul
                                    uint32_t sent, const uint64_t *words, size_t room);
 uint32_t muruapy_step_parts(const muruapy_plan *plan, muruapy_module *modules, uint8_t (*marks)[2], uint32_t *sent,
                             uint64_t *words, size_t room, uint8_t kind, uint16_t number);
+muruapy_previewed muruapy_preview_parts(const muruapy_plan *plan, const muruapy_module *modules,
+                                        const uint8_t (*marks)[2], uint32_t sent, const uint64_t *words, size_t room,
+                                        uint8_t kind, uint16_t number, uint64_t *buffer, size_t places);
 uint32_t muruapy_run_parts(const muruapy_plan *plan, muruapy_module *modules, uint8_t (*marks)[2], uint32_t *sent,
                            uint64_t *words, size_t room, const uint8_t *bytes, size_t length, size_t *steps);
 uint32_t muruapy_rounds_parts(const muruapy_plan *plan, muruapy_module *modules, uint8_t (*marks)[2], uint32_t *sent,
@@ -402,7 +416,7 @@ static inline uint32_t muruapy_setup(const muruapy_plan *plan, muruapy_field *fi
  * room   how many words there are, any number
  *
  * Answers 0, or 31: then muruapy_step, muruapy_run and muruapy_rounds on this field are refused by 31, and so are
- * muruapy_cue_start and muruapy_cue_deliver. */
+ * muruapy_preview, muruapy_cue_start and muruapy_cue_deliver. */
 static inline uint32_t muruapy_field_check(const muruapy_field *field, const uint64_t *words, size_t room)
 {
     return muruapy_field_check_parts(&field->plan, field->modules, field->marks, field->sent, words, room);
@@ -421,6 +435,28 @@ static inline uint32_t muruapy_field_check(const muruapy_field *field, const uin
 static inline uint32_t muruapy_step(muruapy_field *field, uint64_t *words, size_t room, uint8_t kind, uint16_t number)
 {
     return muruapy_step_parts(&field->plan, field->modules, field->marks, &field->sent, words, room, kind, number);
+}
+
+/* Shows what a step would do, and does not take it. What it answers and writes is what muruapy_step would come to on a
+ * copy: the same refusal; else as many messages as the sent count would grow by, in the order in which they would wait. A
+ * hand-over sends none; a message that is put back is not sent, and the Connect of a module that wakes is.
+ *
+ * field   the field, however it was made, only read
+ * words   its words, any, only read
+ * room    how many words there are, any number
+ * kind    of `enum muruapy_step_kind`; any other is refused by 54
+ * number  of the module or the directed link, any number
+ * buffer  gets the words of the messages at its front, as they would wait in the air (muruapy_word_header and its like
+ *         tell their parts); the words behind keep
+ * places  how many words the buffer has, any number: MURUAPY_SENDS are always enough, none for a step that sends nothing
+ *
+ * Answers with refusal 0 and the count of messages; or with refusal 31, 54, 41 to 45, 32 or 33, as the step would be
+ * refused, or 75 (too few places), and count 0. */
+static inline muruapy_previewed muruapy_preview(const muruapy_field *field, const uint64_t *words, size_t room,
+                                                uint8_t kind, uint16_t number, uint64_t *buffer, size_t places)
+{
+    return muruapy_preview_parts(&field->plan, field->modules, field->marks, field->sent, words, room, kind, number,
+                                 buffer, places);
 }
 
 /* Runs a schedule, up to its first step that is refused.

@@ -48,6 +48,10 @@ extern "C" {
     fn muruapy_step_parts(
         plan: *const Numbers, cells: *mut Cells, marks: *mut Marks, sent: *mut u32, words: *mut u64, room: usize, kind: u8, number: u16,
     ) -> u32;
+    fn muruapy_preview_parts(
+        plan: *const Numbers, cells: *const Cells, marks: *const Marks, sent: u32, words: *const u64, room: usize, kind: u8, number: u16,
+        buffer: *mut u64, places: usize,
+    ) -> Previewed;
     fn muruapy_run_parts(
         plan: *const Numbers, cells: *mut Cells, marks: *mut Marks, sent: *mut u32, words: *mut u64, room: usize, bytes: *const u8, len: usize,
         steps: *mut usize,
@@ -173,6 +177,14 @@ pub fn schedule_read(bytes: &[u8], at: usize) -> (usize, Step, usize) {
     (left, Step { kind, number }, next)
 }
 
+/// What a preview answers: 0 or the refusal, how many messages the step would send.
+#[repr(C)]
+#[derive(Clone, Copy, Debug, PartialEq, Eq)]
+pub struct Previewed {
+    pub refusal: u32,
+    pub count: u32,
+}
+
 /// What a delivery answers: 0 or the refusal, 1 for heard and 0 for idle.
 #[repr(C)]
 #[derive(Clone, Copy, Debug, PartialEq, Eq)]
@@ -243,6 +255,16 @@ impl Record {
     pub fn step(&mut self, words: &mut [u64], kind: u8, number: u16) -> u32 {
         let Record { plan, cells, marks, sent } = self;
         unsafe { muruapy_step_parts(plan, cells, marks, sent, words.as_mut_ptr(), words.len(), kind, number) }
+    }
+
+    /// What a step given alone would do; the words that it would send are put at the front of the buffer.
+    #[rustfmt::skip]
+    pub fn preview(&self, words: &[u64], kind: u8, number: u16, buffer: &mut [u64]) -> Previewed {
+        let Record { plan, cells, marks, sent } = self;
+        let (room, places) = (words.len(), buffer.len());
+        unsafe {
+            muruapy_preview_parts(plan, cells, marks, *sent, words.as_ptr(), room, kind, number, buffer.as_mut_ptr(), places)
+        }
     }
 
     /// A run of a schedule: steps done, and 0 or the refusal.

@@ -1,16 +1,17 @@
-//! The compiled Rattle plan check, tree builder, rounds and delivery of a cue beside plain Rust, as ratios in one run: the same inputs,
-//! both built for release, in turn. A benchmark, not a test. `bench rattle` and `bench rust` make one side's runs of
-//! rounds alone, for a profiler.
+//! The compiled Rattle plan check, tree builder, rounds, preview of a service and delivery of a cue beside plain Rust, as
+//! ratios in one run: the same inputs, both built for release, in turn; and the preview beside the step itself. A benchmark,
+//! not a test. `bench rattle` and `bench rust` make one side's runs of rounds alone, for a profiler.
 
 mod cues;
 #[path = "../muruapy.rs"]
 mod muruapy;
 mod plain;
+mod previews;
 mod rounds;
 
-use muruapy::{Delivered, Record};
+use muruapy::{Delivered, Previewed, Record};
 use oracle::cue::Cue;
-use oracle::field::{self, WAKE};
+use oracle::field::{self, HAND_OVER, SERVE, WAKE};
 use oracle::fields::{drawn, spoil};
 use oracle::plans::{connected, good, plan, Readings};
 use oracle::rng::Rng;
@@ -110,6 +111,53 @@ fn on_fields<'a>(starts: &'a [Start], limit: u16, run: Rounds) -> impl FnMut(usi
     }
 }
 
+/// A field on its way to rest, all that waits handed over, with the modules that have something to serve.
+fn on_the_way((record, words): &Start) -> (Start, Vec<u16>) {
+    let (mut record, mut words) = (record.clone(), words.clone());
+    assert_eq!(record.rounds(&mut words, 40), (40, 0));
+    for d in 0..1200 {
+        while record.step(&mut words, HAND_OVER, d) == 0 {}
+    }
+    let serves = |v: &u16| record.clone().step(&mut words.clone(), SERVE, *v) == 0;
+    let modules: Vec<u16> = (0..192).filter(serves).collect();
+    assert!(!modules.is_empty(), "nothing waits after 40 rounds");
+    ((record, words), modules)
+}
+
+type Shows = fn(&Record, &[u64], u16, &mut [u64], &mut Vec<u64>) -> Previewed;
+
+/// The compiled preview of a service; plain Rust keeps the room for its sends from call to call, which this has no use for.
+fn preview(record: &Record, words: &[u64], v: u16, buffer: &mut [u64], _: &mut Vec<u64>) -> Previewed {
+    record.preview(words, SERVE, v, buffer)
+}
+
+/// A side that previews a service, each time of the next module.
+fn on_services<'a>(starts: &'a [(Start, Vec<u16>)], show: Shows) -> impl FnMut(usize) -> f64 + 'a {
+    let (mut turn, mut buffer, mut sends) = (0, [0; 191], Vec::new());
+    move |i| {
+        let ((record, words), modules) = &starts[i];
+        turn += 1;
+        let v = modules[turn / PLANS % modules.len()];
+        let (time, answer) = micros(|| show(black_box(record), words, v, &mut buffer, &mut sends));
+        assert_eq!(answer.refusal, 0);
+        time
+    }
+}
+
+/// A side that takes those services, the copy of the field and its words not counted.
+fn taking(starts: &[(Start, Vec<u16>)]) -> impl FnMut(usize) -> f64 + '_ {
+    let mut turn = 0;
+    move |i| {
+        let ((record, words), modules) = &starts[i];
+        let (mut record, mut words) = (record.clone(), words.clone());
+        turn += 1;
+        let v = modules[turn / PLANS % modules.len()];
+        let (time, answer) = micros(|| black_box(&mut record).step(&mut words, SERVE, v));
+        assert_eq!(answer, 0);
+        time
+    }
+}
+
 /// A cue of module 0 on a field at rest, after one delivery over each directed link: some have heard, some have not.
 fn under_way((record, words): &Start) -> (Start, Vec<Cue>) {
     let (mut record, mut words) = (record.clone(), words.clone());
@@ -153,6 +201,13 @@ fn agree(inputs: &Inputs) {
     for start in inputs.wide_starts.iter().chain(&inputs.few_starts) {
         assert!(matches!(same(start, 65535), (1.., 0)), "a run from a woken module is not refused");
     }
+    for ((record, words), _) in &inputs.services {
+        for (v, places) in (0..193).flat_map(|v| [0, 1, 191].map(|places| (v, places))) {
+            let (mut a, mut b, sends) = (vec![9; places], vec![9; places], &mut Vec::new());
+            let answers = (preview(record, words, v, &mut a, sends), previews::serve(record, words, v, &mut b, sends));
+            assert!(answers.0 == answers.1 && a == b, "both sides preview alike");
+        }
+    }
     for start in &inputs.cues {
         let ((record, words), cues) = start;
         for d in 0..1201 {
@@ -175,13 +230,14 @@ fn agree(inputs: &Inputs) {
     assert_eq!(Vec::from_iter(ends), [0, 31, 32, 33]);
 }
 
-/// The plans' bytes, and the fields with module 0 awake: readings from 0 to 2000, and readings 0 to 2; the former at rest,
-/// with a cue under way.
+/// The plans' bytes, and the fields with module 0 awake: readings from 0 to 2000, and readings 0 to 2; the former on their
+/// way, and at rest with a cue under way.
 struct Inputs {
     wide: Vec<Vec<u8>>,
     few: Vec<Vec<u8>>,
     wide_starts: Vec<Start>,
     few_starts: Vec<Start>,
+    services: Vec<(Start, Vec<u16>)>,
     cues: Vec<(Start, Vec<Cue>)>,
 }
 
@@ -197,8 +253,9 @@ impl Inputs {
         let few: Vec<Vec<u8>> = (0..PLANS).map(|_| draw(Readings::Few)).collect();
         let wide_starts: Vec<Start> = wide.iter().map(|bytes| woken(&mut rng, bytes)).collect();
         let few_starts: Vec<Start> = few.iter().map(|bytes| woken(&mut rng, bytes)).collect();
+        let services = wide_starts.iter().map(on_the_way).collect();
         let cues = wide_starts.iter().map(under_way).collect();
-        Inputs { wide, few, wide_starts, few_starts, cues }
+        Inputs { wide, few, wide_starts, few_starts, services, cues }
     }
 }
 
@@ -223,8 +280,14 @@ fn tables(inputs: &Inputs) {
     rounds("a run of no round: 31 alone", &inputs.wide_starts, 0, REPETITIONS);
     rounds("rounds to rest, readings 0 to 2000", &inputs.wide_starts, 65535, RUNS);
     rounds("rounds to rest, many equal costs", &inputs.few_starts, 65535, RUNS);
+    let rattle = &mut on_services(&inputs.services, preview);
+    row("a preview of a service", REPETITIONS, rattle, &mut on_services(&inputs.services, previews::serve));
     let rattle = &mut on_cues(&inputs.cues, Record::deliver_cue);
     row("a delivery of a cue", REPETITIONS, rattle, &mut on_cues(&inputs.cues, cues::deliver));
+    println!("\n| work | preview | the step itself | ratio | ratio by first quartiles |");
+    println!("|---|---|---|---|---|");
+    let previews = &mut on_services(&inputs.services, preview);
+    row("a service, Rattle", REPETITIONS, previews, &mut taking(&inputs.services));
 }
 
 /// What a run to rest does, on average over the plans: it is taken round by round.

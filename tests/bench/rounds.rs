@@ -344,6 +344,28 @@ impl Response<'_> {
     }
 }
 
+/// What a service comes to: the place of its word, what became of that, the module's values and its new mark.
+pub struct Served {
+    at: usize,
+    fate: Fate,
+    module: Module,
+    marked: Option<(u16, u8)>,
+}
+
+/// A service of module v, of a field whose waiting words these are, before anything is written: 45, 32 or 33, or what it
+/// comes to. What it sends stands in `sends`.
+pub fn served(record: &Record, waiting: &[u64], v: u16, sends: &mut Vec<u64>) -> Result<Served, u32> {
+    let at = waiting.iter().position(|w| record.in_queue(*w, v)).ok_or(45u32)?;
+    sends.clear();
+    let mut response = Response { record, v, module: Module::load(&record.cells, v), marked: None, sends };
+    let fate = response.respond(waiting[at])?;
+    let (module, marked) = (response.module, response.marked);
+    if record.sent + sends.len() as u32 > record.ceiling() {
+        return Err(33);
+    }
+    Ok(Served { at, fate, module, marked })
+}
+
 /// The record and the words of a run; the first `waiting` words wait.
 struct Run<'a> {
     record: &'a mut Record,
@@ -377,17 +399,7 @@ impl Run<'_> {
 
     #[inline(never)]
     fn serve(&mut self, v: u16) -> Result<(), u32> {
-        let record = &*self.record;
-        let at = self.words[..self.waiting].iter().position(|w| record.in_queue(*w, v)).ok_or(45u32)?;
-        self.sends.clear();
-        let module = Module::load(&record.cells, v);
-        let mut response = Response { record, v, module, marked: None, sends: &mut self.sends };
-        let fate = response.respond(self.words[at])?;
-        let (module, marked) = (response.module, response.marked);
-        let sent = record.sent + self.sends.len() as u32;
-        if sent > record.ceiling() {
-            return Err(33);
-        }
+        let Served { at, fate, module, marked } = served(self.record, &self.words[..self.waiting], v, &mut self.sends)?;
         let word = self.take_out(at);
         self.words[self.waiting..][..self.sends.len()].copy_from_slice(&self.sends);
         self.waiting += self.sends.len();
@@ -398,7 +410,7 @@ impl Run<'_> {
         if let Some((k, mark)) = marked {
             self.record.marks[self.record.end(v, k) as usize] = mark;
         }
-        self.record.sent = sent;
+        self.record.sent += self.sends.len() as u32;
         Ok(())
     }
 

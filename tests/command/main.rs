@@ -8,6 +8,7 @@
 mod cues;
 mod pictures;
 mod places;
+mod previews;
 mod rehearsals;
 mod texts;
 mod told;
@@ -201,6 +202,17 @@ fn schedules(tools: &Tools, rng: &mut Rng, count: usize) -> String {
     format!("{} steps told", tally.steps)
 }
 
+fn shown(tools: &Tools, rng: &mut Rng, count: usize) -> String {
+    let mut tally = previews::Tally::default();
+    for i in 0..count {
+        let plan = plans::good(rng, KINDS[i % KINDS.len()]);
+        previews::told(tools.any(i), rng, &plan, &mut tally);
+    }
+    assert!(tally.answers.keys().copied().eq([0, 41, 42, 43, 44, 45]), "{:?}", tally.answers);
+    assert!((0..3).all(|n| tally.messages.get(&n).is_some_and(|times| *times > 5)), "{:?}", tally.messages);
+    format!("{} previews", tally.answers.values().sum::<usize>())
+}
+
 /// Nobody reads what is printed: 2, and no signal.
 fn unread(tools: &Tools, rng: &mut Rng) {
     let bytes = plans::good(rng, "full").encode();
@@ -208,6 +220,7 @@ fn unread(tools: &Tools, rng: &mut Rng) {
         assert_eq!(tools.plain.unread(&[sub, "-"], &bytes), 2, "{sub}");
     }
     assert_eq!(tools.plain.unread(&["make", "-"], b"modules 1\n"), 2);
+    assert_eq!(tools.plain.unread(&["preview", "-", "wake", "0"], &bytes), 2);
 }
 
 fn main() {
@@ -224,6 +237,7 @@ fn main() {
         refused(&tools, &mut rng, count),
         lines(&tools, &mut rng, count / 2),
         schedules(&tools, &mut rng, count / 15),
+        shown(&tools, &mut rng, count / 5),
     ];
     unread(&tools, &mut rng);
     let runs = tools.plain.runs.get() + tools.checked.runs.get();

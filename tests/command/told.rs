@@ -7,13 +7,13 @@ use oracle::rules::Module;
 use oracle::schedule::Step;
 
 const MARKS: [&str; 3] = ["Basic", "Branch", "Rejected"];
-const STEPS: [&str; 4] = ["", "wake", "hand over", "serve"];
+pub const STEPS: [&str; 4] = ["", "wake", "hand over", "serve"];
 
-fn word(field: &Field, word: u64) -> Word {
+pub fn word(field: &Field, word: u64) -> Word {
     Word::unpack(word, field.plan.links.len() as u16).expect("a waiting word")
 }
 
-fn message(w: &Word) -> String {
+pub fn message(w: &Word) -> String {
     let (m, name) = (&w.message, NAMES[w.message.kind as usize]);
     match m.kind {
         CONNECT => format!("{name} level {}", m.level),

@@ -6,14 +6,15 @@ use scan::{Target, Tree};
 use std::collections::{BTreeMap, BTreeSet};
 
 /// The claims: in words, its file, its name.
-const CLAIMS: [(&str, &str, &str); 3] = [
+const CLAIMS: [(&str, &str, &str); 4] = [
     ("Demand 3", "crates/field_calls/specs/Demand.antt", "Demand3"),
     ("What request 01 claims of a cue", "crates/cue/specs/Claims.antt", "CueClaim"),
     ("That 73 is exact", "crates/cue/specs/Claims.antt", "Exact73"),
+    ("What request 02 claims of a preview", "crates/preview/specs/Claim.antt", "PreviewClaim"),
 ];
 
 /// The functions that a host or one of the two programs calls, by crate; no names: all public ones of the crate.
-const CALLED: [(&str, &[&str]); 14] = [
+const CALLED: [(&str, &[&str]); 15] = [
     ("plan", &["ceiling", "ceiling_of"]),
     ("plan_file", &["check", "read", "write"]),
     ("plan_check", &["check"]),
@@ -22,6 +23,7 @@ const CALLED: [(&str, &[&str]); 14] = [
     ("format_frame", &["check", "read", "write"]),
     ("host_setup", &["setup"]),
     ("host_run", &["step", "run"]),
+    ("host_preview", &["preview", "preview_parts"]),
     ("host_rounds", &["run"]),
     ("host_job", &["run_job"]),
     ("host_schedule", &["check"]),
@@ -47,7 +49,7 @@ const SPARED: [(&str, &[&str]); 2] = [
 const HEAD: &str = "\
 # What must be believed
 
-To know what the claims (demand 3, request 01) and the functions that a host calls say, read the contracts of the first table and the definitions of the second: they
+To know what the claims (demand 3, requests 01 and 02) and the functions that a host calls say, read the contracts of the first table and the definitions of the second: they
 are made of these and of the names of the toolchain's libraries below. Theorems and proofs are not among them, since the prover checks those.
 Then read what else is assumed, at the end. (Made by `tools/trust`; the tests compare it with the tree.)
 ";

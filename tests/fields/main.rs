@@ -13,11 +13,11 @@ mod tally;
 use counts::list;
 use items::{broken, WAYS};
 use muruapy::Record;
-use oracle::field::{waiting, Field, Word, HAND_OVER, SERVE, WAKE};
-use oracle::fields::{drawn, spoil};
+use oracle::field::{waiting, Field};
+use oracle::fields::{good_step, some_field, some_step, spoil};
 use oracle::rng::Rng;
 use oracle::schedule::{encode, Answer, Step};
-use oracle::{plans, report, rounds, schedule};
+use oracle::{report, rounds, schedule};
 use std::collections::BTreeMap;
 use tally::Tally;
 
@@ -115,32 +115,6 @@ fn compare_run(rng: &mut Rng, tally: &mut Tally, field: &Field, words: &[u64], r
     refusal
 }
 
-/// A step; most of the time one for which there is a word or a module.
-fn some_step(rng: &mut Rng, field: &Field, words: &[u64]) -> Step {
-    let (n, l) = (field.plan.modules as usize, field.plan.links.len());
-    let word = match waiting(words) {
-        0 => None,
-        waiting => Word::unpack(words[rng.below(waiting)], 600).filter(|w| (w.directed as usize) < 2 * l),
-    };
-    let kind =
-        if rng.once_in(30) { rng.pick(&[0, 4, 5, 128, 255]) } else { rng.pick(&[WAKE, HAND_OVER, SERVE, SERVE]) };
-    let number = match (word, kind) {
-        _ if rng.once_in(20) => rng.pick(&[n, 2 * l, 192, 1200, 65535]) as u16,
-        (Some(word), HAND_OVER) if !rng.once_in(4) => word.directed,
-        (Some(word), SERVE) if !rng.once_in(4) => field.target(word.directed),
-        (_, HAND_OVER) => rng.below((2 * l).max(1)) as u16,
-        _ => rng.below(n.max(1)) as u16,
-    };
-    Step { kind, number }
-}
-
-fn some_field(rng: &mut Rng) -> (Field, Vec<u64>) {
-    let kind =
-        rng.pick(&["single", "path", "star", "ring", "complete", "small", "small", "small", "small", "medium", "full"]);
-    let plan = plans::good(rng, kind);
-    drawn(rng, &plan)
-}
-
 /// Valid fields, each with steps one after the other.
 fn valid_fields(rng: &mut Rng, tally: &mut Tally) {
     for _ in 0..VALID {
@@ -162,13 +136,6 @@ fn spoilt_fields(rng: &mut Rng, tally: &mut Tally) -> usize {
         refused += (compare_step(rng, tally, &mut field, &mut words, step) == 31) as usize;
     }
     refused
-}
-
-/// A step that the field takes, if one of a few tries is.
-fn good_step(rng: &mut Rng, field: &Field, words: &[u64]) -> Step {
-    let takes = |step: &Step| field.clone().take(&mut words.to_vec(), step.kind, step.number).is_ok();
-    let tries: Vec<Step> = (0..8).map(|_| some_step(rng, field, words)).collect();
-    tries.iter().copied().find(takes).unwrap_or(tries[0])
 }
 
 /// Each way to break an item of 31: records in which this item alone is broken, each with a step that the sound field

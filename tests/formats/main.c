@@ -32,10 +32,10 @@ static void same(const char *what, unsigned long got, unsigned long said)
 
 /* ---- how many examples there are, by sort and number ---- */
 
-enum sort { PLAN, FRAME, SCHEDULE, STEP, CALL, START, DELIVERY, CEILING, HEADER, WORD, REPORT, SORTS };
+enum sort { PLAN, FRAME, SCHEDULE, STEP, CALL, PREVIEW, START, DELIVERY, CEILING, HEADER, WORD, REPORT, SORTS };
 
-static const char *const names[SORTS] = {"plan",     "frame",   "schedule", "step", "run or rounds", "start of a cue",
-                                         "delivery", "ceiling", "header",   "word", "report"};
+static const char *const names[SORTS] = {"plan",           "frame",    "schedule", "step",   "run or rounds", "preview",
+                                         "start of a cue", "delivery", "ceiling",  "header", "word",          "report"};
 static unsigned long seen[SORTS][100];
 
 static const struct least {
@@ -47,7 +47,7 @@ static const struct least {
     {SCHEDULE, 51, 54, 1}, {STEP, 0, 0, 20},  {STEP, 41, 45, 1}, {STEP, 54, 54, 1}, {CALL, 0, 0, 6},
     {CALL, 41, 41, 1}, {CALL, 54, 54, 1},     {CEILING, 0, 0, 5}, {HEADER, 0, 0, 6}, {WORD, 0, 0, 4},
     {REPORT, 0, 0, 1},  {START, 0, 0, 2},      {START, 71, 73, 1}, {DELIVERY, 0, 0, 5}, {DELIVERY, 73, 73, 5},
-    {DELIVERY, 42, 42, 1},
+    {DELIVERY, 42, 42, 1}, {PREVIEW, 0, 0, 8}, {PREVIEW, 41, 45, 1}, {PREVIEW, 54, 54, 1}, {PREVIEW, 75, 75, 4},
 };
 
 static void count(enum sort sort, uint32_t number)
@@ -326,6 +326,51 @@ static void compare_words(char **line)
     same("the field's own check", muruapy_field_check(&field, words, room), 0);
 }
 
+/* The buffer that is lent to each preview. */
+static uint64_t *lent_buffer;
+static size_t places;
+
+static void lend_buffer(char **line)
+{
+    uint64_t all[MURUAPY_SENDS];
+    char *text;
+    for (places = 0; places < MURUAPY_SENDS && (text = word(line)); places++)
+        all[places] = number(&text, 16);
+    free(lent_buffer);
+    lent_buffer = memory(places * sizeof *lent_buffer);
+    memcpy(lent_buffer, all, places * sizeof *all);
+}
+
+/* A step is previewed: its answer, the buffer then; field and words stay. False for another call. */
+static int preview_line(const char *call, char *line)
+{
+    static muruapy_field before;
+    if (strcmp(call, "preview") != 0)
+        return 0;
+    if (!lent_buffer)
+        fault("no buffer is lent");
+    uint64_t *buffer = memory(places * sizeof *buffer), *waited = memory(room * sizeof *waited);
+    uint8_t kind = (uint8_t)number(&line, 10);
+    uint16_t which = (uint16_t)number(&line, 10);
+    memcpy(buffer, lent_buffer, places * sizeof *buffer);
+    memcpy(waited, words, room * sizeof *waited);
+    memcpy(&before, &field, sizeof field);
+    muruapy_previewed previewed = muruapy_preview(&field, words, room, kind, which, buffer, places);
+    expect(&line, "->");
+    same("the preview's answer", previewed.refusal, (unsigned long)number(&line, 10));
+    same("the number of messages", previewed.count, (unsigned long)number(&line, 10));
+    for (size_t i = 0; i < places; i++)
+        if (buffer[i] != number(&line, 16))
+            fault("word %lu of the buffer is %llx", (unsigned long)i, (unsigned long long)buffer[i]);
+    no_more(&line);
+    if (memcmp(&before, &field, sizeof field) != 0 || memcmp(waited, words, room * sizeof *waited) != 0)
+        fault("a preview has altered the field or its words");
+    count(PREVIEW, previewed.refusal);
+    free(waited);
+    free(buffer);
+    return 1;
+}
+
 /* The cue records that are lent. */
 static muruapy_cue *cues;
 static size_t records;
@@ -441,6 +486,10 @@ static void calls_line(char *line)
         more_bytes(&planned, &line);
         return;
     }
+    if (strcmp(call, "buffer") == 0) {
+        lend_buffer(&line);
+        return;
+    }
     if (strcmp(call, "records") == 0) {
         lend_records(&line);
         return;
@@ -449,7 +498,7 @@ static void calls_line(char *line)
         fault("a colon is missing");
     *colon = ' ';
     set_up();
-    if (!cue_line(call, line))
+    if (!preview_line(call, line) && !cue_line(call, line))
         field_line(call, line);
 }
 
@@ -458,8 +507,10 @@ static void calls_end(void)
     set_up();
     free(words);
     free(cues);
+    free(lent_buffer);
     words = NULL;
     cues = NULL;
+    lent_buffer = NULL;
     planned.length = 0;
 }
 
@@ -504,7 +555,8 @@ static const struct limit {
 #define LIMIT(name) {"| `" #name "` |", name}
     LIMIT(MURUAPY_MODULES), LIMIT(MURUAPY_LINKS),       LIMIT(MURUAPY_READING),
     LIMIT(MURUAPY_NONE),    LIMIT(MURUAPY_WORDS),       LIMIT(MURUAPY_PLAN_BYTES),
-    LIMIT(MURUAPY_FRAME_BYTES), LIMIT(MURUAPY_STEPS),   LIMIT(MURUAPY_REPORT_BYTES),
+    LIMIT(MURUAPY_FRAME_BYTES), LIMIT(MURUAPY_STEPS),   LIMIT(MURUAPY_SENDS),
+    LIMIT(MURUAPY_REPORT_BYTES),
 };
 
 enum { LIMITS = sizeof limits / sizeof limits[0] };

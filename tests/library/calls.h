@@ -30,6 +30,7 @@ void message_calls(void);
 void schedule_calls(void);
 void field_calls(bool whole);
 void job_calls(bool whole, const char *reports);
+void preview_calls(bool whole);
 void cue_calls(bool whole);
 
 #endif

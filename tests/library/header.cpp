@@ -27,9 +27,9 @@ static bool all_there()
            there(&muruapy_job_parts) && there(&muruapy_report_parts) && there(&muruapy_schedule_check) &&
            there(&muruapy_schedule_steps) && there(&muruapy_schedule_read) && there(&muruapy_setup) &&
            there(&muruapy_field_check) && there(&muruapy_step) && there(&muruapy_run) && there(&muruapy_rounds) &&
-           there(&muruapy_job) && there(&muruapy_report) && there(&muruapy_cue_start_value) &&
-           there(&muruapy_cue_deliver_value) && there(&muruapy_cue_start) && there(&muruapy_cue_deliver) &&
-           there(&muruapy_refusal_text);
+           there(&muruapy_job) && there(&muruapy_report) && there(&muruapy_preview_parts) &&
+           there(&muruapy_preview) && there(&muruapy_cue_start_value) && there(&muruapy_cue_deliver_value) &&
+           there(&muruapy_cue_start) && there(&muruapy_cue_deliver) && there(&muruapy_refusal_text);
 }
 
 int main()
@@ -54,6 +54,13 @@ int main()
     const muruapy_delivery delivery =
         muruapy_cue_deliver(field.get(), words.data(), words.size(), cues.data(), cues.size(), 1);
     if (delivery.refusal != MURUAPY_TAKEN || delivery.heard != 1 || cues[0].cue != 7 || cues[0].hops != 1)
+        return 1;
+    std::vector<uint64_t> buffer(MURUAPY_SENDS);
+    if (muruapy_setup(plan.get(), field.get(), words.data(), words.size()) != MURUAPY_TAKEN)
+        return 1;
+    const muruapy_previewed previewed = muruapy_preview(field.get(), words.data(), words.size(), MURUAPY_WAKE, 0,
+                                                        buffer.data(), buffer.size());
+    if (previewed.refusal != MURUAPY_TAKEN || previewed.count != 1 || buffer[0] != UINT64_C(0x20000ffff01))
         return 1;
     return 0;
 }

@@ -22,6 +22,8 @@ HOLDS(field_size, sizeof(muruapy_field) == 9464);
 HOLDS(field_modules, offsetof(muruapy_field, modules) == 4804);
 HOLDS(field_marks, offsetof(muruapy_field, marks) == 4804 + 192 * 18);
 HOLDS(field_sent, offsetof(muruapy_field, sent) == 4804 + 192 * 18 + 600 * 2);
+HOLDS(previewed_size, sizeof(muruapy_previewed) == 8);
+HOLDS(previewed_count, offsetof(muruapy_previewed, count) == 4);
 HOLDS(cue_size, sizeof(muruapy_cue) == 8);
 HOLDS(cue_heard, offsetof(muruapy_cue, heard) == 0);
 HOLDS(cue_cue, offsetof(muruapy_cue, cue) == 2);
@@ -33,3 +35,4 @@ HOLDS(version, MURUAPY_VERSION_MAJOR >= 1 && MURUAPY_VERSION_MINOR >= 0 && sizeo
 HOLDS(plan_bytes, MURUAPY_PLAN_BYTES == 7 + 8 * MURUAPY_LINKS);
 HOLDS(ceiling, MURUAPY_WORDS == 5 * MURUAPY_MODULES * 7 + 2 * MURUAPY_LINKS);
 HOLDS(steps, MURUAPY_STEPS == 65535 / 3);
+HOLDS(sends, MURUAPY_SENDS == MURUAPY_MODULES - 1);

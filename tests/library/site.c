@@ -61,6 +61,13 @@ uint32_t do_step(const struct site *s, uint8_t kind, uint16_t number)
                : muruapy_step_parts(s->plan, s->modules, s->marks, s->sent, s->words, s->room, kind, number);
 }
 
+muruapy_previewed do_preview(const struct site *s, uint8_t kind, uint16_t number, uint64_t *buffer, size_t places)
+{
+    return s->whole ? muruapy_preview(s->whole, s->words, s->room, kind, number, buffer, places)
+                    : muruapy_preview_parts(s->plan, s->modules, (const uint8_t(*)[2])s->marks, *s->sent, s->words,
+                                            s->room, kind, number, buffer, places);
+}
+
 uint32_t do_run(const struct site *s, const uint8_t *bytes, size_t length, size_t *steps)
 {
     return s->whole ? muruapy_run(s->whole, s->words, s->room, bytes, length, steps)

@@ -31,6 +31,7 @@ void fetch(const struct site *s, struct state *to);
 uint32_t do_setup(const struct site *s, const muruapy_plan *plan);
 uint32_t do_check(const struct site *s);
 uint32_t do_step(const struct site *s, uint8_t kind, uint16_t number);
+muruapy_previewed do_preview(const struct site *s, uint8_t kind, uint16_t number, uint64_t *buffer, size_t places);
 uint32_t do_run(const struct site *s, const uint8_t *bytes, size_t length, size_t *steps);
 uint32_t do_rounds(const struct site *s, uint16_t limit, uint16_t *rounds);
 uint32_t do_job(const struct site *s, const muruapy_plan *plan, uint16_t *rounds);

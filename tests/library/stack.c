@@ -13,6 +13,7 @@ static muruapy_plan plan, refused;
 static muruapy_field field, copy;
 static uint64_t words[MURUAPY_WORDS];
 static muruapy_cue cues[MURUAPY_MODULES];
+static uint64_t previewed[MURUAPY_SENDS];
 static uint8_t bytes[BYTES], schedule[3 + 3 * MURUAPY_STEPS], buffer[BYTES], text[MURUAPY_REPORT_BYTES];
 static size_t length, steps;
 static uint16_t number;
@@ -55,13 +56,37 @@ static void schedules(void)
 }
 static void setup(void) { bad |= muruapy_setup(&plan, &field, words, MURUAPY_WORDS); }
 static void field_check(void) { bad |= muruapy_field_check(&field, words, MURUAPY_WORDS); }
-static void step(void)
+static void take(size_t count)
 {
     size_t i;
-    for (i = 0; i < steps; i++) {
+    for (i = 0; i < count; i++) {
         const uint8_t *at = schedule + 3 + 3 * i;
         bad |= muruapy_step(&field, words, MURUAPY_WORDS, at[0], (uint16_t)(at[1] << 8 | at[2]));
     }
+}
+static void step(void) { take(steps); }
+static void some_steps(void) { take(steps / 3); }
+/* Every step that there is: some of each kind can be taken. */
+static void preview(void)
+{
+    unsigned taken[4] = {0};
+    uint8_t kind;
+    uint16_t of;
+    for (kind = MURUAPY_WAKE; kind <= MURUAPY_SERVE; kind++)
+        for (of = 0; of < 2 * plan.links; of++) {
+            uint32_t refusal =
+                muruapy_preview(&field, words, MURUAPY_WORDS, kind, of, previewed, MURUAPY_SENDS).refusal;
+            taken[kind] += refusal == MURUAPY_TAKEN;
+            bad |= refusal != 0 && (refusal < MURUAPY_NO_MODULE || refusal > MURUAPY_EMPTY_QUEUE);
+        }
+    bad |= taken[MURUAPY_WAKE] == 0 || taken[MURUAPY_HAND_OVER] == 0 || taken[MURUAPY_SERVE] == 0;
+}
+static void preview_refused(void)
+{
+    bad |= muruapy_preview(&field, words, 0, MURUAPY_WAKE, 0, previewed, 0).refusal != MURUAPY_FIELD;
+    bad |= muruapy_preview(&field, words, MURUAPY_WORDS, 9, 0, previewed, 0).refusal != MURUAPY_STEP_KIND;
+    bad |= muruapy_preview(&field, words, MURUAPY_WORDS, MURUAPY_WAKE, 0, previewed, 0).refusal !=
+           MURUAPY_PREVIEW_BUFFER;
 }
 static void run(void)
 {
@@ -113,6 +138,10 @@ static const struct measured {
     {"muruapy_step", step, MURUAPY_STACK_FIELD},
     {"muruapy_field_check", field_check, MURUAPY_STACK_FIELD},
     {"muruapy_setup again", setup, MURUAPY_STACK_FIELD},
+    {"previews, refused", preview_refused, MURUAPY_STACK_FIELD},
+    {"muruapy_step, some", some_steps, MURUAPY_STACK_FIELD},
+    {"muruapy_preview", preview, MURUAPY_STACK_FIELD},
+    {"muruapy_setup once more", setup, MURUAPY_STACK_FIELD},
     {"muruapy_run", run, MURUAPY_STACK_FIELD},
     {"muruapy_rounds", rounds, MURUAPY_STACK_FIELD},
     {"muruapy_job", job, MURUAPY_STACK_JOB},

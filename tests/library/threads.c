@@ -24,6 +24,7 @@ struct left {
 };
 struct result {
     struct left job, steps, rounds;
+    uint32_t previewed;
     uint8_t tree[MURUAPY_LINKS], text[MURUAPY_REPORT_BYTES];
     size_t length;
     uint16_t heard_by[MURUAPY_MODULES], hops[MURUAPY_MODULES];
@@ -35,13 +36,17 @@ static struct shared {
     struct result alone;
 } shared[PLANS];
 
-static uint32_t by_steps(const muruapy_plan *plan, struct left *l, size_t room)
+/* Each step is previewed before it is taken; `sent` counts the words that previews showed. */
+static uint32_t by_steps(const muruapy_plan *plan, struct left *l, size_t room, uint32_t *sent)
 {
+    uint64_t buffer[MURUAPY_SENDS];
     uint32_t refusal = muruapy_setup(plan, &l->field, l->words, room);
     uint8_t kind = MURUAPY_WAKE;
     uint16_t number = (uint16_t)(plan->modules - 1);
     while (refusal == 0) {
-        refusal = muruapy_step(&l->field, l->words, room, kind, number);
+        muruapy_previewed p = muruapy_preview(&l->field, l->words, room, kind, number, buffer, MURUAPY_SENDS);
+        *sent += p.count;
+        refusal = p.refusal | muruapy_step(&l->field, l->words, room, kind, number);
         if (muruapy_waiting(l->words, room) == 0)
             break;
         kind = step_for(plan, l->words[0], &number);
@@ -76,7 +81,8 @@ static void work(const muruapy_plan *plan, struct result *r)
     bad |= muruapy_rounds(&r->rounds.field, r->rounds.words, room, 65535, &r->rounds.rounds);
     /* step by step the largest plan takes too long for so many times */
     if (plan->links < 100)
-        bad |= by_steps(plan, &r->steps, room);
+        bad |= by_steps(plan, &r->steps, room, &r->previewed);
+    bad |= r->previewed != r->steps.field.sent;
     bad |= muruapy_tree(plan, r->tree, plan->links);
     bad |= send_cue(r, room);
     r->length = muruapy_report(&r->job.field, r->job.rounds, r->text, sizeof r->text);

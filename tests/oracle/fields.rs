@@ -1,12 +1,14 @@
 //! Generators of field records as a host may supply them: valid in the sense of 31, though most of them no run from
-//! setup can reach, and spoilt ones.
+//! setup can reach, and spoilt ones; and of steps on a field.
 
-use crate::field::{Field, Word};
+use crate::field::{waiting, Field, Word, HAND_OVER, SERVE, WAKE};
 use crate::frame::{Message, CONNECT, INITIATE, REPORT, TEST};
 use crate::kruskal;
 use crate::plan::{Plan, NONE};
+use crate::plans;
 use crate::rng::Rng;
 use crate::rules::{Module, BASIC, BRANCH, REJECTED};
+use crate::schedule::Step;
 
 /// One of the numbers, or none.
 fn or_none(rng: &mut Rng, numbers: &[u16]) -> u16 {
@@ -92,6 +94,14 @@ pub fn drawn(rng: &mut Rng, plan: &Plan) -> (Field, Vec<u64>) {
     (field, words)
 }
 
+/// The same over a drawn plan, small most of the time.
+pub fn some_field(rng: &mut Rng) -> (Field, Vec<u64>) {
+    let kind =
+        rng.pick(&["single", "path", "star", "ring", "complete", "small", "small", "small", "small", "medium", "full"]);
+    let plan = plans::good(rng, kind);
+    drawn(rng, &plan)
+}
+
 /// A valid field that is marked with the plan's tree, though most of the rest fits no finished field: sleepers, waiting
 /// messages. An end of another link is Basic or Rejected.
 pub fn marked(rng: &mut Rng, plan: &Plan) -> (Field, Vec<u64>) {
@@ -138,4 +148,30 @@ pub fn spoil(rng: &mut Rng, field: &mut Field, words: &mut Vec<u64>) {
         }
         _ => field.plan.modules += 1,
     }
+}
+
+/// A step; most of the time one for which there is a word or a module.
+pub fn some_step(rng: &mut Rng, field: &Field, words: &[u64]) -> Step {
+    let (n, l) = (field.plan.modules as usize, field.plan.links.len());
+    let word = match waiting(words) {
+        0 => None,
+        waiting => Word::unpack(words[rng.below(waiting)], 600).filter(|w| (w.directed as usize) < 2 * l),
+    };
+    let kind =
+        if rng.once_in(30) { rng.pick(&[0, 4, 5, 128, 255]) } else { rng.pick(&[WAKE, HAND_OVER, SERVE, SERVE]) };
+    let number = match (word, kind) {
+        _ if rng.once_in(20) => rng.pick(&[n, 2 * l, 192, 1200, 65535]) as u16,
+        (Some(word), HAND_OVER) if !rng.once_in(4) => word.directed,
+        (Some(word), SERVE) if !rng.once_in(4) => field.target(word.directed),
+        (_, HAND_OVER) => rng.below((2 * l).max(1)) as u16,
+        _ => rng.below(n.max(1)) as u16,
+    };
+    Step { kind, number }
+}
+
+/// A step that the field takes, if one of a few tries is.
+pub fn good_step(rng: &mut Rng, field: &Field, words: &[u64]) -> Step {
+    let takes = |step: &Step| field.clone().take(&mut words.to_vec(), step.kind, step.number).is_ok();
+    let tries: Vec<Step> = (0..8).map(|_| some_step(rng, field, words)).collect();
+    tries.iter().copied().find(takes).unwrap_or(tries[0])
 }

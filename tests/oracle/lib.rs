@@ -1,6 +1,6 @@
-//! The oracle: a second implementation of document 01, and of request 01 of document 02, in plain Rust, written from the
-//! documents and the appendix of Gallager, Humblet and Spira alone. The tests compare the compiled Rattle code with it.
-//! Nothing here is proved and nothing here is fast: it is meant to be read beside the documents.
+//! The oracle: a second implementation of document 01, and of requests 01 and 02 of document 02, in plain Rust, written
+//! from the documents and the appendix of Gallager, Humblet and Spira alone. The tests compare the compiled Rattle code
+//! with it. Nothing here is proved and nothing here is fast: it is meant to be read beside the documents.
 //!
 //! Standard terms: a module is a node, a link an edge, a plan a weighted graph in a file format, a field the state of
 //! the network, the waiting words its channels and queues.
@@ -13,6 +13,7 @@ pub mod frame;
 pub mod kruskal;
 pub mod plan;
 pub mod plans;
+pub mod preview;
 pub mod report;
 pub mod rng;
 pub mod rounds;
@@ -24,3 +25,5 @@ pub mod trace;
 mod tests;
 #[cfg(test)]
 mod tests_cue;
+#[cfg(test)]
+mod tests_preview;

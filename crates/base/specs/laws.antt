@@ -8,5 +8,6 @@ pub mod Test
 pub mod Refuse
 pub mod Loop
 pub mod Table
+pub mod Sets
 pub mod Keep
 pub mod Twice

@@ -5,8 +5,8 @@ use field::Cells;
 use field::Marks;
 use plan::Plan;
 ghost use mathlib.Core.Path.{_≡_};
-ghost use Rattle.field_check.specs.Checked.{heldIn};
 ghost use Rattle.cue.specs.Calls.{deliveryRefusal};
+ghost use Rattle.field.specs.Held.{heldFrom};
 
 // 31, 71, 73, then 42: of a delivery, where so many records are lent and row are the first of them.
 pub fn refusal<'a>(
@@ -19,7 +19,7 @@ pub fn refusal<'a>(
     row: Row,
     d: u16,
 ) -> u32
-    ensures { λ r. ⌜ r ≡ deliveryRefusal (heldIn (now (plan .entry)) (now (cells .entry)) (now (marks .entry)) sent (now (words .entry))) lent row d ⌝ }
+    ensures { λ r. ⌜ r ≡ deliveryRefusal (heldFrom (now (plan .entry)) (now (cells .entry)) (now (marks .entry)) sent (now (words .entry))) lent row d ⌝ }
 {
     let bad = refusal::of_field(plan, cells, marks, sent, words);
     if bad != 0 {

@@ -3,8 +3,8 @@ use field::Cells;
 use field::Marks;
 use plan::Plan;
 ghost use mathlib.Core.Path.{_≡_};
-ghost use Rattle.field_check.specs.Checked.{heldIn};
 ghost use Rattle.cue.specs.Calls.{fieldRefusal};
+ghost use Rattle.field.specs.Held.{heldFrom};
 
 // 31 and 71, which both calls try first.
 pub fn of_field<'a>(
@@ -14,7 +14,7 @@ pub fn of_field<'a>(
     sent: u32,
     words: &[u64],
 ) -> u32
-    ensures { λ r. ⌜ r ≡ fieldRefusal (heldIn (now (plan .entry)) (now (cells .entry)) (now (marks .entry)) sent (now (words .entry))) 0 ⌝ }
+    ensures { λ r. ⌜ r ≡ fieldRefusal (heldFrom (now (plan .entry)) (now (cells .entry)) (now (marks .entry)) sent (now (words .entry))) 0 ⌝ }
 {
     let c = field_check::check(plan, cells, marks, sent, words);
     if !c.ok {

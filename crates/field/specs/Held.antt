@@ -19,6 +19,13 @@ pub record Held : Type 0 where
   pub field : Field
   pub words : List ℕ
 
+-- the same from the field's parts
+abbrev pub fieldFrom : Plan → List ℕ → List ℕ → ℕ → Field
+fieldFrom p cells marks sent = record { plan = p; cells = cells; marks = marks; sent = sent }
+
+abbrev pub heldFrom : Plan → List ℕ → List ℕ → ℕ → List ℕ → Held
+heldFrom p cells marks sent words = record { field = fieldFrom p cells marks sent; words = words }
+
 -- the n lent words in which `words` wait: "from the front and without gaps, zero after the last"
 abbrev pub layout : ℕ → List ℕ → List ℕ
 layout n words = words ++ replicate (n - length words) 0

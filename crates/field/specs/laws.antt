@@ -1,3 +1,4 @@
 pub mod Edges
 pub mod Held
 pub mod Samples
+pub mod Step

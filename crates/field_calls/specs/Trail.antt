@@ -10,7 +10,7 @@ use Rattle.base.specs.Pool.{sumL}
 use Rattle.format_message.specs.Header.{kindAt, headerOf, carriedOf}
 use Rattle.format_word.specs.Word.{headerIn, carriedIn, linkIn}
 use Rattle.node.specs.Work.{Send, ASLEEP, BACK}
-use Rattle.field.specs.State.{State, nodeAt}
+use Rattle.field.specs.State.{State, nodeAt, posted}
 use Rattle.field.specs.Step.{place, inAir, inQueue, wakeWork, serveWork, hand, serve, WAKE, HAND, SERVE, step}
 use Rattle.field.specs.Held.{Held, stateOf, valid}
 use Rattle.field_calls.specs.Schedule.{scheduleRefusal, stepsIn, kindOf, numberOf, stepAt, never}
@@ -26,10 +26,12 @@ pub record Taken : Type 0 where
   pub number : ℕ
   pub at : State
 
+abbrev pub stepTaken : ℕ → ℕ → State → Taken
+stepTaken kind number s = record { kind = kind; number = number; at = s }
+
 -- the step itself where it is taken, nothing where it is refused
 unfoldable pub ifTaken : Plan → ℕ → ℕ → State → List Taken
-ifTaken p kind number s =
-    cond (eqb (step p kind number s .refusal) 0) (record { kind = kind; number = number; at = s } ∷ []) []
+ifTaken p kind number s = cond (eqb (step p kind number s .refusal) 0) (stepTaken kind number s ∷ []) []
 
 -- the steps of a round, in the shape of `round`
 unfoldable pub handTurnSteps : Plan → ℕ → State → List Taken
@@ -86,6 +88,10 @@ unfoldable pub sendsAt : Plan → Taken → List Send
 sendsAt p t =
     cond (eqb (t .kind) WAKE) (wakeWork p (t .number) (t .at) .sends)
     (cond (eqb (t .kind) SERVE) (serveWork p (t .number) (servedWord p (t .number) (t .at)) (t .at) .sends) [])
+
+-- the words of these, not handed over yet
+abbrev pub postedAt : Plan → Taken → List ℕ
+postedAt p t = posted p (t .number) (sendsAt p t)
 
 -- "Messages sent are the sends of the responses to the steps taken, in runs too; a put-back is no send."
 abbrev pub sentIn : Plan → List Taken → List Message

@@ -1,16 +1,36 @@
-// The cells and marks of a field: one module's values read and written, one mark written.
+// The cells and marks of a field: one module's values at setup, read and written; one mark written.
+use base::NONE;
 use field::Cells;
 use field::Marks;
+use node::ASLEEP;
 use node::Node;
 use node::WIDTH;
 use node_edges::NewMark;
 use plan::Plan;
 ghost use Prim.Native.Nat.{_<_, _≤_};
 ghost use mathlib.Core.Path.{_≡_};
+ghost use Rattle.node.specs.Work.{setup};
 ghost use Rattle.field.specs.State.{nodeIn, putNode};
 ghost use Rattle.field_cells.specs.Marks.{markPut};
 ghost use Rattle.base.specs.Limits.{maxModules, maxLinks};
 ghost use Rattle.plan.specs.Links.{linksOf};
+
+// A module's values at setup.
+pub fn fresh_node() -> Node
+    ensures { λ r. ⌜ r ≡ setup ⌝ }
+{
+    Node {
+        status: ASLEEP,
+        level: 0,
+        identity: NONE,
+        weight: NONE,
+        best: NONE,
+        test: NONE,
+        branch: NONE,
+        count: 0,
+        halted: 0,
+    }
+}
 
 // Module v's values.
 pub fn load(cells: &Cells, v: u16) -> Node

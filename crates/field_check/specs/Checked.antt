@@ -6,14 +6,10 @@ use Rattle.field.specs.State.{State}
 use Rattle.field.specs.Valid.{waitingIn}
 use Rattle.field.specs.Held.{Held, valid}
 use Rattle.field_check.specs.declared.Checked.{Checked}
-use Rattle.plan.specs.Links.{Plan}
 
 abbrev pub checkOf : Held → Checked
 checkOf h = record { ok = valid h; waiting = length (waitingIn (h .words)) }
 
--- a field of lent arrays, and its state
-abbrev pub heldIn : Plan → List ℕ → List ℕ → ℕ → List ℕ → Held
-heldIn p cells marks sent words = record { field = record { plan = p; cells = cells; marks = marks; sent = sent }; words = words }
-
+-- the state of a field in lent arrays
 abbrev pub stateIn : List ℕ → List ℕ → List ℕ → ℕ → State
 stateIn cells marks words sent = record { cells = cells; marks = marks; words = words; sent = sent }

@@ -18,7 +18,8 @@ ghost use Rattle.field.specs.Edges.{ownOf};
 ghost use Rattle.node.specs.Work.{REJECTED, degree};
 ghost use Rattle.field.specs.State.{nodeIn};
 ghost use Rattle.field.specs.Valid.{allOf, waitingIn, wordFits, nodeFits, fits};
-ghost use Rattle.field_check.specs.Checked.{checkOf, heldIn, stateIn};
+ghost use Rattle.field.specs.Held.{heldFrom};
+ghost use Rattle.field_check.specs.Checked.{checkOf, stateIn};
 ghost use Rattle.field_check.specs.Ready.{Ready};
 
 // How many links each module has.
@@ -148,7 +149,7 @@ pub fn check<'a>(
     sent: u32,
     lent: &[u64],
 ) -> Checked
-    ensures { λ r. ⌜ r ≡ checkOf (heldIn (now (plan .entry))
+    ensures { λ r. ⌜ r ≡ checkOf (heldFrom (now (plan .entry))
         (now (cells .entry)) (now (marks .entry)) sent (now (lent .entry))) ⌝ }
 {
     let n = waiting(lent);
@@ -174,12 +175,30 @@ pub fn check<'a>(
     Checked { ok: ok, waiting: n }
 }
 
-// 31, "before all else", of a field that a host supplies: whether it passes, so that steps may follow, and how many words wait.
+// 31, "before all else", of a field in lent arrays: whether it passes, so that steps may follow, and how many words wait.
+pub fn admit_parts<'a>(
+    plan: &'a Plan,
+    cells: &'a Cells,
+    marks: &'a Marks,
+    sent: u32,
+    lent: &[u64],
+) -> Checked
+    ensures { λ r. ⌜ (r ≡ checkOf (heldFrom (now (plan .entry)) (now (cells .entry)) (now (marks .entry)) sent (now (lent .entry))))
+        × (r .ok ≡ true → Ready (now (plan .entry)) (now (cells .entry)) (now (marks .entry)) (now (lent .entry)) (r .waiting) sent) ⌝ }
+{
+    // as slices the arrays show their lengths, which steps ask for
+    let numbers = &plan[..];
+    let values = &cells[..];
+    let ends = &marks[..];
+    check(plan, cells, marks, sent, lent)
+}
+
+// The same of a field that a host supplies.
 pub fn admit(f: Field, lent: &[u64]) -> Checked
     ensures { λ r. ⌜ (r ≡ checkOf (record { field = f; words = now (lent .entry) }))
         × (r .ok ≡ true → Ready (f .plan) (f .cells) (f .marks) (now (lent .entry)) (r .waiting) (f .sent)) ⌝ }
 {
-    check(&f.plan, &f.cells, &f.marks, f.sent, lent)
+    admit_parts(&f.plan, &f.cells, &f.marks, f.sent, lent)
 }
 
 // Field f with these cells, marks and sent count: put together again after its steps.

@@ -19,7 +19,7 @@ use Rattle.node.specs.Work.{Work, BACK}
 use Rattle.field.specs.State.{State, posted}
 use Rattle.field.specs.Step.{wakeWork, serveWork, backOf, step}
 use Rattle.field_calls.specs.Call.{Call}
-use Rattle.field_calls.specs.Trail.{Taken, ifTaken, stepsOf, sentBy, sendsAt, sentIn, messagesSent, consumedAt}
+use Rattle.field_calls.specs.Trail.{Taken, stepTaken, postedAt, ifTaken, stepsOf, sentBy, sendsAt, sentIn, messagesSent, consumedAt}
 use Rattle.field_laws.specs.Cases.{refusal-not-0, StepOutcome, took, kept, FieldStep, wake-step, hand-step, serve-step, step-outcome}
 use Rattle.field_laws.specs.Trace.{onState, call-tells}
 
@@ -28,13 +28,7 @@ unfolding flatMap
 flat-app f [] m = refl
 flat-app f (x ∷ l) m = ap (λ r. f x ++ r) (flat-app f l m) ∙ sym (append-assoc (f x) (flatMap f l) (flatMap f m))
 
-abbrev pub stepTaken : ℕ → ℕ → State → Taken
-stepTaken kind number s = record { kind = kind; number = number; at = s }
-
 -- the words of what the steps sent, and those that they consumed
-abbrev pub postedAt : Plan → Taken → List ℕ
-postedAt p t = posted p (t .number) (sendsAt p t)
-
 abbrev pub sentWords : Plan → List Taken → List ℕ
 sentWords p l = flatMap (postedAt p) l
 

@@ -2,11 +2,13 @@
 -- run checks 31 once.
 use Prim.Native.Nat.{ℕ, suc, _+_, _*_, _≤_, _<_}
 use native.Mathlib.Omega.{arith}
-use mathlib.Core.Path.{_≡_, refl, sym, ap, subst}
+use mathlib.Core.Path.{_≡_, refl, sym, ap, subst, _∙_}
+use mathlib.Core.Logic.{_≢_}
 use mathlib.Core.Bool.{true, cond, _&&_}
 use mathlib.Core.List.{List, [], _∷_, _++_}
 use lib.ListN.{length, getD, length-append}
 use lib.Dec.{eqb, ltb}
+use borrow.Author.Tests.{eq-eqb, ne-eqb}
 use Rattle.base.specs.laws.Cond.{bool-cases, by-eq}
 use Rattle.base.specs.Loop.{After}
 use Rattle.base.specs.laws.Loop.{by-test}
@@ -41,6 +43,21 @@ pub record Sound (p : Plan) (s : State) : Type 0 where
 pub out-length : {A : Type 0} {l r : List A} {x : A} → Out l x r → length l ≡ suc (length r)
 out-length here = refl
 out-length (there o) = ap suc (out-length o)
+
+-- the served word is put back, or it is not
+module _ (w : Work) (x a : ℕ) (e : w .answer ≡ a) where
+  pub not-back : a ≢ BACK → backOf w x ≡ []
+  unfolding backOf
+  not-back n = rw (ne-eqb (w .answer) BACK (λ q. n (sym e ∙ q)))
+
+  pub is-back : a ≡ BACK → x ∷ [] ≡ backOf w x
+  unfolding backOf
+  is-back h = rw (eq-eqb (w .answer) BACK (e ∙ h))
+
+-- what holds of a word holds of what is put back of it
+pub back-all : {P : ℕ → Type 0} (w : Work) (x : ℕ) → P x → All P (backOf w x)
+unfolding backOf
+back-all {P} w x h = by-test (eqb (w .answer) BACK) (λ b. All P (cond b (x ∷ []) [])) (All-one h) nil
 
 module _ (p : Plan) (a : Accepted p) (s : State) (i : Sound p s) where
   -- what a response starts from
@@ -91,10 +108,6 @@ module _ (p : Plan) (a : Accepted p) (s : State) (i : Sound p s) where
       };
     }
 
-  back-fits : (w : Work) (x : ℕ) → wordFits p x ≡ true → All (λ y. wordFits p y ≡ true) (backOf w x)
-  unfolding backOf
-  back-fits w x f = by-test (eqb (w .answer) BACK) (λ b. All (λ y. wordFits p y ≡ true) (cond b (x ∷ []) [])) (All-one f) nil
-
   back-short : (w : Work) (x : ℕ) → length (backOf w x) ≤ 1
   unfolding backOf
   back-short w x = by-test (eqb (w .answer) BACK) (λ b. length (cond b (x ∷ []) []) ≤ 1) (omega arith) (omega arith)
@@ -122,7 +135,7 @@ module _ (p : Plan) (a : Accepted p) (s : State) (i : Sound p s) where
       let f = All-here o (i .fits .words) in
       let w = serveWork p v x s in
       subst (Sound p) (sym (h .responds .is))
-      (placed-sound v (h .within) w (serve-ok v x (h .within) f (first-passes (h .first))) (h .rest) (backOf w x) (All-rest o (i .fits .words)) (back-fits w x f)
+      (placed-sound v (h .within) w (serve-ok v x (h .within) f (first-passes (h .first))) (h .rest) (backOf w x) (All-rest o (i .fits .words)) (back-all w x f)
       (omega (arith, out-length o, back-short w x, i .fits .waiting)) (h .responds .room))
 
   kept-sound : {Took : State → Type 0} {r : After State} → ((s′ : State) → Took s′ → Sound p s′) → StepOutcome s Took r → Sound p (r .state)

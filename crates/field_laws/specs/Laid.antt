@@ -1,5 +1,6 @@
 -- The lent words and the field: waiting words are laid out and read back (`layout-back`, `layout-zeros`), a call on what the host holds is the call on its
--- state (`does-state`), and a field that passes 31 passes it ever after (`does-live`). A refused call alters nothing (`refused-alters-nothing`).
+-- state (`does-state`), and a field that passes 31 passes it ever after (`does-live`). A refused call alters nothing (`refused-alters-nothing`). A step given
+-- alone that is taken, on any field and words (`alone-took`, `alone-left`, `alone-plan`, `step-back`).
 use Prim.Native.Nat.{ℕ, zero, suc, _-_, _≤_}
 use native.Mathlib.Omega.{arith}
 use mathlib.Core.Path.{_≡_, refl, sym, ap, ap₂, _∙_}
@@ -14,19 +15,25 @@ use Rattle.base.specs.laws.Cond.{bool-cases, eqb-cases, eqb-diff}
 use Rattle.base.specs.Limits.{maxEnds}
 use Rattle.base.specs.Loop.{After}
 use Rattle.base.specs.Pool.{All, nil, con}
-use Rattle.base.specs.laws.Pool.{All-map}
+use Rattle.base.specs.laws.Pool.{All-map, All-app, All-one, All-here, All-rest}
+use Rattle.base.specs.laws.Keep.{first-out}
+use Rattle.format_message.specs.Header.{headerOf, carriedOf}
+use Rattle.format_word.specs.laws.Word.{packed-nonzero, over-nonzero}
+use Rattle.node.specs.Work.{Send}
 use Rattle.plan.specs.Refusal.{planRefusal}
 use Rattle.plan.specs.laws.Accepted.{Accepted, accepted}
 use Rattle.plan.specs.Links.{Plan}
-use Rattle.field.specs.Edges.{ceilingOf}
-use Rattle.field.specs.State.{State, CELLS}
+use Rattle.field.specs.Edges.{endOf, ceilingOf}
+use Rattle.field.specs.State.{State, CELLS, posted}
+use Rattle.field.specs.Step.{wakeWork, serveWork, step}
 use Rattle.field.specs.Valid.{allOf, waitingIn, zeroAfter, fits}
 use Rattle.field.specs.Held.{Held, layout, stateOf, heldOf, valid, stepAlone}
+use Rattle.field.specs.laws.Step.{alone-31, alone-step}
 use Rattle.field_calls.specs.Schedule.{scheduleRefusal, scheduleRun}
 use Rattle.field_calls.specs.Call.{Call, one, run, rounds, refusedRun, laidBack, runBytes, runRounds, does}
-use Rattle.field_laws.specs.Cases.{StepOutcome, took, kept, FieldStep, step-outcome}
+use Rattle.field_laws.specs.Cases.{StepOutcome, took, kept, FieldStep, wake-step, hand-step, serve-step, step-outcome, took-it}
 use Rattle.field_laws.specs.Fits.{word-nonzero, fits-facts, facts-fits}
-use Rattle.field_laws.specs.Keeps.{Sound, SameLengths, step-keeps, step-lengths}
+use Rattle.field_laws.specs.Keeps.{Sound, back-all, SameLengths, step-keeps, step-lengths}
 use Rattle.field_laws.specs.Trace.{onState, call-keeps}
 
 -- ---- words laid out
@@ -41,6 +48,12 @@ waiting-back : (n : ℕ) {l : List ℕ} → All (λ x. x ≢ 0) l → waitingIn 
 unfolding waitingIn
 waiting-back n nil = waiting-zeros n
 waiting-back n (con {x} {xs} h t) = rw (eqb-diff x 0 h) (ap (λ r. x ∷ r) (waiting-back n t))
+
+-- (and words that wait are not 0)
+waiting-nonzero : (l : List ℕ) → All (λ x. x ≢ 0) (waitingIn l)
+unfolding waitingIn
+waiting-nonzero [] = nil
+waiting-nonzero (x ∷ l) = eqb-cases x 0 (λ b. All (λ y. y ≢ 0) (cond b [] (x ∷ waitingIn l))) (λ e. nil) (λ n. con n (waiting-nonzero l))
 
 pub zeros-all : (k : ℕ) → allOf (λ x. eqb x 0) (replicate k 0) ≡ true
 unfolding allOf
@@ -72,6 +85,57 @@ module _ (n : ℕ) (words : List ℕ) (l : length words ≤ n) where
   pub layout-zeros : All (λ x. x ≢ 0) words → zeroAfter (layout n words) ≡ true
   layout-zeros h = rw (waiting-back (n - length words) h) (ap (allOf (λ x. eqb x 0)) (drop-append-seam words (replicate (n - length words) 0)) ∙ zeros-all (n - length words))
 
+-- ---- a step given alone, on any field and words
+
+-- a step leaves no word that is 0
+module _ (p : Plan) where
+  posted-nonzero : (v : ℕ) (l : List Send) → All (λ x. x ≢ 0) (posted p v l)
+  posted-nonzero v [] = nil
+  posted-nonzero v (x ∷ l) = con (packed-nonzero (headerOf (x .msg)) (carriedOf (x .msg)) (endOf p v (x .edge)) 0) (posted-nonzero v l)
+
+  step-nonzero : (s : State) {kind number : ℕ} {s′ : State} → All (λ x. x ≢ 0) (s .words) → FieldStep p s kind number s′ → All (λ x. x ≢ 0) (s′ .words)
+  step-nonzero s a (wake-step {v} h) = rw (h .responds .is) (All-app (All-app a (posted-nonzero v (wakeWork p v s .sends))) nil)
+  step-nonzero s a (hand-step h) = let o = first-out (h .first) in rw (h .is) (All-app (All-rest o a) (All-one (over-nonzero (h .word) (All-here o a))))
+  step-nonzero s a (serve-step {v} h) =
+      let o = first-out (h .first) in
+      let w = serveWork p v (h .word) s in
+      rw (h .responds .is) (All-app (All-app (All-rest o a) (posted-nonzero v (w .sends))) (back-all w (h .word) (All-here o a)))
+
+-- so what it leaves is read back from where it is laid, no matter how the field was made
+pub step-back : (h : Held) {kind number : ℕ} {s : State} → FieldStep (h .field .plan) (stateOf h) kind number s → waitingIn (heldOf h s .words) ≡ s .words
+step-back h {s} t = waiting-back (length (h .words) - length (s .words)) (step-nonzero (h .field .plan) (stateOf h) (waiting-nonzero (h .words)) t)
+
+-- what 31 checks
+checked : (h : Held) → valid h ≡ true
+    → (planRefusal (h .field .plan) ≡ 0) × (leb (ceilingOf (h .field .plan)) (length (h .words)) ≡ true) × (zeroAfter (h .words) ≡ true) × (fits (h .field .plan) (stateOf h) ≡ true)
+unfolding valid
+checked h e =
+    let p = h .field .plan in
+    let a = and-eq-true-iff (eqb (planRefusal p) 0 && leb (ceilingOf p) (length (h .words)) && zeroAfter (h .words)) (fits p (stateOf h)) .0 e in
+    let b = and-eq-true-iff (eqb (planRefusal p) 0 && leb (ceilingOf p) (length (h .words))) (zeroAfter (h .words)) .0 (a .0) in
+    let c = and-eq-true-iff (eqb (planRefusal p) 0) (leb (ceilingOf p) (length (h .words))) .0 (b .0) in
+    (eqb-true _ _ (c .0), c .1, b .1, a .1)
+
+module _ (kind number : ℕ) (h : Held) where
+  abbrev stepHere : After State
+  stepHere = step (h .field .plan) kind number (stateOf h)
+
+  module _ (e : stepAlone kind number h .refusal ≡ 0) where
+    -- 31 let the field pass
+    passed : valid h ≡ true
+    passed = bool-cases (valid h) (λ v. v) (λ v. absurd (omega (arith, e, ap (λ a. a .refusal) (alone-31 kind number h v))))
+
+    pub alone-plan : Accepted (h .field .plan)
+    alone-plan = accepted (h .field .plan) (checked h passed .0)
+
+    -- taken alone, the step was taken in the field's state ..
+    pub alone-took : FieldStep (h .field .plan) (stateOf h) kind number (stepHere .state)
+    alone-took = took-it (step-outcome (h .field .plan) (stateOf h) kind number) (ap (λ a. a .refusal) (alone-step kind number h passed) ∙ e)
+
+    -- .. and what that left is laid out again
+    pub alone-left : stepAlone kind number h .state ≡ heldOf h (stepHere .state)
+    alone-left = sym (ap (λ a. a .state) (alone-step kind number h passed))
+
 -- ---- what a host holds
 
 -- the arrays of a field hold 192 modules and 600 links; and 31 does not apply
@@ -85,12 +149,7 @@ module _ (h : Held) (i : Live h) where
   plan = h .field .plan
 
   checks : (planRefusal plan ≡ 0) × (leb (ceilingOf plan) (length (h .words)) ≡ true) × (zeroAfter (h .words) ≡ true) × (fits plan (stateOf h) ≡ true)
-  unfolding valid
-  checks =
-      let a = and-eq-true-iff (eqb (planRefusal plan) 0 && leb (ceilingOf plan) (length (h .words)) && zeroAfter (h .words)) (fits plan (stateOf h)) .0 (i .valid) in
-      let b = and-eq-true-iff (eqb (planRefusal plan) 0 && leb (ceilingOf plan) (length (h .words))) (zeroAfter (h .words)) .0 (a .0) in
-      let c = and-eq-true-iff (eqb (planRefusal plan) 0) (leb (ceilingOf plan) (length (h .words))) .0 (b .0) in
-      (eqb-true _ _ (c .0), c .1, b .1, a .1)
+  checks = checked h (i .valid)
 
   pub live-plan : Accepted plan
   live-plan = accepted plan (checks .0)

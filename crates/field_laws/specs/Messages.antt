@@ -20,12 +20,12 @@ use Rattle.field.specs.State.{State, posted}
 use Rattle.field.specs.Step.{serveWork, step}
 use Rattle.field.specs.Held.{Held, stateOf}
 use Rattle.field_calls.specs.Call.{Call, after}
-use Rattle.field_calls.specs.Trail.{Taken, ifTaken, trail, Message, sentBy, carriedBy, sameMessage, timesIn, sendsAt, sentIn, messagesSent, consumedIn}
+use Rattle.field_calls.specs.Trail.{Taken, ifTaken, trail, Message, sentBy, carriedBy, sameMessage, timesIn, sendsAt, sentIn, messagesSent, consumedIn, stepTaken, postedAt}
 use Rattle.field_laws.specs.Cases.{refusal-not-0, StepOutcome, took, kept, FieldStep, wake-step, hand-step, serve-step, step-outcome}
 use Rattle.field_laws.specs.Sends.{same-message, posted-carry}
 use Rattle.field_laws.specs.Fits.{sends-pack}
 use Rattle.field_laws.specs.Keeps.{Sound, wake-ok, serve-ok, step-keeps}
-use Rattle.field_laws.specs.Counts.{flat-app, stepTaken, postedAt, sentWords, consumedWords}
+use Rattle.field_laws.specs.Counts.{flat-app, sentWords, consumedWords}
 use Rattle.field_laws.specs.Laid.{Live, live-sound}
 use Rattle.field_laws.specs.After.{list-tells, list-counts}
 

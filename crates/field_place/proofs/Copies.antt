@@ -1,11 +1,11 @@
--- The copies of a message, link by link (`copies-on`, `each-number`).
+-- The copies of a message, link by link (`copies-on`, `each-short`).
 use Prim.Native.Nat.{ℕ, zero, suc, _+_, _≤_}
 use native.Mathlib.Omega.{arith}
 use native.Mathlib.Numerals.{add-one}
-use mathlib.Core.Path.{_≡_, refl, sym, ap, _∙_}
+use mathlib.Core.Path.{_≡_, sym}
 use mathlib.Core.Bool.{Bool, true, false, cond, _&&_}
 use mathlib.Core.List.{[], _∷_, _++_, map-append, append-nil}
-use lib.ListN.{length, length-append}
+use lib.ListN.{length}
 use Rattle.base.specs.laws.Cond.{bool-cases, by-eq}
 use Rattle.format_message.specs.Msg.{Msg}
 use Rattle.format_message.specs.Header.{headerOf, carriedOf}
@@ -13,6 +13,7 @@ use Rattle.format_word.specs.Word.{packed}
 use Rattle.plan.specs.Links.{Plan}
 use Rattle.field.specs.Edges.{endOf}
 use Rattle.node.specs.Work.{Own, onEach, number}
+use Rattle.node.specs.laws.Count.{each-number}
 use Rattle.field.specs.State.{wordOf, posted}
 
 zero-of : (k : ℕ) → k ≤ 0 → k ≡ 0
@@ -28,21 +29,13 @@ module _ (o : Own) (f : ℕ → Bool) (m : Msg) where
   unfolding onEach
   each-off k h = rw (add-one k, h) (append-nil (onEach o f m k))
 
-  -- as many as there are
-  pub each-number : (n : ℕ) → length (onEach o f m n) ≡ number o f n
-  unfolding onEach number
-  each-number zero = refl
-  each-number (suc n) = bool-cases (o.own n && f n)
-      (λ h. rw h (omega (arith, each-number n, length-append (onEach o f m n) (record { edge = n; msg = m } ∷ []))))
-      (λ h. rw h (ap length (append-nil (onEach o f m n)) ∙ omega (arith, each-number n)))
-
   mono : (k n : ℕ) → k ≤ n → number o f k ≤ number o f n
   unfolding number
   mono k zero h = rw (zero-of k h) (omega arith)
   mono k (suc n) h = by-eq k (suc n) (λ e. rw e (omega arith)) (λ d. omega (arith, mono k n (omega arith)))
 
   pub each-short : (k n : ℕ) → k ≤ n → length (onEach o f m k) ≤ length (onEach o f m n)
-  each-short k n h = omega (arith, each-number k, each-number n, mono k n h)
+  each-short k n h = omega (arith, each-number o f m k, each-number o f m n, mono k n h)
 
   -- the words of the copies, with link k's where it gets one
   pub copies-on : (p : Plan) (v k header carried : ℕ) → headerOf m ≡ header → carriedOf m ≡ carried

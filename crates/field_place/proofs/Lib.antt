@@ -1,5 +1,5 @@
 pub mod Words
 pub mod Parts
 pub mod Copies
-pub mod Turns
 pub mod Puts
+pub mod Turns

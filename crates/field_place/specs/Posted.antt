@@ -5,6 +5,7 @@ use mathlib.Core.Logic.{_⊎_}
 use mathlib.Core.Bool.{Bool, _&&_}
 use mathlib.Core.List.{List, _++_}
 use lib.ListN.{length, take}
+use lib.Seq.{sets}
 use Rattle.base.specs.None.{none}
 use Rattle.base.specs.Limits.{maxLinks}
 use Rattle.format_message.specs.Listed.{Listed}
@@ -34,16 +35,21 @@ copiesTo p marks v x k = onEach (ownOf p v) (copyTest p marks v x) (msgIn x) k
 abbrev pub sendsBy : Plan → List ℕ → ℕ → ℕ → Response → List Send
 sendsBy p marks v x a = copiesOf (a .copies) (copiesTo p marks v x (linksOf p)) ++ (packetSends (a .first) ++ packetSends (a .second))
 
--- "A send goes to the end": `words` behind the n that waited, r then wait
+-- `words` written from place n on, r the place behind them; all else keeps
 pub record Posted (before after : List ℕ) (n r : ℕ) (words : List ℕ) : Type 0 where
+  pub is : after ≡ sets before n words
+  pub many : r ≡ n + length words
+
+-- "A send goes to the end": the same where zeros lay behind the n words that waited
+pub record AtEnd (before after : List ℕ) (n r : ℕ) (words : List ℕ) : Type 0 where
   pub is : after ≡ layout (length before) (take n before ++ words)
   pub many : r ≡ n + length words
 
--- the same of module v's sends
+-- module v's sends at the end, r words then wait
 pub record Put (p : Plan) (v : ℕ) (sends : List Send) (before : List ℕ) (n : ℕ) (after : List ℕ) (r : ℕ) : Type 0 where
   pub same : length after ≡ length before
   pub laid : Laid after r
-  pub words : Posted before after n r (posted p v sends)
+  pub words : AtEnd before after n r (posted p v sends)
 
 -- no message, or a listed one on a link
 pub record PacketOk (x : Packet) : Type 0 where

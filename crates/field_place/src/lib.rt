@@ -1,4 +1,5 @@
-// A response that was worked out by value is put in place: its messages behind the waiting words, its node and its mark.
+// A response that was worked out by value is put in place: its messages behind the waiting words, its node and its mark. Its messages can be written into
+// any other words too.
 use base::NONE;
 use field::Cells;
 use field::Marks;
@@ -22,9 +23,9 @@ ghost use Rattle.field_words.specs.Laid.{Laid};
 ghost use Rattle.field_cells.specs.Marks.{markPut};
 ghost use Rattle.field_place.specs.Posted.{copiedAt, copiesTo, sendsBy, Posted, Put, PacketOk};
 
-// One message of module v, if there is one, goes to the end of the n words that wait.
+// One message of module v, if there is one, is written at place n; the answer is the place behind it.
 fn post(plan: &Plan, lent: &mut [u64], n: usize, v: u16, x: Packet) -> usize
-    requires { ⌜ Laid (now lent) n × PacketOk x × (n + length (packetSends x) ≤ length (now lent)) ⌝ }
+    requires { ⌜ PacketOk x × (n + length (packetSends x) ≤ length (now lent)) ⌝ }
     ensures { λ r. ⌜ Posted (now (lent .entry)) (now (lent .exit)) n r (posted (now (plan .entry)) v (packetSends x)) ⌝ }
 {
     if x.edge == NONE {
@@ -32,7 +33,7 @@ fn post(plan: &Plan, lent: &mut [u64], n: usize, v: u16, x: Packet) -> usize
     }
     let h = format_message::header(x.kind, x.level, x.find);
     let w = format_word::pack(h, x.carried, node_edges::end_at(plan, v, x.edge));
-    field_words::put(lent, n, w);
+    lent[n] = w;
     n + 1
 }
 
@@ -69,7 +70,7 @@ fn copy_of(plan: &Plan, v: u16, x: u64, k: u16) -> u64
     )
 }
 
-// The copy for link k, if it gets one, goes to the end of the m words that wait.
+// The copy for link k, if it gets one, is written at place m; the answer is the place behind it.
 fn copy_to<'a>(
     plan: &'a Plan,
     marks: &'a Marks,
@@ -79,20 +80,19 @@ fn copy_to<'a>(
     x: u64,
     k: u16,
 ) -> usize
-    requires { ⌜ Laid (now lent) m × (linksOf (now plan) ≤ maxLinks) × (k < linksOf (now plan))
+    requires { ⌜ (linksOf (now plan) ≤ maxLinks) × (k < linksOf (now plan))
         × (copiedAt (now plan) (now marks) v x k ≡ true → m < length (now lent)) ⌝ }
     ensures { λ r. ⌜ Posted (now (lent .entry)) (now (lent .exit)) m r
         (cond (copiedAt (now (plan .entry)) (now (marks .entry)) v x k) (packed (headerIn x) (carriedIn x) (endOf (now (plan .entry)) v k) 0 ∷ []) []) ⌝ }
 {
     if is_copied(plan, marks, v, x, k) {
-        let w = copy_of(plan, v, x, k);
-        field_words::put(lent, m, w);
+        lent[m] = copy_of(plan, v, x, k);
         return m + 1;
     }
     m
 }
 
-// The copies of word x, by rising link number.
+// The copies of word x from place n on, by rising link number.
 fn post_copies<'a>(
     plan: &'a Plan,
     marks: &'a Marks,
@@ -101,10 +101,10 @@ fn post_copies<'a>(
     v: u16,
     x: u64,
 ) -> usize
-    requires { ⌜ Laid (now lent) n × (linksOf (now plan) ≤ maxLinks) × Means (headerIn x) (carriedIn x) (msgIn x)
+    requires { ⌜ (linksOf (now plan) ≤ maxLinks) × Means (headerIn x) (carriedIn x) (msgIn x)
         × (n + length (copiesTo (now plan) (now marks) v x (linksOf (now plan))) ≤ length (now lent)) ⌝ }
-    ensures { λ r. ⌜ Put (now (plan .entry)) v (copiesTo (now (plan .entry)) (now (marks .entry)) v x (linksOf (now (plan .entry))))
-        (now (lent .entry)) n (now (lent .exit)) r ⌝ }
+    ensures { λ r. ⌜ Posted (now (lent .entry)) (now (lent .exit)) n r
+        (posted (now (plan .entry)) v (copiesTo (now (plan .entry)) (now (marks .entry)) v x (linksOf (now (plan .entry))))) ⌝ }
 {
     let links = plan::links(plan);
     let mut m = n;
@@ -126,10 +126,10 @@ fn post_told<'a>(
     x: u64,
     copies: u8,
 ) -> usize
-    requires { ⌜ Laid (now lent) n × (linksOf (now plan) ≤ maxLinks) × Means (headerIn x) (carriedIn x) (msgIn x)
+    requires { ⌜ (linksOf (now plan) ≤ maxLinks) × Means (headerIn x) (carriedIn x) (msgIn x)
         × (n + length (copiesOf copies (copiesTo (now plan) (now marks) v x (linksOf (now plan)))) ≤ length (now lent)) ⌝ }
-    ensures { λ r. ⌜ Put (now (plan .entry)) v (copiesOf copies (copiesTo (now (plan .entry)) (now (marks .entry)) v x (linksOf (now (plan .entry)))))
-        (now (lent .entry)) n (now (lent .exit)) r ⌝ }
+    ensures { λ r. ⌜ Posted (now (lent .entry)) (now (lent .exit)) n r
+        (posted (now (plan .entry)) v (copiesOf copies (copiesTo (now (plan .entry)) (now (marks .entry)) v x (linksOf (now (plan .entry)))))) ⌝ }
 {
     if copies != 1 {
         return n;
@@ -137,8 +137,8 @@ fn post_told<'a>(
     post_copies(plan, marks, lent, n, v, x)
 }
 
-// All messages of a response to word x, in their order: the copies, then the first and the second.
-fn post_all<'a>(
+// All messages of a response to word x from place n on, in their order: the copies, then the first and the second.
+pub fn post_all<'a>(
     plan: &'a Plan,
     marks: &'a Marks,
     lent: &mut [u64],
@@ -147,9 +147,10 @@ fn post_all<'a>(
     x: u64,
     a: Response,
 ) -> usize
-    requires { ⌜ Laid (now lent) n × (linksOf (now plan) ≤ maxLinks) × Means (headerIn x) (carriedIn x) (msgIn x) × PacketOk (a .first) × PacketOk (a .second)
+    requires { ⌜ (linksOf (now plan) ≤ maxLinks) × Means (headerIn x) (carriedIn x) (msgIn x) × PacketOk (a .first) × PacketOk (a .second)
         × (n + length (sendsBy (now plan) (now marks) v x a) ≤ length (now lent)) ⌝ }
-    ensures { λ r. ⌜ Put (now (plan .entry)) v (sendsBy (now (plan .entry)) (now (marks .entry)) v x a) (now (lent .entry)) n (now (lent .exit)) r ⌝ }
+    ensures { λ r. ⌜ Posted (now (lent .entry)) (now (lent .exit)) n r
+        (posted (now (plan .entry)) v (sendsBy (now (plan .entry)) (now (marks .entry)) v x a)) ⌝ }
 {
     let m = post_told(plan, marks, lent, n, v, x, a.copies);
     let k = post(plan, lent, m, v, a.first);

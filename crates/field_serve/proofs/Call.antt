@@ -7,8 +7,9 @@ use Rattle.base.specs.Loop.{After, Ran}
 use Rattle.plan.specs.Links.{Plan}
 use Rattle.field.specs.declared.Field.{Field}
 use Rattle.field.specs.State.{State}
-use Rattle.field.specs.Held.{Held, heldOf}
+use Rattle.field.specs.Held.{Held}
 use Rattle.field.specs.Held as H
+use Rattle.field.specs.laws.Step.{laidAfter}
 use Rattle.field_calls.specs.Call.{laidBack}
 use Rattle.field_words.specs.Hands.{lentState}
 use Rattle.field_check.specs.declared.Checked.{Checked}
@@ -16,10 +17,6 @@ use Rattle.field_check.specs.Checked.{checkOf}
 use Rattle.field_check.proofs.Admitted.{starts, again}
 use Rattle.field_serve.specs.declared.Done.{Done}
 use Rattle.field_serve.specs.Lent.{Advances, Runs}
-
--- a step's end, with the words laid out again
-abbrev pub laidAfter : Held → After State → After Held
-laidAfter h a = record { refusal = a .refusal; state = heldOf h (a .state) }
 
 module _ (f : Field) (lent : List ℕ) (c : Checked) (e : c ≡ checkOf (record { field = f; words = lent })) {b : Done}
     (eb : b ≡ record { refusal = 0; waiting = c .waiting; sent = f .sent }) where

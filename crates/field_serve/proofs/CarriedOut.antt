@@ -1,73 +1,78 @@
--- What the code wrote is the response carried out (`out-32`, `out-33`, `out-placed`).
-use Prim.Native.Nat.{ℕ, _+_, _*_, _≤_, _<_}
+-- What the code wrote is the verdict carried out (`out-refused`, `out-placed`), and with it the step that was decided (`executable`, `out-advances`).
+use Prim.Native.Nat.{ℕ, _+_, _≤_}
 use native.Mathlib.Omega.{arith}
 use mathlib.Core.Path.{_≡_, refl, sym, ap, _∙_}
 use mathlib.Core.Logic.{_≢_}
 use mathlib.Core.List.{List, _++_}
 use lib.ListN.{length, take}
-use borrow.Author.Tests.{eq-eqb, ne-eqb, lt-ltb, le-ltb}
-use Rattle.base.specs.Loop.{takenTo, refusedBy}
-use Rattle.plan.specs.Links.{Plan, linksOf}
-use Rattle.node.specs.Work.{Work, REFUSED}
-use Rattle.node_response.specs.declared.Response.{Response}
-use Rattle.field.specs.Edges.{ceilingOf}
+use lib.Seq.{length-take-le}
+use borrow.Author.Tests.{ne-eqb}
+use Rattle.base.specs.Limits.{maxWords}
+use Rattle.base.specs.Loop.{After, takenTo}
+use Rattle.base.specs.laws.Ceiling.{ceiling-most}
+use Rattle.plan.specs.Links.{Plan, modulesOf, linksOf}
+use Rattle.node.specs.Work.{Work}
 use Rattle.field.specs.State.{State, putNode, posted, placed}
-use Rattle.field.specs.Step.{without, carryOut, backOf}
+use Rattle.field.specs.Step.{without, backOf}
+use Rattle.field_laws.specs.Keeps.{Sound}
 use Rattle.field_cells.specs.Marks.{markPut}
 use Rattle.field_cells.proofs.Marks.{mark-put}
 use Rattle.field_place.specs.Posted.{sendsBy}
-use Rattle.field_words.specs.Laid.{Laid}
 use Rattle.field_words.specs.Hands.{lentState}
+use Rattle.field_check.specs.Ready.{Ready}
+use Rattle.field_verdict.specs.declared.Verdict.{Verdict}
+use Rattle.field_verdict.specs.Verdict.{workIn, outcome, Decided}
+use Rattle.field_verdict.proofs.Decided.{decided-own}
 use Rattle.field_serve.specs.declared.Done.{Done}
 use Rattle.field_serve.specs.Holds.{Holds}
-use Rattle.field_serve.specs.Lent.{wordAt, workBy, CarriedOut}
+use Rattle.field_serve.specs.Lent.{Advances, Executable, CarriedOut}
 use Rattle.field_serve.proofs.Holds.{holds-on}
+use Rattle.field_serve.proofs.Ready.{advances}
 
--- by its three outcomes
-module _ (p : Plan) (v : ℕ) (w : Work) (s : State) (words back : List ℕ) where
-  carry-32 : w .answer ≡ REFUSED → carryOut p v w s words back ≡ refusedBy REFUSED s
-  unfolding carryOut
-  carry-32 h = rw (eq-eqb (w .answer) REFUSED h)
-
-  module _ (n : w .answer ≢ REFUSED) where
-    carry-33 : ceilingOf p < s .sent + length (w .sends) → carryOut p v w s words back ≡ refusedBy 33 s
-    unfolding carryOut
-    carry-33 h = rw (ne-eqb (w .answer) REFUSED n, lt-ltb (ceilingOf p) (s .sent + length (w .sends)) h)
-
-    carry-placed : s .sent + length (w .sends) ≤ ceilingOf p → carryOut p v w s words back ≡ takenTo (placed p v w s words back)
-    unfolding carryOut
-    carry-placed h = rw (ne-eqb (w .answer) REFUSED n, le-ltb (ceilingOf p) (s .sent + length (w .sends)) h)
+taken-is : (w : Work) (p : Plan) (v : ℕ) (s : State) (y : Verdict) → y .refusal ≡ 0
+    → outcome w p v s y ≡ takenTo (placed p v w s (without (y .at) (s .words)) (backOf w (y .word)))
+taken-is w p v s y e = rw e
 
 state-is : {a b c d e f : List ℕ} {g h : ℕ} → a ≡ b → c ≡ d → e ≡ f → g ≡ h
     → _≡_ {A = State} (record { cells = a; marks = c; words = e; sent = g }) (record { cells = b; marks = d; words = f; sent = h })
 state-is p q r s = cc
 
-module _ (p : Plan) (cells marks lent : List ℕ) (b : Done) (v i : ℕ) (a : Response) where
+module _ (p : Plan) (cells marks lent : List ℕ) (b : Done) (v : ℕ) (y : Verdict) where
   abbrev before : State
   before = lentState cells marks lent (b .waiting) (b .sent)
 
-  -- a refused response alters nothing
-  abbrev stays : ℕ → Done → Type 0
-  stays refusal d = d ≡ record { refusal = refusal; waiting = b .waiting; sent = b .sent } → CarriedOut p v i a cells marks lent b d cells marks lent
+  abbrev work : Work
+  work = workIn p v before y
 
-  pub out-32 : Laid lent (b .waiting) → a .answer ≡ REFUSED → {d : Done} → stays 32 d
-  out-32 l h q = rw q (record { is = λ ok. sym (carry-32 p v (workBy p v (wordAt lent (b .waiting) i) a before) before _ _ h); laid = l })
+  module _ (x : Executable p cells marks lent b v y) where
+    -- a refusal alters nothing
+    pub out-refused : y .refusal ≢ 0 → {d : Done} → d ≡ record { refusal = y .refusal; waiting = b .waiting; sent = b .sent } → CarriedOut p v y cells marks lent b d cells marks lent
+    out-refused n q = rw q (record { is = rw (ne-eqb (y .refusal) 0 n); laid = x .ready .laid })
 
-  -- the code has read the word x and worked out the number of sends c
-  module _ (r : a .answer ≢ REFUSED) {x c : ℕ} (ex : x ≡ wordAt lent (b .waiting) i) (es : c ≡ length (sendsBy p marks v x a)) where
-    abbrev work : Work
-    work = workBy p v x a before
+    module _ (h : y .refusal ≡ 0) where
+      -- the messages fit behind the words that wait, and the sent count stays small
+      pub out-fits : b .waiting + y .sends ≤ length lent
+      out-fits = omega (arith, x .can h .room, x .ready .sound .fits .waiting, length-take-le (b .waiting) lent (x .ready .laid .within), x .ready .room)
 
-    pub out-33 : Laid lent (b .waiting) → ceilingOf p < b .sent + c → {d : Done} → stays 33 d
-    out-33 l h q = rw q (record { is = λ ok. rw (← ex) (sym (carry-33 p v work before _ _ r (omega arith))); laid = l })
+      pub out-counts : b .sent + y .sends ≤ maxWords
+      out-counts = omega (arith, x .can h .room, ceiling-most (modulesOf p) (linksOf p) (x .ready .plan .modulesOk) (x .ready .plan .linksOk))
 
-    pub out-placed : b .sent + c ≤ ceilingOf p → {cells′ marks′ mid last : List ℕ} {l k size : ℕ} → cells′ ≡ putNode cells v (a .node)
-        → 2 * linksOf p ≤ length marks → marks′ ≡ markPut p marks v (a .newmark)
-        → Holds mid l size (without i (take (b .waiting) lent) ++ posted p v (sendsBy p marks v x a))
-        → ((w : Work) → w .answer ≡ a .answer → Holds last k (length mid) (take l mid ++ backOf w x))
-        → {d : Done} → d ≡ record { refusal = 0; waiting = k; sent = b .sent + c } → CarriedOut p v i a cells marks lent b d cells′ marks′ last
-    out-placed le e1 sized e2 h k q = rw q (record {
-      is = λ ok. rw (← ex) (ap takenTo (state-is e1 (e2 ∙ mark-put p ok marks v sized (a .newmark)) (holds-on _ h (k work refl) .waits) (ap (λ (y : ℕ). b .sent + y) es))
-          ∙ sym (carry-placed p v work before _ _ r (omega arith)));
-      laid = k work refl .laid;
-    })
+      pub out-placed : {cells′ marks′ mid last : List ℕ} {l k size : ℕ} → cells′ ≡ putNode cells v (y .response .node) → marks′ ≡ markPut p marks v (y .response .newmark)
+          → Holds mid l size (without (y .at) (take (b .waiting) lent) ++ posted p v (sendsBy p marks v (y .word) (y .response)))
+          → ((w : Work) → w .answer ≡ y .response .answer → Holds last k (length mid) (take l mid ++ backOf w (y .word)))
+          → {d : Done} → d ≡ record { refusal = 0; waiting = k; sent = b .sent + y .sends } → CarriedOut p v y cells marks lent b d cells′ marks′ last
+      out-placed e1 e2 t k q = rw q (record {
+        is = ap takenTo (state-is e1 (e2 ∙ mark-put p (x .ready .plan) marks v (x .ready .sound .sized .marks) (y .response .newmark)) (holds-on _ t (k work refl) .waits)
+            (ap (λ (c : ℕ). b .sent + c) (x .can h .count)))
+            ∙ sym (taken-is work p v before y h);
+        laid = k work refl .laid;
+      })
+
+  -- the verdict on step g
+  module _ (r : Ready p cells marks lent (b .waiting) (b .sent)) (g : Plan → State → After State) {w : Work} (t : Decided (g p before) w p v before y) where
+    pub executable : Executable p cells marks lent b v y
+    executable = record { ready = r; can = decided-own t .can }
+
+    pub out-advances : Sound p (g p before .state) → {d : Done} {cells′ marks′ lent′ : List ℕ} → CarriedOut p v y cells marks lent b d cells′ marks′ lent′
+        → length lent′ ≡ length lent → Advances g p cells marks lent b d cells′ marks′ lent′
+    out-advances h o = advances p cells marks lent b r g h (o .is ∙ sym (decided-own t .is)) (o .laid)

@@ -1,9 +1,7 @@
 pub mod Holds
 pub mod Words
-pub mod CarriedOut
-pub mod Packets
 pub mod Ready
-pub mod Steps
+pub mod CarriedOut
 pub mod Turns
 pub mod Going
 pub mod Call

@@ -1,28 +1,21 @@
 // Two steps on lent arrays: a module wakes, a module serves the first word of its queue. (A hand-over is in `field_words`.)
-// A response is worked out by value, then carried out: 32 and 33 before anything is written.
+// What a step comes to is decided by value (`field_verdict`), then carried out: all refusals before anything is written.
 use field::Cells;
 use field::Marks;
-use node::ASLEEP;
+use field_verdict::Verdict;
 use node::BACK;
-use node::REFUSED;
-use node_response::Packet;
 use node_response::Response;
 use plan::Plan;
-ghost use Prim.Native.Nat.{_<_, _≤_};
+ghost use Prim.Native.Nat.{_<_};
 ghost use mathlib.Core.Path.{_≡_};
 ghost use mathlib.Core.List.{_++_};
 ghost use lib.ListN.{length, take};
-ghost use lib.Dec.{leb};
-ghost use Rattle.base.specs.Limits.{maxModules};
-ghost use Rattle.plan.specs.Links.{modulesOf};
 ghost use Rattle.node.specs.Work.{Work, BACK};
-ghost use Rattle.node_dispatch.specs.Receives.{Receives};
-ghost use Rattle.field.specs.State.{nodeIn};
 ghost use Rattle.field.specs.Step.{without, backOf, wake, serve};
 ghost use Rattle.field_words.specs.Laid.{Laid};
 ghost use Rattle.field_check.specs.Ready.{Ready};
 ghost use Rattle.field_serve.specs.Holds.{Holds};
-ghost use Rattle.field_serve.specs.Lent.{Advances, packetIn, wordAt, Responds, Feasible, CarriedOut};
+ghost use Rattle.field_serve.specs.Lent.{Advances, Executable, CarriedOut};
 
 // refusal: its number, or 0. waiting, sent: the words that wait and the sent count afterwards.
 pub struct Done {
@@ -73,22 +66,7 @@ fn requeue(lent: &mut [u64], n: usize, answer: u32, x: u64) -> usize
     n + 1
 }
 
-// In place of a served word where there is none: a Change-root by link 0. A wakeup puts no word back and sends no copy of one.
-const NO_WORD: u64 = 0xffff07;
-
-// The word at place i, of n that wait.
-fn word_at(lent: &[u64], n: usize, i: usize) -> u64
-    requires { ⌜ n ≤ length (now lent) ⌝ }
-    ensures { λ r. ⌜ r ≡ wordAt (now (lent .entry)) n i ⌝ }
-{
-    if n <= i {
-        return NO_WORD;
-    }
-    lent[i]
-}
-
-// Response a of module v, to the word at place i, is carried out: 32 or 33 and nothing is altered, else 0. A wakeup serves no word, and i is the
-// number of words. b is what the step before left.
+// The verdict on module v is carried out: a refusal alters nothing, a response is put in place. b is what the step before left.
 fn carry_out<'a>(
     plan: &'a Plan,
     cells: &mut Cells,
@@ -96,55 +74,19 @@ fn carry_out<'a>(
     lent: &mut [u64],
     b: Done,
     v: u16,
-    i: usize,
-    a: Response,
+    d: Verdict,
 ) -> Done
-    requires { ⌜ Feasible (now plan) (now marks) (now lent) (b .waiting) (b .sent) v i a ⌝ }
-    ensures { λ r. ⌜ CarriedOut (now (plan .entry)) v i a (now (cells .entry)) (now (marks .entry)) (now (lent .entry)) b r (now (cells .exit)) (now (marks .exit)) (now (lent .exit)) ⌝ }
+    requires { ⌜ Executable (now plan) (now cells) (now marks) (now lent) b v d ⌝ }
+    ensures { λ r. ⌜ CarriedOut (now (plan .entry)) v d (now (cells .entry)) (now (marks .entry)) (now (lent .entry)) b r (now (cells .exit)) (now (marks .exit)) (now (lent .exit)) ⌝ }
 {
-    if a.answer == REFUSED {
-        return refused_by(REFUSED, b);
+    if d.refusal != 0 {
+        return refused_by(d.refusal, b);
     }
-    let x = word_at(lent, b.waiting, i);
-    let c = field_place::count_sends(plan, marks, v, x, a);
-    if plan::ceiling_of(plan) - b.sent < c {
-        return refused_by(33, b);
-    }
-    let l = take_out(lent, b.waiting, i);
-    let m = field_place::place(plan, cells, marks, lent, l, v, x, a);
-    let w = requeue(lent, m, a.answer, x);
-    left(0, w, b.sent + c)
-}
-
-// What a served word is to the rules.
-fn received(x: u64) -> Packet
-    ensures { λ r. ⌜ r ≡ packetIn x ⌝ }
-{
-    let h = format_word::header(x);
-    Packet {
-        edge: field_place::link_of(x),
-        kind: format_message::kind(h),
-        level: format_message::level(h),
-        carried: format_word::carried(x),
-        find: format_message::find(h),
-    }
-}
-
-// Module v's response to word x, which came over a link of v.
-fn response<'a>(plan: &'a Plan, cells: &'a Cells, marks: &'a Marks, v: u16, x: u64) -> Response
-    requires { ⌜ (v < maxModules) × Receives (now plan) v (packetIn x) (nodeIn (now cells) v) ⌝ }
-    ensures { λ r. ⌜ Responds (now (plan .entry)) v x (now (cells .entry)) (now (marks .entry)) r ⌝ }
-{
-    let packet = received(x);
-    let node = field_cells::load(cells, v);
-    node_dispatch::respond(plan, marks, v, packet, node)
-}
-
-// Number v is no module's: 41.
-fn no_module(plan: &Plan, v: u16) -> bool
-    ensures { λ r. ⌜ r ≡ leb (modulesOf (now (plan .entry))) v ⌝ }
-{
-    plan::modules(plan) <= v
+    let a: Response = d.response;
+    let l = take_out(lent, b.waiting, d.at);
+    let m = field_place::place(plan, cells, marks, lent, l, v, d.word, a);
+    let w = requeue(lent, m, a.answer, d.word);
+    left(0, w, b.sent + d.sends)
 }
 
 // Module v wakes: 0, or refused by 41, 43, 32 or 33. b is what the step before left.
@@ -159,15 +101,9 @@ pub fn wake<'a>(
     requires { ⌜ Ready (now plan) (now cells) (now marks) (now lent) (b .waiting) (b .sent) ⌝ }
     ensures { λ r. ⌜ Advances (λ p. wake p v) (now (plan .entry)) (now (cells .entry)) (now (marks .entry)) (now (lent .entry)) b r (now (cells .exit)) (now (marks .exit)) (now (lent .exit)) ⌝ }
 {
-    if no_module(plan, v) {
-        return refused_by(41, b);
-    }
-    let node = field_cells::load(cells, v);
-    if node.status != ASLEEP {
-        return refused_by(43, b);
-    }
-    let a = node_dispatch::wakes(plan, marks, v, node);
-    carry_out(plan, cells, marks, lent, b, v, b.waiting, a)
+    let n = b.waiting;
+    let d = field_verdict::wake(plan, cells, marks, &lent[..n], b.sent, v);
+    carry_out(plan, cells, marks, lent, b, v, d)
 }
 
 // Module v serves the first word of its queue: 0, or refused by 41, 45, 32 or 33. b is what the step before left.
@@ -182,14 +118,7 @@ pub fn serve<'a>(
     requires { ⌜ Ready (now plan) (now cells) (now marks) (now lent) (b .waiting) (b .sent) ⌝ }
     ensures { λ r. ⌜ Advances (λ p. serve p v) (now (plan .entry)) (now (cells .entry)) (now (marks .entry)) (now (lent .entry)) b r (now (cells .exit)) (now (marks .exit)) (now (lent .exit)) ⌝ }
 {
-    if no_module(plan, v) {
-        return refused_by(41, b);
-    }
     let n = b.waiting;
-    let i = field_search::first_in_queue(plan, &lent[..n], v);
-    if n <= i {
-        return refused_by(45, b);
-    }
-    let a = response(plan, cells, marks, v, lent[i]);
-    carry_out(plan, cells, marks, lent, b, v, i, a)
+    let d = field_verdict::serve(plan, cells, marks, &lent[..n], b.sent, v);
+    carry_out(plan, cells, marks, lent, b, v, d)
 }

@@ -4,9 +4,9 @@ use native.Mathlib.Omega.{arith}
 use native.Mathlib.Nat.{sub-zero}
 use native.Mathlib.Numerals.{add-one}
 use mathlib.Core.Path.{_≡_, sym, ap, _∙_}
-use mathlib.Core.List.{List, [], _∷_, _++_, append-assoc}
-use lib.ListN.{length, take, drop, set, replicate, length-append, length-replicate, length-drop}
-use lib.Seq.{length-take-le, take-at, drop-at, take-add, take-take, drop-drop, set-split, drop-append-add, append-snoc}
+use mathlib.Core.List.{List, [], _∷_, _++_, append-assoc, append-nil}
+use lib.ListN.{length, take, drop, set, replicate, length-append, length-replicate, length-drop, drop-of-length-le}
+use lib.Seq.{length-take-le, take-all, take-at, drop-at, take-add, take-take, drop-drop, set-split, drop-append-add, append-snoc}
 use Rattle.field.specs.Held.{layout}
 use Rattle.field.specs.Step.{without}
 use Rattle.field_words.specs.Laid.{Laid}
@@ -53,6 +53,10 @@ module _ (lent : List ℕ) (n : ℕ) (h : Laid lent n) where
 pub without-length : (a : ℕ) (ws : List ℕ) → a < length ws → suc (length (without a ws)) ≡ length ws
 without-length a ws h =
     omega (arith, length-append (take a ws) (drop (suc a) ws), length-take-le a ws (omega arith), length-drop (suc a) ws)
+
+-- there is none at place a
+pub without-past : (a : ℕ) (ws : List ℕ) → length ws ≤ a → without a ws ≡ ws
+without-past a ws h = rw (take-all a ws h, drop-of-length-le ws {i = suc a} (omega arith)) (append-nil ws)
 
 -- the part from a to n, read in two ways
 middle : (a n : ℕ) (l : List ℕ) → a ≤ n → n ≤ length l → take (n - a) (drop a l) ≡ drop a (take n l)

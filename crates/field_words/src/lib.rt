@@ -9,7 +9,13 @@ ghost use Rattle.plan.specs.Links.{linksOf};
 ghost use Rattle.field.specs.Step.{without, hand};
 ghost use Rattle.field.specs.Held.{layout};
 ghost use Rattle.field_words.specs.Laid.{Laid};
-ghost use Rattle.field_words.specs.Hands.{Hands};
+ghost use Rattle.field_words.specs.Hands.{Hands, handable};
+
+// refusal: its number, or 0. at: the place of the word to hand over; the number of words where there is none.
+pub struct HandVerdict {
+    pub refusal: u32,
+    pub at: usize,
+}
 
 // The first word of a part leaves: the later ones move one place forward, and the last place becomes zero.
 fn close_up(t: &mut [u64])
@@ -50,18 +56,32 @@ pub fn to_end(lent: &mut [u64], n: usize, a: usize, w: u64)
     put(lent, n - 1, w);
 }
 
+// What a hand-over on directed link d comes to, where these words wait: refused by 42 or 44, or the place of its word.
+pub fn handable(plan: &Plan, words: &[u64], d: u16) -> HandVerdict
+    requires { ⌜ linksOf (now plan) ≤ maxLinks ⌝ }
+    ensures { λ r. ⌜ r ≡ handable (now (plan .entry)) d (now (words .entry)) ⌝ }
+{
+    let n = words.len();
+    if 2 * plan::links(plan) <= d {
+        return HandVerdict { refusal: 42, at: n };
+    }
+    let a = field_search::first_in_air(words, d);
+    if n <= a {
+        return HandVerdict { refusal: 44, at: n };
+    }
+    HandVerdict { refusal: 0, at: a }
+}
+
 // A hand-over on directed link d, where n words wait: 0, or refused by 42 or 44.
 pub fn hand(plan: &Plan, lent: &mut [u64], n: usize, d: u16) -> u32
     requires { ⌜ Laid (now lent) n × (linksOf (now plan) ≤ maxLinks) ⌝ }
     ensures { λ r. ⌜ Hands (hand (now (plan .entry)) d) n (now (lent .entry)) r (now (lent .exit)) ⌝ }
 {
-    if 2 * plan::links(plan) <= d {
-        return 42;
+    let h = handable(plan, &lent[..n], d);
+    if h.refusal != 0 {
+        return h.refusal;
     }
-    let a = field_search::first_in_air(&lent[..n], d);
-    if n <= a {
-        return 44;
-    }
+    let a = h.at;
     let w = format_word::hand_over(lent[a]);
     to_end(lent, n, a, w);
     0

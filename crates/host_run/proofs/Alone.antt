@@ -12,6 +12,7 @@ use Rattle.field.specs.declared.Field.{Field}
 use Rattle.field.specs.Step.{step}
 use Rattle.field.specs.Held.{Held, valid, stepAlone}
 use Rattle.field.specs.Held as H
+use Rattle.field.specs.laws.Step.{alone-31, alone-step}
 use Rattle.field_calls.specs.Schedule.{scheduleRefusal, scheduleRun}
 use Rattle.field_calls.specs.Call.{refusedRun, laidBack, runBytes}
 use Rattle.field_check.specs.declared.Checked.{Checked}
@@ -19,17 +20,9 @@ use Rattle.field_check.specs.Checked.{checkOf}
 use Rattle.field_serve.specs.declared.Done.{Done}
 use Rattle.field_serve.specs.Lent.{Advances, Runs}
 use Rattle.field_check.proofs.Admitted.{invalid, passes}
-use Rattle.field_serve.proofs.Call.{laidAfter, step-stands, run-stands}
+use Rattle.field_serve.proofs.Call.{step-stands, run-stands}
 
 module _ (h : Held) where
-  step-refused : (kind number : ℕ) → valid h ≡ false → refusedBy 31 h ≡ stepAlone kind number h
-  unfolding stepAlone
-  step-refused kind number e = rw e refl
-
-  step-goes : (kind number : ℕ) → valid h ≡ true → laidAfter h (step (h .field .plan) kind number (H.stateOf h)) ≡ stepAlone kind number h
-  unfolding stepAlone
-  step-goes kind number e = rw e refl
-
   run-refused : (bytes : List ℕ) → valid h ≡ false → refusedRun 31 h ≡ runBytes bytes h
   unfolding runBytes
   run-refused bytes e = rw e refl
@@ -47,7 +40,7 @@ module _ (f : Field) (lent : List ℕ) (c : Checked) (e : c ≡ checkOf (record 
   h = record { field = f; words = lent }
 
   pub step-31 : (kind number : ℕ) → not (c .ok) ≡ true → refusedBy 31 h ≡ stepAlone kind number h
-  step-31 kind number n = step-refused h kind number (invalid f lent c e n)
+  step-31 kind number n = alone-31 kind number h (invalid f lent c e n)
 
   pub run-31 : (bytes : List ℕ) → not (c .ok) ≡ true → refusedRun 31 h ≡ runBytes bytes h
   run-31 bytes n = run-refused h bytes (invalid f lent c e n)
@@ -60,7 +53,7 @@ module _ (f : Field) (lent : List ℕ) (c : Checked) (e : c ≡ checkOf (record 
         → Advances (λ p. step p kind number) (f .plan) (f .cells) (f .marks) lent b d cells marks words → length words ≡ length lent
         → record { refusal = d .refusal; state = record { field = record { plan = f .plan; cells = cells; marks = marks; sent = d .sent }; words = words } } ≡ stepAlone kind number h
     step-done kind number d cells marks words q k =
-        step-stands f lent c e eb (λ p. step p kind number) d cells marks words q k ∙ step-goes h kind number (passes f lent c e y)
+        step-stands f lent c e eb (λ p. step p kind number) d cells marks words q k ∙ alone-step kind number h (passes f lent c e y)
 
     pub run-done : (bytes : List ℕ) (bad : ℕ) → bad ≡ scheduleRefusal bytes → bad ≡ 0 → (done : ℕ) (d : Done) (cells marks words : List ℕ)
         → Runs (λ p. scheduleRun p bytes) (f .plan) (f .cells) (f .marks) lent b done d cells marks words → length words ≡ length lent

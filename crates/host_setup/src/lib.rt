@@ -1,13 +1,10 @@
 // Setup: the field of a plan, all modules asleep, no word waiting.
 use base::MAX_ENDS;
 use base::MAX_MODULES;
-use base::NONE;
 use field::CELLS;
 use field::Cells;
 use field::Field;
-use node::ASLEEP;
 use node::BASIC;
-use node::Node;
 use plan::NUMBERS;
 use plan::Plan;
 ghost use mathlib.Core.Path.{_≡_};
@@ -27,17 +24,7 @@ fn lay_cells(cells: &mut Cells)
     requires { ⌜ now cells ≡ replicate CELLS 0 ⌝ }
     ensures { λ _. ⌜ now (cells .exit) ≡ freshCells maxModules ⌝ }
 {
-    let n = Node {
-        status: ASLEEP,
-        level: 0,
-        identity: NONE,
-        weight: NONE,
-        best: NONE,
-        test: NONE,
-        branch: NONE,
-        count: 0,
-        halted: 0,
-    };
+    let n = field_cells::fresh_node();
     let mut v: u16 = 0;
     while v < MAX_MODULES {
         field_cells::put_node(cells, v, n);

@@ -6,10 +6,9 @@ use Rattle.base.specs.laws.Cond.{bool-cases}
 use Rattle.base.specs.Loop.{Ran}
 use Rattle.plan.specs.Links.{Plan}
 use Rattle.field.specs.declared.Field.{Field}
-use Rattle.field.specs.Held.{Held, valid, stepAlone}
+use Rattle.field.specs.Held.{Held, valid, stepAlone, fieldFrom, heldFrom}
 use Rattle.field_calls.specs.Schedule.{scheduleRefusal}
 use Rattle.field_calls.specs.Call.{runBytes, runRounds}
-use Rattle.library_field.specs.Lent.{fieldFrom, heldFrom}
 use lib.Dec.{eqb}
 
 module _ (h : Held) where

@@ -7,10 +7,10 @@ use plan::Plan;
 ghost use mathlib.Core.Path.{_≡_};
 ghost use mathlib.Core.Bool.{cond};
 ghost use lib.ListN.{length};
-ghost use Rattle.field.specs.Held.{valid, stepAlone};
+ghost use Rattle.field.specs.Held.{valid, stepAlone, fieldFrom, heldFrom};
 ghost use Rattle.field.specs.Valid.{waitingIn};
 ghost use Rattle.field_calls.specs.Call.{runBytes, runRounds};
-ghost use Rattle.library_field.specs.Lent.{fieldFrom, heldFrom, setUpInto};
+ghost use Rattle.library_field.specs.Lent.{setUpInto};
 
 // The field of these parts.
 pub fn field_of(plan: &Plan, cells: &Cells, marks: &Marks, sent: u32) -> Field

@@ -5,8 +5,8 @@ use plan::Plan;
 ghost use mathlib.Core.Path.{_≡_};
 ghost use Rattle.format_text.specs.Put.{page, put};
 ghost use Rattle.text_report.specs.Text.{reportText};
-ghost use Rattle.library_field.specs.Lent.{fieldFrom, heldFrom};
 ghost use Rattle.library_job.specs.Lent.{jobInto};
+ghost use Rattle.field.specs.Held.{fieldFrom, heldFrom};
 
 // Setup, a wake of module 0, rounds to rest: 14 to 19, then 21. `held` is the plan's place in the field; `rounds` gets the rounds completed.
 #[no_mangle]

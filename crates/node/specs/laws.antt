@@ -3,3 +3,5 @@ pub mod Table
 pub mod Samples
 pub mod Rules
 pub mod First
+pub mod Count
+pub mod Sends

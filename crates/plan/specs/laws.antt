@@ -1,5 +1,6 @@
 pub mod Keys
 pub mod Weights
 pub mod Accepted
+pub mod Pairs
 pub mod Same
 pub mod Ceiling

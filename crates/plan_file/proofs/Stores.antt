@@ -13,6 +13,7 @@ use Rattle.base.specs.Loop.{After, takenTo, answering}
 use Rattle.base.specs.laws.Refuse.{answers-refused}
 use Rattle.base.specs.Table.{tabulate}
 use Rattle.base.specs.laws.Table.{length-tabulate}
+use Rattle.base.specs.laws.Sets.{sets-append}
 use Rattle.format_int16.specs.Int16.{put16}
 use Rattle.plan.specs.laws.Accepted.{accepted}
 use Rattle.plan.specs.Links.{Plan, linksOf}
@@ -20,10 +21,6 @@ use Rattle.plan.specs.Refusal.{planRefusal}
 use Rattle.plan_file.specs.Layout.{planNumbers, bytesOf, encode}
 use Rattle.plan_file.specs.Writing.{size, writeRefusal, writePlan}
 use Rattle.plan_file.specs.laws.Lengths.{bytesOf-append, length-bytesOf, length-encode}
-
-sets-append : (s : List ℕ) (i : ℕ) (xs ys : List ℕ) → sets s i (xs ++ ys) ≡ sets (sets s i xs) (i + length xs) ys
-sets-append s i [] ys = ap (λ n. sets s n ys) (let e : i ≡ i + 0 = omega arith in e)
-sets-append s i (x ∷ xs) ys = sets-append (set s i x) (suc i) xs ys ∙ ap (λ n. sets (sets (set s i x) (suc i) xs) n ys) (let e : suc i + length xs ≡ i + suc (length xs) = omega arith in e)
 
 tabulate-next : (n : ℕ) (f : ℕ → ℕ) → tabulate (suc n) f ≡ tabulate n f ++ (f n ∷ [])
 unfolding tabulate
@@ -39,8 +36,8 @@ module _ (f : ℕ → ℕ) (s : List ℕ) where
   pub write-turn : (t : List ℕ) (i : ℕ) → t ≡ sets s 3 (bytesOf (tabulate i f)) → put16 t (3 + 2 * i) (f i) ≡ sets s 3 (bytesOf (tabulate (i + 1) f))
   unfolding bytesOf
   write-turn t i e = let xs = bytesOf (tabulate i f) in rw (add-one (3 + 2 * i), add-one i, tabulate-next i f, bytesOf-append (tabulate i f) (f i ∷ []), e)
-      (sym (sets-append s 3 xs (bytesOf (f i ∷ []))
-      ∙ ap (λ n. sets (sets s 3 xs) n (bytesOf (f i ∷ []))) (let l : 3 + length xs ≡ 3 + 2 * i = omega (arith, length-bytesOf (tabulate i f), length-tabulate i f) in l)))
+      (ap (λ n. sets (sets s 3 xs) n (bytesOf (f i ∷ []))) (let l : 3 + 2 * i ≡ 3 + length xs = omega (arith, length-bytesOf (tabulate i f), length-tabulate i f) in l)
+      ∙ sets-append s 3 xs (bytesOf (f i ∷ [])))
 
 pub write-end : (p : Plan) (s : List ℕ) (l : ℕ) {t u : List ℕ} → l ≡ linksOf p → t ≡ put16 (set s 0 1) 1 (4 + 8 * l)
     → u ≡ sets t 3 (bytesOf (tabulate (planNumbers (linksOf p)) (λ i. getD p i 0))) → u ≡ sets s 0 (encode p)

@@ -5,7 +5,7 @@ use mathlib.Core.Path.{_≡_, refl, sym, ap, subst, _∙_, fun-ext}
 use mathlib.Core.Logic.{_≢_, _⊎_, inl, inr, ⊎-elim}
 use mathlib.Core.Bool.{Bool, true, false, _&&_, true≢false}
 use mathlib.Core.List.{List, [], _∷_, _++_, append-nil}
-use lib.ListN.{length, length-append}
+use lib.ListN.{length}
 use Rattle.base.specs.Cond.{bit, upd2}
 use Rattle.base.specs.laws.Cond.{bool-cases, by-eq, upd2-elim}
 use Rattle.base.specs.Sum.{sum}
@@ -13,12 +13,13 @@ use Rattle.base.specs.laws.Sum.{sum-eq}
 use Rattle.graph.specs.laws.Ways.{joins-lt}
 use Rattle.format_message.specs.Msg.{Msg}
 use Rattle.node.specs.Work.{Own, Send, number, onEach}
+use Rattle.node.specs.laws.Count.{number-sum, each-number}
 use Rattle.protocol.specs.Network.{Network}
 use Rattle.protocol.specs.Step.{fan}
 use Rattle.protocol.specs.Lemmas.{fan-elim}
 use Rattle.protocol_bridge.specs.Real.{ownP, post}
 use Rattle.protocol_bridge.specs.Place.{post-app, post-nil, post-one}
-use Rattle.protocol_bridge.specs.Own.{own-ends, number-sum}
+use Rattle.protocol_bridge.specs.Own.{own-ends}
 
 module _ (o : Own) (f : ℕ → Bool) (m : Msg) (n : ℕ) where
   each-yes : o.own n ≡ true → f n ≡ true → onEach o f m (suc n) ≡ onEach o f m n ++ (record { edge = n; msg = m } ∷ [])
@@ -28,13 +29,6 @@ module _ (o : Own) (f : ℕ → Bool) (m : Msg) (n : ℕ) where
   each-no : f n ≡ false → onEach o f m (suc n) ≡ onEach o f m n
   unfolding onEach
   each-no b = bool-cases (o.own n) (λ a. simp (a, b, append-nil)) (λ a. simp (a, append-nil))
-
-each-length : (o : Own) (f : ℕ → Bool) (m : Msg) (n : ℕ) → length (onEach o f m n) ≡ number o f n
-unfolding onEach number
-each-length o f m zero = refl
-each-length o f m (suc n) = bool-cases (o.own n && f n)
-    (λ e. rw e (omega (arith, length-append (onEach o f m n) (record { edge = n; msg = m } ∷ []), each-length o f m n)))
-    (λ e. rw e (omega (arith, length-append (onEach o f m n) [], each-length o f m n)))
 
 -- f holds of own edges only
 module _ (p : Network) (v : ℕ) (f : ℕ → Bool) (mine : (j : ℕ) → f j ≡ true → ownP p v .own j ≡ true) (m : Msg) where
@@ -80,8 +74,8 @@ module _ (p : Network) (v : ℕ) (f : ℕ → Bool) (mine : (j : ℕ) → f j �
 
   -- the number of copies, as the rules and as the small step count them
   pub copies-number : number (ownP p v) f p.g.L ≡ sum p.g.L (λ j. bit (f j))
-  copies-number = number-sum p v f p.g.L ∙ sum-eq p.g.L (λ k. bit (ownP p v .own k && f k)) (λ k. bit (f k))
+  copies-number = number-sum (ownP p v) f p.g.L ∙ sum-eq p.g.L (λ k. bit (ownP p v .own k && f k)) (λ k. bit (f k))
       (λ k l. bool-cases (f k) (λ h. rw (mine k h)) (λ h. bool-cases (ownP p v .own k) (λ y. rw (y, h)) (λ y. rw (y, h))))
 
   pub copies-length : length (onEach (ownP p v) f m p.g.L) ≡ sum p.g.L (λ j. bit (f j))
-  copies-length = each-length (ownP p v) f m p.g.L ∙ copies-number
+  copies-length = each-number (ownP p v) f m p.g.L ∙ copies-number

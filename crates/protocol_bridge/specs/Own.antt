@@ -1,20 +1,19 @@
 -- A node's own edges as its rules see them: the edges that end there (`own-ends`, `ends-own`), their order (`before-lt`), searches (`searched`) and counts
 -- (`fc-degree`).
-use Prim.Native.Nat.{ℕ, zero, suc, _≤_, _<_}
+use Prim.Native.Nat.{ℕ, _≤_, _<_}
 use native.Mathlib.Omega.{arith}
 use mathlib.Core.Path.{_≡_, refl, sym, ap, _∙_}
 use mathlib.Core.Logic.{_≢_, _⊎_, inl, inr, ⊎-elim}
 use mathlib.Core.Bool.{Bool, true, false, _&&_, _||_, true≢false}
 use lib.Dec.{eqb}
 use borrow.Author.Tests.{lt-ltb, eq-eqb}
-use Rattle.base.specs.Cond.{bit}
 use Rattle.base.specs.laws.Cond.{eqb-cases, ltb-cases, by-eq}
-use Rattle.base.specs.Sum.{sum}
 use Rattle.graph.specs.Graph.{up, down}
 use Rattle.graph.specs.laws.Ways.{joins-lt}
 use Rattle.graph.specs.laws.Rank.{rank-not-earlier, rankIn-lt}
 use Rattle.format_message.specs.Msg.{none}
-use Rattle.node.specs.Work.{before, earliest, number, anyEdge, degree}
+use Rattle.node.specs.Work.{before, earliest, anyEdge, degree}
+use Rattle.node.specs.laws.Count.{number-sum}
 use Rattle.node.specs.laws.First.{first, before-none, before-edges, none-before}
 use Rattle.protocol.specs.Network.{Network, Edge, key, rank, key-none, key-edge, rank-lt}
 use Rattle.protocol.specs.State.{ProtocolState}
@@ -87,11 +86,6 @@ module _ (p : Network) (v : ℕ) where
 
   -- ---- counts
 
-  pub number-sum : (f : ℕ → Bool) (n : ℕ) → number (ownP p v) f n ≡ sum n (λ k. bit (ownP p v .own k && f k))
-  unfolding number
-  number-sum f zero = refl
-  number-sum f (suc n) = omega (arith, number-sum f n)
-
   -- the find-count is at most the number of own edges
   pub fc-degree : {s : ProtocolState} → Inv p s → s.fc v ≤ degree (ownP p v)
-  fc-degree i = omega (arith, number-sum anyEdge p.g.L, count-le i v (λ k. ownP p v .own k && true) (λ k u e. rw (ends-own e)))
+  fc-degree i = omega (arith, number-sum (ownP p v) anyEdge p.g.L, count-le i v (λ k. ownP p v .own k && true) (λ k u e. rw (ends-own e)))

@@ -1,5 +1,5 @@
 -- The first of a list that passes a test, taken out: what passes a narrower test has it as its head (`head-of`), what passes another is as it was
--- (`others`); `place` finds it (`place-first`).
+-- (`others`); `place` finds it (`place-first`), and it alone (`first-found`, `first-left`).
 use Prim.Native.Nat.{suc, _≤_, _<_}
 use native.Mathlib.Nat.{not-suc-le-zero, le-of-suc-le-suc}
 use native.Mathlib.Omega.{arith}
@@ -76,3 +76,15 @@ module _ {A : Type 0} where
   place-some p (x ∷ l) h = bool-cases (p x)
       (λ e. rw e (omega arith))
       (λ e. rw e (omega (arith, place-some p l (rw e at h))))
+
+  -- there is no other such: it stands where `place` says ..
+  pub first-found : {p : A → Bool} {l r : List A} {w : A} (z : A) → FirstThat p l w r → w ≡ getD l (place p l) z
+  unfolding place
+  first-found z (first e) = rw e
+  first-found z (later e f) = rw e (first-found z f)
+
+  -- .. and r is what is left without that place
+  pub first-left : {p : A → Bool} {l r : List A} {w : A} → FirstThat p l w r → r ≡ take (place p l) l ++ drop (suc (place p l)) l
+  unfolding place
+  first-left (first e) = rw e
+  first-left (later {x} e f) = rw e (ap (λ y. x ∷ y) (first-left f))

@@ -1,12 +1,13 @@
--- Laws of sums: order, sums of sums, one entry changed (`sum-change`).
+-- Laws of sums: order, sums of sums, one entry changed (`sum-change`); places counted: one, two (`sum-one`, `sum-two`), one at the most (`sum-at-most-one`).
 use Prim.Native.Nat.{ℕ, zero, suc, _+_, _*_, _≤_, _<_, zero-le}
 use native.Mathlib.Nat.{not-suc-le-zero}
 use native.Mathlib.Omega.{arith}
 use mathlib.Core.Path.{_≡_, refl, sym, ap, _∙_}
 use mathlib.Core.Logic.{_≢_}
+use mathlib.Core.Bool.{Bool, true}
 use lib.Dec.{eqb}
 use Rattle.base.specs.Cond.{bit}
-use Rattle.base.specs.laws.Cond.{by-eq, eqb-cases, eqb-same, eqb-diff}
+use Rattle.base.specs.laws.Cond.{bool-cases, by-eq, eqb-cases, eqb-same, eqb-diff}
 use Rattle.base.specs.Sum.{sum}
 
 pub sum-le : (n : ℕ) (f g : ℕ → ℕ) → ((k : ℕ) → k < n → f k ≤ g k) → sum n f ≤ sum n g
@@ -70,3 +71,10 @@ sum-two n s v f ls lv d es ev =
     at k = eqb-cases s k (λ b. bit b + bit (eqb v k) ≤ f k)
         (λ q. rw (eqb-diff v k (λ r. d (q ∙ sym r))) (omega (arith, ap f q)))
         (λ q. eqb-cases v k (λ b. 0 + bit b ≤ f k) (λ r. omega (arith, ap f r)) (λ r. omega arith))
+
+-- no two places pass: one at the most is counted
+pub sum-at-most-one : (n : ℕ) (f : ℕ → Bool) → ((j k : ℕ) → j < n → k < n → f j ≡ true → f k ≡ true → j ≡ k) → sum n (λ k. bit (f k)) ≤ 1
+sum-at-most-one zero f h = omega arith
+sum-at-most-one (suc n) f h = bool-cases (f n)
+    (λ e. rw e (omega (arith, sum-zero n (λ k. bit (f k)) (λ k l. bool-cases (f k) (λ g. absurd (omega (arith, h k n (omega arith) (omega arith) g e))) (λ g. rw g)))))
+    (λ e. rw e (omega (arith, sum-at-most-one n f (λ j k lj lk. h j k (omega arith) (omega arith)))))

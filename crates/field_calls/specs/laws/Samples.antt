@@ -80,7 +80,7 @@ unfoldable pub dones : List Call → Held → List ℕ
 dones [] h = []
 dones (c ∷ cs) h = does c h .done ∷ dones cs (does c h .state)
 
-abbrev pub shown : List Call → Held → Shown
+abbrev shown : List Call → Held → Shown
 shown cs h =
     let l = after cs h in
     let t = trail cs h in

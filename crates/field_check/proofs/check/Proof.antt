@@ -10,7 +10,8 @@ use borrow.Author.Tests.{not-true, not-false}
 use borrow.Author.Needs.{needs}
 use Rattle.field.specs.Valid.{allOf, fits}
 use Rattle.plan.specs.laws.Accepted.{accepted}
-use Rattle.field_check.specs.Checked.{stateIn, heldIn}
+use Rattle.field.specs.Held.{heldFrom}
+use Rattle.field_check.specs.Checked.{stateIn}
 use Rattle.field_check.proofs.Outcomes.{checked, valid-plan, valid-few, valid-gap, valid-fits}
 use Rattle.field_check.proofs.Words.{front, behind, within}
 use Rattle.field_check.proofs.check.Statement.{statement}
@@ -78,7 +79,7 @@ returns-4 c =
     let p = a .plan .now in
     checked _ _ _ (c .state-fits .ensures
     ∙ ap (λ (ws : List ℕ). fits p (stateIn (a .cells .now) (a .marks .now) ws (a .sent))) (front lent (w .waiting .result) (w .waiting .ensures))
-    ∙ sym (valid-fits (heldIn p (a .cells .now) (a .marks .now) (a .sent) lent) (sym (k .check .ensures) ∙ m .before .if1 .left) (omega (arith, m .ceiling-of .ensures, o .if2 .left))
+    ∙ sym (valid-fits (heldFrom p (a .cells .now) (a .marks .now) (a .sent) lent) (sym (k .check .ensures) ∙ m .before .if1 .left) (omega (arith, m .ceiling-of .ensures, o .if2 .left))
     (ap (allOf (λ x. eqb x 0)) (sym (behind lent (w .waiting .result) (w .waiting .ensures))) ∙ sym (z .all-zero .ensures) ∙ not-false _ (t .if3 .left)))) (w .waiting .ensures)
 
 pub check-spec : {M : Type 1} → statement M

@@ -6,9 +6,9 @@ use lib.ListN.{length}
 use borrow.Author.Needs.{needs}
 use Rattle.plan.specs.Links.{linksOf}
 use Rattle.node.specs.Work.{number, branches}
+use Rattle.node.specs.laws.Count.{each-number}
 use Rattle.field.specs.Edges.{ownOf, marksIn}
 use Rattle.field.specs.State.{msgIn}
-use Rattle.field_place.proofs.Copies.{each-number}
 use Rattle.field_place.proofs.Puts.{copies-told, copies-none}
 use Rattle.field_place.specs.Posted.{copyTest}
 use Rattle.field_place.proofs.count_copies.Statement.{statement}

@@ -1,7 +1,7 @@
 -- field_serve::requeue: not put back by `not-back`; else one word more, by `is-back` and `holds-one`.
 use borrow.Author.Needs.{needs}
 use Rattle.field_serve.proofs.Holds.{holds-same, holds-one}
-use Rattle.field_serve.proofs.Words.{not-back, is-back}
+use Rattle.field_laws.specs.Keeps.{not-back, is-back}
 use Rattle.field_serve.proofs.requeue.Statement.{statement}
 use Rattle.field_serve.proofs.requeue.Tie as tie
 

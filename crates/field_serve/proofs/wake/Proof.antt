@@ -1,66 +1,32 @@
--- field_serve::wake: one law for each return: `waking-41`, `waking-43`, `waking`; that the wakeup may be carried out, by `waking-feasible`.
-use native.Mathlib.Omega.{arith}
-use mathlib.Core.Path.{sym, _∙_}
+-- field_serve::wake: the verdict on it is `executable`; carried out it is the step, by `out-advances`, and leaves a sound field, by `wake-sound`.
+use mathlib.Core.Path.{sym}
+use lib.Seq.{length-take-le}
 use borrow.Author.Needs.{needs}
-use borrow.Author.Tests.{leb-true, leb-false}
-use Rattle.field_serve.proofs.Steps.{waking-41, waking-43, waking-feasible, waking}
+use Rattle.field.specs.Step.{wake}
+use Rattle.field_serve.proofs.Ready.{wake-sound}
+use Rattle.field_serve.proofs.CarriedOut.{executable, out-advances}
 use Rattle.field_serve.proofs.wake.Statement.{statement}
 use Rattle.field_serve.proofs.wake.Tie as tie
 
-returns : tie.Need-returns
-returns c =
-    let e = c .before in
-    let m = e .before in
-    waking-41 _ _ _ _ (m .before .before .args .b) _ (m .before .before .pre) (leb-true _ _ (sym (m .no-module .ensures) ∙ e .if1 .taken)) (c .refused-by .ensures)
+slice-aggregate-wake : tie.Need-slice-aggregate-wake
+slice-aggregate-wake c = let s = c .before .before .before .before in sym (length-take-le (s .args .b .waiting) (s .args .lent .now) (s .pre .laid .within))
 
-load-requires : tie.Need-load-requires
-load-requires c κs =
-    let e = c .before in
-    let m = e .before in
-    omega (arith, leb-false, sym (m .no-module .ensures) ∙ e .if1 .left, m .before .before .pre .plan .modulesOk)
-
-returns-2 : tie.Need-returns-2
-returns-2 c =
-    let t = c .before in
-    let o = t .before .before in
-    let e = o .before .before in
-    let m = e .before in
-    waking-43 _ _ _ _ (m .before .before .args .b) _ (m .before .before .pre) (leb-false _ _ (sym (m .no-module .ensures) ∙ e .if1 .left)) _ (o .load .ensures) (t .if2 .taken) (c .refused-by2 .ensures)
-
-wakes-requires : tie.Need-wakes-requires
-wakes-requires c κs = c .before .before .before .before .before .before .before .before .pre .plan .linksOk
+wake-requires : tie.Need-wake-requires
+wake-requires c κs = let r = c .before .before .before .before .pre in (r .plan, r .whole, r .sound)
 
 carry-out-requires : tie.Need-carry-out-requires
 carry-out-requires c κs =
-    let w = c .before .before .before in
-    let t = w .before .before in
-    let o = t .before .before in
-    let e = o .before .before in
-    let m = e .before in
-    waking-feasible _ _ _ _ (m .before .before .args .b) _ (m .before .before .pre) (leb-false _ _ (sym (m .no-module .ensures) ∙ e .if1 .left)) _ (o .load .ensures) (t .if2 .left) _ (w .wakes .ensures .1) (w .wakes .ensures .0)
+    let d = c .before .before .before in
+    let s = d .before .before .before .before .before in
+    executable _ _ _ _ (s .args .b) _ _ (s .pre) (λ p. wake p (s .args .v)) (d .wake .ensures)
 
-returns-3 : tie.Need-returns-3
-returns-3 c =
-    let d = c .before .before in
-    let w = d .before .before .before .before in
-    let t = w .before .before in
-    let o = t .before .before in
-    let e = o .before .before in
-    let m = e .before in
-    waking _ _ _ _ (m .before .before .args .b) _ (m .before .before .pre) (leb-false _ _ (sym (m .no-module .ensures) ∙ e .if1 .left)) _ (o .load .ensures) (t .if2 .left) _ (w .wakes .ensures .1) (w .wakes .ensures .0)
-    (d .carry-out .ensures) (search needs)
+returns : tie.Need-returns
+returns c =
+    let o = c .before .before in
+    let d = o .before .before .before .before in
+    let s = d .before .before .before .before .before in
+    out-advances _ _ _ _ (s .args .b) _ _ (s .pre) (λ p. wake p (s .args .v)) (d .wake .ensures) (wake-sound _ _ _ _ (s .args .b) (s .pre) (s .args .v))
+    (o .carry-out .ensures) (search needs)
 
 pub wake-spec : {M : Type 1} → statement M
-wake-spec =
-    tie.close
-    (tie.spec
-    (λ c κs. search needs)
-    (λ c κs. search needs)
-    returns
-    load-requires
-    (λ c κs. search needs)
-    returns-2
-    wakes-requires
-    carry-out-requires
-    (λ c. search needs)
-    returns-3)
+wake-spec = tie.close (tie.spec (λ c. search needs) slice-aggregate-wake wake-requires carry-out-requires (λ c. search needs) returns)

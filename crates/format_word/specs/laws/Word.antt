@@ -2,6 +2,7 @@
 -- `waiting-back`, `laid-out-listed`, `packs-laid-out`).
 use Prim.Native.Nat.{ℕ, _+_, _*_, _/_, _%_, _^_, _<_}
 use mathlib.Core.Path.{_≡_, refl, sym, ap, ap₂, _∙_}
+use mathlib.Core.Logic.{_≢_}
 use mathlib.Core.Bool.{Bool, true, false, _&&_, and-eq-true-iff}
 use native.Mathlib.Omega.{arith}
 use lib.Dec.{eqb}
@@ -48,6 +49,13 @@ pub over : (w : ℕ) → w / 2 ^ 41 ≡ 1 → Unpacked (headerIn w) (carriedIn w
 over w s =
     let e : handOver w ≡ packed (headerIn w) (carriedIn w) (linkIn w) 1 = omega (arith, repacked w s) in
     rw e (unpacked (headerIn w) (carriedIn w) (linkIn w) 1 (omega arith) (omega arith) (omega arith) (omega arith))
+
+-- no word is 0: bit 41 of what is packed is set, and a hand-over clears nothing
+pub packed-nonzero : (h c d b : ℕ) → packed h c d b ≢ 0
+packed-nonzero h c d b = λ e. omega arith
+
+pub over-nonzero : (w : ℕ) → w ≢ 0 → handOver w ≢ 0
+over-nonzero w n = λ e. n (omega arith)
 
 bit-of : (x : ℕ) → x < 2 → bit (eqb x 1) ≡ x
 bit-of x p = eqb-cases x 1 (λ t. bit t ≡ x) (λ e. sym e) (λ n. omega (arith, n))

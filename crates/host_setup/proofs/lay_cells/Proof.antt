@@ -2,29 +2,30 @@
 use Prim.Native.Nat.{ℕ, _-_, _≤_}
 use native.Mathlib.Omega.{arith}
 use mathlib.Core.List.{List}
-use mathlib.Core.Path.{_≡_, ap, _∙_}
+use mathlib.Core.Path.{_≡_, ap, ap₂, _∙_}
 use borrow.Author.Needs.{needs}
 use Rattle.base.specs.Limits.{maxModules}
 use Rattle.field.specs.Held.{freshCells}
 use Rattle.field.specs.State.{CELLS, putNode}
+use Rattle.node.specs.declared.Node.{Node}
 use Rattle.node.specs.Work.{setup}
 use Rattle.host_setup.proofs.Fresh.{laidCells, laid-none, laid-more, laid-all}
 use Rattle.host_setup.proofs.lay_cells.Statement.{statement}
 use Rattle.host_setup.proofs.lay_cells.Tie as tie
 
 abbrev Inv-loop : tie.InvT-loop
-Inv-loop cells₀ n v₀ cells v = (v ≤ maxModules) × (cells ≡ laidCells CELLS v)
+Inv-loop cells₀ n v₀ cells v = (v ≤ maxModules) × (cells ≡ laidCells CELLS v) × (n ≡ setup)
 
 abbrev μ-loop : tie.MeasureT-loop
 μ-loop cells₀ n v₀ cells v = maxModules - v
 
 loop-holds : tie.Need-loop-holds Inv-loop μ-loop
-loop-holds c = (search needs, c .pre ∙ laid-none CELLS)
+loop-holds c = (search needs, c .before .pre ∙ laid-none CELLS, c .fresh-node .ensures)
 
 loop-again : tie.Need-loop-again Inv-loop μ-loop
 loop-again c =
     let e = c .before .before .before in
-    (omega arith, c .put-node .ensures ∙ ap (λ (l : List ℕ). putNode l (e .loop .v) setup) (e .loop .inv .1) ∙ laid-more CELLS (e .loop .v) (omega arith))
+    (omega arith, c .put-node .ensures ∙ ap₂ (λ (l : List ℕ) (n : Node). putNode l (e .loop .v) n) (e .loop .inv .1) (e .loop .inv .2) ∙ laid-more CELLS (e .loop .v) (omega arith), e .loop .inv .2)
 
 returns : tie.Need-returns Inv-loop μ-loop
 returns c =
@@ -34,4 +35,4 @@ returns c =
 pub lay-cells-spec : {M : Type 1} → statement M
 lay-cells-spec =
     tie.close
-    (tie.spec Inv-loop μ-loop loop-holds (λ c κs. search needs) (λ c. search needs) (λ c. search needs) loop-again returns)
+    (tie.spec Inv-loop μ-loop (λ c κs. search needs) loop-holds (λ c κs. search needs) (λ c. search needs) (λ c. search needs) loop-again returns)

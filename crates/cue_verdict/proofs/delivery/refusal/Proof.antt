@@ -7,15 +7,14 @@ use borrow.Author.Needs.{needs}
 use borrow.Author.Tests.{not-true, not-false}
 use Rattle.plan.specs.Links.{modulesOf}
 use Rattle.plan.specs.laws.Accepted.{Accepted}
-use Rattle.field.specs.Held.{Held}
-use Rattle.field_check.specs.Checked.{heldIn}
+use Rattle.field.specs.Held.{Held, heldFrom}
 use Rattle.cue.specs.Calls.{leftBySending}
 use Rattle.cue.specs.laws.Refusals.{FieldReady, ready-accepted, field-ready, delivery-field, delivery-few, delivery-73, delivery-42, facts-delivery}
 use Rattle.cue_verdict.proofs.delivery.refusal.Statement.{statement}
 use Rattle.cue_verdict.proofs.delivery.refusal.Tie as tie
 
 abbrev held : tie.Start → Held
-held s = let a = s .args in heldIn (a .plan .now) (a .cells .now) (a .marks .now) (a .sent) (a .words .now)
+held s = let a = s .args in heldFrom (a .plan .now) (a .cells .now) (a .marks .now) (a .sent) (a .words .now)
 
 passed : (c : tie.Else1) → FieldReady (held (c .before .before .before))
 passed c = field-ready _ 0 (sym (c .before .of-field .ensures) ∙ c .if1 .left) .0

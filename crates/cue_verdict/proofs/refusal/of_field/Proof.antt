@@ -3,15 +3,14 @@ use mathlib.Core.Path.{_≡_, sym, _∙_}
 use mathlib.Core.Bool.{true}
 use borrow.Author.Needs.{needs}
 use borrow.Author.Tests.{not-true, not-false}
-use Rattle.field.specs.Held.{Held, valid}
-use Rattle.field_check.specs.Checked.{heldIn}
+use Rattle.field.specs.Held.{Held, valid, heldFrom}
 use Rattle.field_check.proofs.Admitted.{invalid, passes}
 use Rattle.cue.specs.laws.Refusals.{valid-plan-taken, field-31, field-71, field-goes-on}
 use Rattle.cue_verdict.proofs.refusal.of_field.Statement.{statement}
 use Rattle.cue_verdict.proofs.refusal.of_field.Tie as tie
 
 abbrev held : tie.Start → Held
-held s = let a = s .args in heldIn (a .plan .now) (a .cells .now) (a .marks .now) (a .sent) (a .words .now)
+held s = let a = s .args in heldFrom (a .plan .now) (a .cells .now) (a .marks .now) (a .sent) (a .words .now)
 
 admitted : (c : tie.Else1) → valid (held (c .before .before .before .before)) ≡ true
 admitted c =

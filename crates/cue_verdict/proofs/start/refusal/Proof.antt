@@ -4,14 +4,13 @@ use native.Mathlib.Omega.{arith}
 use mathlib.Core.Path.{sym, _∙_}
 use borrow.Author.Needs.{needs}
 use Rattle.plan.specs.Links.{modulesOf}
-use Rattle.field.specs.Held.{Held}
-use Rattle.field_check.specs.Checked.{heldIn}
+use Rattle.field.specs.Held.{Held, heldFrom}
 use Rattle.cue.specs.laws.Refusals.{FieldReady, field-ready, start-field, start-72, start-73, facts-start}
 use Rattle.cue_verdict.proofs.start.refusal.Statement.{statement}
 use Rattle.cue_verdict.proofs.start.refusal.Tie as tie
 
 abbrev held : tie.Start → Held
-held s = let a = s .args in heldIn (a .plan .now) (a .cells .now) (a .marks .now) (a .sent) (a .words .now)
+held s = let a = s .args in heldFrom (a .plan .now) (a .cells .now) (a .marks .now) (a .sent) (a .words .now)
 
 passed : (c : tie.Else1) → FieldReady (held (c .before .before .before))
 passed c = field-ready _ 0 (sym (c .before .of-field .ensures) ∙ c .if1 .left) .0

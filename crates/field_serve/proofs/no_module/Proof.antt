@@ -1,7 +1,0 @@
--- field_serve::no_module: the comparison itself.
-use borrow.Author.Needs.{needs}
-use Rattle.field_serve.proofs.no_module.Statement.{statement}
-use Rattle.field_serve.proofs.no_module.Tie as tie
-
-pub no-module-spec : {M : Type 1} → statement M
-no-module-spec = tie.close (tie.spec (λ c κs. search needs) (λ c. cc))
