@@ -35,9 +35,10 @@
 #include <stddef.h>
 #include <stdint.h>
 
-#define MURUAPY_VERSION_MAJOR 1
-#define MURUAPY_VERSION_MINOR 2
-#define MURUAPY_VERSION "1.2"
+/* The major number rises when the same plan may come to another tree: 2 orders links by the larger reading. */
+#define MURUAPY_VERSION_MAJOR 2
+#define MURUAPY_VERSION_MINOR 0
+#define MURUAPY_VERSION "2.0"
 
 #ifdef __cplusplus
 extern "C" {
@@ -201,8 +202,9 @@ uint32_t muruapy_plan_write(const muruapy_plan *plan, uint8_t *bytes, size_t roo
  * plan  any numbers, only read; it is not checked
  * link  the link's number, any number
  *
- * Answers the sum of the link's two readings, or MURUAPY_NONE where `link` is not below both the plan's links and 600.
- * The cost of a link of a plan that is taken is 0 to 4000, below MURUAPY_NONE. Refuses nothing. */
+ * Answers the larger of the link's two readings, or MURUAPY_NONE where `link` is not below both the plan's links and
+ * 600. The cost of a link of a plan that is taken is 0 to 2000, below MURUAPY_NONE. Links of equal cost are ordered by the
+ * sum of their readings, then by number. Refuses nothing. */
 uint32_t muruapy_link_cost(const muruapy_plan *plan, uint16_t link);
 
 /* The ceiling: how many messages a field sends at most, and how many words it needs.

@@ -106,11 +106,14 @@ pub fn tree(bytes: &[u8], out: &mut [u8]) -> u32 {
 
 /// A byte for each link, 1 in the tree: Kruskal over links given by their ends and readings.
 pub fn kruskal(out: &mut [u8], link: impl Fn(usize) -> [u16; 4]) {
-    let cost = |k: usize| link(k)[2] + link(k)[3];
-    let mut order: Vec<(u16, u16)> = (0..out.len()).map(|k| (cost(k), k as u16)).collect();
+    let key = |k: usize| {
+        let [.., near, far] = link(k);
+        (near.max(far), near + far, k as u16)
+    };
+    let mut order: Vec<(u16, u16, u16)> = (0..out.len()).map(key).collect();
     order.sort();
     let mut parts = Parts::new();
-    for (_, k) in order {
+    for (.., k) in order {
         let [lower, higher, ..] = link(k as usize);
         out[k as usize] = parts.join(lower as usize, higher as usize) as u8;
     }

@@ -89,8 +89,9 @@ impl Record {
         (0..self.links()).filter(move |k| self.owns(v, *k))
     }
 
-    fn key(&self, k: u16) -> (u16, u16) {
-        (self.plan[4 + 4 * k as usize] + self.plan[5 + 4 * k as usize], k)
+    fn key(&self, k: u16) -> (u16, u16, u16) {
+        let (near, far) = (self.plan[4 + 4 * k as usize], self.plan[5 + 4 * k as usize]);
+        (near.max(far), near + far, k)
     }
 
     /// Link a is earlier than b; none is later than all.

@@ -6,7 +6,8 @@ use scan::{Target, Tree};
 use std::collections::{BTreeMap, BTreeSet};
 
 /// The claims: in words, its file, its name.
-const CLAIMS: [(&str, &str, &str); 4] = [
+const CLAIMS: [(&str, &str, &str); 5] = [
+    ("What is claimed of the central tree", "crates/plan_tree/specs/Claim.antt", "TreeClaim"),
     ("Demand 3", "crates/field_calls/specs/Demand.antt", "Demand3"),
     ("What request 01 claims of a cue", "crates/cue/specs/Claims.antt", "CueClaim"),
     ("That 73 is exact", "crates/cue/specs/Claims.antt", "Exact73"),
@@ -49,7 +50,7 @@ const SPARED: [(&str, &[&str]); 2] = [
 const HEAD: &str = "\
 # What must be believed
 
-To know what the claims (demand 3, requests 01 and 02) and the functions that a host calls say, read the contracts of the first table and the definitions of the second: they
+To know what the claims (the central tree, demand 3, requests 01 and 02) and the functions that a host calls say, read the contracts of the first table and the definitions of the second: they
 are made of these and of the names of the toolchain's libraries below. Theorems and proofs are not among them, since the prover checks those.
 Then read what else is assumed, at the end. (Made by `tools/trust`; the tests compare it with the tree.)
 ";

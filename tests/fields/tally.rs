@@ -24,9 +24,9 @@ const WANTED: &Wanted = &[
     ("32:", &[
         ("Initiate, asleep", 200), ("Accept, asleep", 200), ("Reject, asleep", 200), ("Report, asleep", 200),
         ("Change-root, asleep", 200), ("Connect, level", 30), ("Connect, find-count", 40),
-        ("Initiate, find-count", 50), ("Test, in-branch none", 18), ("Accept, in-branch none", 70),
+        ("Initiate, find-count", 50), ("Test, in-branch none", 15), ("Accept, in-branch none", 70),
         ("Reject, in-branch none", 35), ("Reject, Test at level 0", 55), ("Report, find-count", 100),
-        ("Report, in-branch none", 110), ("Report, best edge none", 11), ("Change-root, best edge none", 150),
+        ("Report, in-branch none", 110), ("Report, best edge none", 8), ("Change-root, best edge none", 150),
     ]),
     ("taken:", &[
         ("woken", 900), ("handed over", 1200), ("served Connect", 170), ("served Initiate", 250), ("served Test", 180),

@@ -32,10 +32,12 @@ static void same(const char *what, unsigned long got, unsigned long said)
 
 /* ---- how many examples there are, by sort and number ---- */
 
-enum sort { PLAN, FRAME, SCHEDULE, STEP, CALL, PREVIEW, START, DELIVERY, CEILING, HEADER, WORD, REPORT, SORTS };
+enum sort { PLAN, FRAME, SCHEDULE, STEP, CALL, PREVIEW, START, DELIVERY, CEILING, ORDER, HEADER, WORD, REPORT, SORTS };
 
-static const char *const names[SORTS] = {"plan",           "frame",    "schedule", "step",   "run or rounds", "preview",
-                                         "start of a cue", "delivery", "ceiling",  "header", "word",          "report"};
+static const char *const names[SORTS] = {
+    "plan",     "frame",   "schedule",       "step",   "run or rounds", "preview", "start of a cue",
+    "delivery", "ceiling", "order of links", "header", "word",          "report",
+};
 static unsigned long seen[SORTS][100];
 
 static const struct least {
@@ -46,8 +48,9 @@ static const struct least {
     {PLAN, 0, 0, 4},   {PLAN, 11, 19, 1},     {FRAME, 0, 0, 8}, {FRAME, 61, 63, 2}, {SCHEDULE, 0, 0, 2},
     {SCHEDULE, 51, 54, 1}, {STEP, 0, 0, 20},  {STEP, 41, 45, 1}, {STEP, 54, 54, 1}, {CALL, 0, 0, 6},
     {CALL, 41, 41, 1}, {CALL, 54, 54, 1},     {CEILING, 0, 0, 5}, {HEADER, 0, 0, 6}, {WORD, 0, 0, 4},
-    {REPORT, 0, 0, 1},  {START, 0, 0, 2},      {START, 71, 73, 1}, {DELIVERY, 0, 0, 5}, {DELIVERY, 73, 73, 5},
-    {DELIVERY, 42, 42, 1}, {PREVIEW, 0, 0, 8}, {PREVIEW, 41, 45, 1}, {PREVIEW, 54, 54, 1}, {PREVIEW, 75, 75, 4},
+    {ORDER, 0, 0, 5},   {REPORT, 0, 0, 2},    {START, 0, 0, 2},  {START, 71, 73, 1}, {DELIVERY, 0, 0, 5},
+    {DELIVERY, 73, 73, 5}, {DELIVERY, 42, 42, 1}, {PREVIEW, 0, 0, 8}, {PREVIEW, 41, 45, 1}, {PREVIEW, 54, 54, 1},
+    {PREVIEW, 75, 75, 4},
 };
 
 static void count(enum sort sort, uint32_t number)
@@ -260,8 +263,48 @@ static void bytes_end(struct bytes b, char *wanted)
 
 /* ---- numbers ---- */
 
+/* The links of a table that goes from the earliest on. */
+static struct numbered {
+    uint16_t number, near, far;
+} rising[32];
+static size_t rows;
+
+/* Between three modules, beside a link of cost 0, the later of two links is out of the tree. */
+static void earlier(struct numbered a, struct numbered b)
+{
+    int turned = a.number > b.number;
+    struct numbered low = turned ? b : a, high = turned ? a : b;
+    muruapy_plan three = {3, 3, {{0, 1, low.near, low.far}, {0, 2, high.near, high.far}, {1, 2, 0, 0}}};
+    uint8_t tree[3];
+    same("the tree's answer", muruapy_tree(&three, tree, 3), 0);
+    if (!tree[turned] || tree[!turned])
+        fault("link %u is not earlier than link %u", a.number, b.number);
+}
+
+static void order_line(char *line)
+{
+    struct numbered link;
+    muruapy_plan two = {2, 1, {{0, 1, 0, 0}}};
+    link.number = (uint16_t)number(&line, 10);
+    two.link[0].near = link.near = (uint16_t)number(&line, 10);
+    two.link[0].far = link.far = (uint16_t)number(&line, 10);
+    same("the cost", muruapy_link_cost(&two, 0), (unsigned long)number(&line, 10));
+    same("the sum", link.near + link.far, (unsigned long)number(&line, 10));
+    for (size_t i = 0; i < rows; i++)
+        earlier(rising[i], link);
+    if (rows == sizeof rising / sizeof rising[0])
+        fault("a table of too many links");
+    rising[rows++] = link;
+    count(ORDER, 0);
+    no_more(&line);
+}
+
 static void numbers_line(const char *sort, char *line)
 {
+    if (strcmp(sort, "order") == 0) {
+        order_line(line);
+        return;
+    }
     if (strcmp(sort, "ceiling") == 0) {
         uint16_t modules = (uint16_t)number(&line, 10), links = (uint16_t)number(&line, 10);
         same("the ceiling", muruapy_ceiling(modules, links), (unsigned long)number(&line, 10));
@@ -644,6 +687,7 @@ static void read_page(FILE *file)
         strcpy(first, line + 3);
         rest = first;
         b.length = 0;
+        rows = 0;
         kind = word(&rest);
         if (!kind || (strcmp(kind, "bytes") && strcmp(kind, "numbers") && strcmp(kind, "calls") &&
                       strcmp(kind, "report") && strcmp(kind, "text")))

@@ -21,6 +21,8 @@ struct Tally {
     /// plans, frames and plan values, drawn or damaged, that are refused
     refused: usize,
     numbers: BTreeMap<u32, usize>,
+    /// good plans whose tree each of `WRONG_ORDERS` would change: of up to 4 modules, and of more
+    told_apart: [[usize; 2]; WRONG_ORDERS.len()],
 }
 
 impl Tally {
@@ -30,6 +32,15 @@ impl Tally {
         }
     }
 }
+
+/// Ways to get the order of links wrong, by their keys. Last: of how many plans each must change the tree, at the least.
+type Keys = fn(&Plan, u16) -> [u32; 3];
+const WRONG_ORDERS: [(&str, Keys, [usize; 2]); 4] = [
+    ("the sum left out, or behind the number", |p, k| [p.cost(k), k as u32, p.sum(k)], [4000, 300]),
+    ("the smaller reading", |p, k| [p.sum(k) - p.cost(k), p.sum(k), k as u32], [4000, 300]),
+    ("the sum as the cost", |p, k| [p.sum(k), k as u32, 0], [2500, 300]),
+    ("the higher number", |p, k| [p.cost(k), p.sum(k), NONE as u32 - k as u32], [7000, 300]),
+];
 
 const GUARD: usize = 16;
 
@@ -82,7 +93,11 @@ fn compare_plan(rng: &mut Rng, tally: &mut Tally, bytes: &[u8]) {
         Ok(plan) => {
             tally.good_plans += 1;
             let l = plan.links.len();
-            lend(rng, l, 0, &kruskal::tree(&plan), tree);
+            let expected = kruskal::tree(&plan);
+            for ((_, key, _), count) in WRONG_ORDERS.iter().zip(&mut tally.told_apart) {
+                count[(plan.modules > 4) as usize] += (kruskal::tree_by(&plan, |k| key(&plan, k)) != expected) as usize;
+            }
+            lend(rng, l, 0, &expected, tree);
             for len in [l + 1, l + 600, rng.below(l.max(1)), l.saturating_sub(1)] {
                 if len != l {
                     refused(rng, tally, len, 20, tree);
@@ -184,14 +199,14 @@ fn compare_write(rng: &mut Rng, tally: &mut Tally, header: u8, carried: u16) {
     }
 }
 
-/// Every plan of 4 modules whose links each cost 0, 1 or 2 or are not there; the unconnected ones are refused.
+/// Every plan of 4 modules whose links each have one of these readings or are not there; the unconnected ones are refused.
 fn all_of_four(rng: &mut Rng, tally: &mut Tally) {
-    for code in 0..4u32.pow(6) {
+    const READINGS: [(u16, u16); 4] = [(0, 1), (1, 0), (1, 1), (2, 0)];
+    for code in 0..5usize.pow(6) {
         let mut plan = Plan { modules: 4, links: Vec::new() };
         for (i, (lower, higher)) in plans::complete(4).into_iter().enumerate() {
-            let cost = (code >> (2 * i) & 3) as u16;
-            if cost < 3 {
-                plan.links.push(Link { lower, higher, at_lower: cost.min(1), at_higher: cost.saturating_sub(1) });
+            if let Some(&(at_lower, at_higher)) = READINGS.get(code / 5usize.pow(i as u32) % 5) {
+                plan.links.push(Link { lower, higher, at_lower, at_higher });
             }
         }
         compare_plan(rng, tally, &plan.encode());
@@ -348,16 +363,20 @@ fn main() {
         let times = tally.numbers.get(&number).copied().unwrap_or(0);
         assert!(times >= 20, "refusal {number} came only {times} times: {:?}", tally.numbers);
     }
+    for ((order, _, least), times) in WRONG_ORDERS.iter().zip(tally.told_apart) {
+        assert!(times.iter().zip(least).all(|(t, l)| t >= l), "{order}: only {times:?} trees would be others");
+    }
     assert!(tally.refused >= 10_000, "only {} inputs were refused", tally.refused);
     let numbers: Vec<String> = tally.numbers.iter().map(|(number, times)| format!("{number}:{times}")).collect();
     println!(
         "ground: {} plans ({} good, tree as Kruskal's), {} plan values, {} frames ({drawn} drawn), {ceilings} ceilings \
-         agree; {} drawn inputs refused; refusals {}",
+         agree; {} drawn inputs refused; refusals {}; trees that a wrong order of links would change: {:?}",
         tally.plans,
         tally.good_plans,
         tally.values,
         tally.frames,
         tally.refused,
-        numbers.join(" ")
+        numbers.join(" "),
+        tally.told_apart
     );
 }

@@ -102,10 +102,8 @@ static void at_rest(const muruapy_plan *plan, size_t records)
 /* Its tree is links 0 and 2. */
 static void triangle(size_t records)
 {
-    static const muruapy_link links[3] = {{0, 1, 3, 3}, {0, 2, 5, 5}, {1, 2, 4, 0}};
     static muruapy_plan plan;
-    plan.modules = plan.links = 3;
-    memcpy(plan.link, links, sizeof links);
+    sample("worse-reading.plan", &plan);
     at_rest(&plan, records);
 }
 

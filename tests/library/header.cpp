@@ -46,7 +46,7 @@ int main()
         return 1;
     const std::string said(text.begin(), text.begin() + static_cast<std::ptrdiff_t>(muruapy_report(
                                                             field.get(), rounds, text.data(), text.size())));
-    if (said != "modules 2\nlinks 1\nbranch 0 1 7\ntotal 7\ncore 0 1\nmessages 6 of 12\nrounds 4\n")
+    if (said != "modules 2\nlinks 1\nbranch 0 1 4\ntotal 4\ncore 0 1\nmessages 6 of 12\nrounds 4\n")
         return 1;
     std::vector<muruapy_cue> cues(plan->modules);
     if (muruapy_cue_start(field.get(), words.data(), words.size(), cues.data(), cues.size(), 1, 7) != MURUAPY_TAKEN)

@@ -152,7 +152,7 @@ void job_calls(bool whole, const char *reports_folder)
     job_of("single.plan", reports_folder, 0, 0);
     job_of("two-modules.plan", reports_folder, 4, 6);
     job_of("ring-12.plan", reports_folder, 34, 58);
-    job_of("full-192.plan", reports_folder, 170, 3730);
+    job_of("full-192.plan", reports_folder, 140, 3771);
     for (from = refused_plans; from->number; from++) {
         refused_value(from, &value);
         job_gives(&value, 0, from->number, 0);

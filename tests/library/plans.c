@@ -87,6 +87,11 @@ static void value_checked(const muruapy_plan *value, uint32_t number)
     take_back();
 }
 
+static uint32_t larger(const muruapy_link *link)
+{
+    return link->near > link->far ? link->near : link->far;
+}
+
 /* A plan that is taken: each call on its value. `tree` has a digit for each link. */
 static void good_value(const char *name, const char *tree)
 {
@@ -107,7 +112,7 @@ static void good_value(const char *name, const char *tree)
     for (k = 0; k <= f.length + 1; k += k == 1 ? f.length - 2 : 1)
         written(&value, k, k < f.length ? 22 : 0, &f);
     for (k = 0; k < L; k++)
-        cost_is(&value, (uint16_t)k, (uint32_t)value.link[k].near + value.link[k].far);
+        cost_is(&value, (uint16_t)k, larger(&value.link[k]));
     cost_is(&value, (uint16_t)L, MURUAPY_NONE);
     cost_is(&value, 65535, MURUAPY_NONE);
     /* What stands behind the last link means nothing. */
@@ -135,11 +140,15 @@ static void refused_values(void)
     /* Any numbers have a cost, up to the last link that there is room for. */
     memset(&value, 0xff, sizeof value);
     value_checked(&value, 14);
-    cost_is(&value, 599, 131070);
+    value.link[598].near = 0;
+    value.link[598].far = 65534;
+    cost_is(&value, 598, 65534);
+    value.link[599].near = 65534;
+    value.link[599].far = 65533;
+    cost_is(&value, 599, 65534);
     cost_is(&value, 600, MURUAPY_NONE);
     cost_is(&value, 65535, MURUAPY_NONE);
     /* Of a plan that is refused it may be the number of none. */
-    value.link[0].far = 0;
     cost_is(&value, 0, MURUAPY_NONE);
 }
 
@@ -169,9 +178,9 @@ static void kruskal(const muruapy_plan *plan, char *tree)
         uint32_t least = 0xffffffffu;
         for (best = 0, k = 0; k < plan->links; k++) {
             const muruapy_link *l = &plan->link[k];
-            uint32_t cost = (uint32_t)l->near + l->far;
-            if (part[l->lower] != part[l->higher] && cost < least) {
-                least = cost;
+            uint32_t key = 4096 * larger(l) + l->near + l->far; /* the sum is below 4096 */
+            if (part[l->lower] != part[l->higher] && key < least) {
+                least = key;
                 best = k;
             }
         }
@@ -198,6 +207,7 @@ void plan_calls(void)
     good_value("single.plan", "");
     good_value("two-modules.plan", "1");
     good_value("triangle.plan", "110");
+    good_value("worse-reading.plan", "101");
     good_value("ring-12.plan", "111111111110");
     sample("full-192.plan", &full);
     kruskal(&full, tree);

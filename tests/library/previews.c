@@ -100,14 +100,12 @@ static void to_rest(void)
 
 static void put_back(void)
 {
-    static const muruapy_link links[3] = {{0, 1, 1, 1}, {0, 2, 0, 5}, {1, 2, 4, 0}};
     static const uint64_t initiate[] = {0x2000000004au}, connect[] = {0x20005ffff01u};
     static const uint64_t before[] = {0x2000400000bu, 0x3000200000bu, 0};
     static const uint64_t after[] = {0x2000400000bu, 0x20005ffff01u, 0x3000200000bu, 0};
     static muruapy_plan plan;
     uint16_t rounds;
-    plan.modules = plan.links = 3;
-    memcpy(plan.link, links, sizeof links);
+    sample("worse-reading.plan", &plan);
     set_up(&plan, 0);
     step(MURUAPY_WAKE, 0);
     step(MURUAPY_WAKE, 1);

@@ -28,8 +28,13 @@ impl Parts {
 
 /// A byte for each link: 1 for a tree link, 0 otherwise.
 pub fn tree(plan: &Plan) -> Vec<u8> {
+    tree_by(plan, |k| plan.key(k))
+}
+
+/// The same with links compared by any keys.
+pub fn tree_by<K: Ord>(plan: &Plan, key: impl Fn(u16) -> K) -> Vec<u8> {
     let mut order: Vec<u16> = (0..plan.links.len() as u16).collect();
-    order.sort_by_key(|k| plan.key(*k));
+    order.sort_by_key(|k| key(*k));
     let mut parts = Parts::new(plan.modules as usize);
     let mut tree = vec![0; plan.links.len()];
     for k in order {

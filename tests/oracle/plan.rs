@@ -132,15 +132,21 @@ impl Plan {
         out
     }
 
-    /// A link's cost is the sum of its readings.
+    /// A link's cost is the larger of its two readings.
     pub fn cost(&self, k: u16) -> u32 {
+        let link = self.links[k as usize];
+        link.at_lower.max(link.at_higher) as u32
+    }
+
+    /// The sum of a link's readings.
+    pub fn sum(&self, k: u16) -> u32 {
         let link = self.links[k as usize];
         link.at_lower as u32 + link.at_higher as u32
     }
 
-    /// Links are compared by cost, then by number.
-    pub fn key(&self, k: u16) -> (u32, u16) {
-        (self.cost(k), k)
+    /// Links are compared by cost, then by the sum of the readings, then by number.
+    pub fn key(&self, k: u16) -> (u32, u32, u16) {
+        (self.cost(k), self.sum(k), k)
     }
 
     /// Link a is earlier than b; none is later than all.

@@ -5,19 +5,27 @@ use crate::plan::{Link, Plan, MOST_LINKS, MOST_MODULES, NONE};
 use crate::rng::Rng;
 use std::collections::BTreeSet;
 
-/// How readings are drawn. All but `Wide` make many equal costs.
+/// How readings are drawn. All but `Wide` and `SameSum` make many equal costs.
 #[derive(Clone, Copy, Debug)]
 pub enum Readings {
     Wide,
     Few,
     Same,
+    /// The same larger reading, at either end, and different smaller ones: the sums decide.
+    SameCost,
     /// Different readings of the same sum.
     SameSum,
     Extreme,
 }
 
-pub const READINGS: [Readings; 5] =
-    [Readings::Wide, Readings::Few, Readings::Same, Readings::SameSum, Readings::Extreme];
+pub const READINGS: [Readings; 6] = [
+    Readings::Wide,
+    Readings::Few,
+    Readings::Same,
+    Readings::SameCost,
+    Readings::SameSum,
+    Readings::Extreme,
+];
 
 type Pairs = Vec<(u16, u16)>;
 
@@ -59,6 +67,12 @@ pub fn connected(rng: &mut Rng, n: u16, l: usize) -> Pairs {
     pairs.into_iter().collect()
 }
 
+/// Three links with readings 3 and 3, 0 and 5, 4 and 0: in the order 0, 2, 1, and by their sums 2, 1, 0.
+pub fn worse_reading() -> Plan {
+    let link = |lower, higher, at_lower, at_higher| Link { lower, higher, at_lower, at_higher };
+    Plan { modules: 3, links: vec![link(0, 1, 3, 3), link(0, 2, 0, 5), link(1, 2, 4, 0)] }
+}
+
 /// The plan of n modules and these links, ascending, with drawn readings.
 pub fn plan(rng: &mut Rng, n: u16, mut pairs: Pairs, readings: Readings) -> Plan {
     pairs.sort();
@@ -67,6 +81,10 @@ pub fn plan(rng: &mut Rng, n: u16, mut pairs: Pairs, readings: Readings) -> Plan
         Readings::Wide => (rng.range(0, 2000) as u16, rng.range(0, 2000) as u16),
         Readings::Few => (rng.range(0, 2) as u16, rng.range(0, 2) as u16),
         Readings::Same => (same, same),
+        Readings::SameCost => {
+            let drawn = rng.below(2 * (same as usize + 1)) as u16;
+            if drawn % 2 == 0 { (drawn / 2, same) } else { (same, drawn / 2) }
+        }
         Readings::SameSum => {
             let a = rng.range(0, same as usize) as u16;
             (a, same - a)

@@ -62,9 +62,24 @@ fn refused_plans() {
 }
 
 #[test]
-fn triangle_of_equal_costs() {
+fn triangle_of_equal_readings() {
     let plan = Plan { modules: 3, links: links(&[(0, 1, 2, 3), (0, 2, 2, 3), (1, 2, 2, 3)]) };
     assert_eq!(kruskal::tree(&plan), [1, 1, 0]);
+}
+
+/// The larger reading decides, then the sum, then the number.
+#[test]
+fn the_worse_reading_counts() {
+    let plan = plans::worse_reading();
+    assert_eq!(kruskal::tree(&plan), [1, 0, 1]);
+    let lines = "modules 3\nlinks 3\nbranch 0 1 3\nbranch 1 2 4\ntotal 7\ncore 0 1\nmessages 13 of 21\nrounds 8\n";
+    assert_eq!(report(&plan.encode()), lines);
+    let plan = Plan { modules: 3, links: links(&[(0, 1, 4, 4), (0, 2, 4, 1), (1, 2, 0, 4)]) };
+    assert_eq!(kruskal::tree(&plan), [0, 1, 1]);
+    let plan = Plan { modules: 6, links: links(&[(0, 1, 3, 3), (0, 2, 0, 5), (0, 3, 4, 1), (0, 4, 4, 0), (0, 5, 0, 4)]) };
+    let mut rising = [0, 1, 2, 3, 4];
+    rising.sort_by_key(|k| plan.key(*k));
+    assert_eq!(rising, [0, 3, 4, 2, 1]);
 }
 
 #[test]
@@ -95,7 +110,7 @@ fn test_at_a_sleeper() {
 
 #[test]
 fn sample_report() {
-    let lines = "modules 2\nlinks 1\nbranch 0 1 7\ntotal 7\ncore 0 1\nmessages 6 of 12\nrounds 4\n";
+    let lines = "modules 2\nlinks 1\nbranch 0 1 4\ntotal 4\ncore 0 1\nmessages 6 of 12\nrounds 4\n";
     assert_eq!(report(&two_modules()), lines);
     let single = Plan { modules: 1, links: vec![] };
     let lines = "modules 1\nlinks 0\ntotal 0\ncore none\nmessages 0 of 0\nrounds 0\n";

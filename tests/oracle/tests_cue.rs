@@ -10,7 +10,7 @@ use crate::plans::{self, Readings};
 use crate::rng::Rng;
 use crate::rounds;
 use crate::rules::{BASIC, BRANCH, REJECTED};
-use crate::tests::{links, set_up};
+use crate::tests::set_up;
 use std::collections::HashSet;
 
 fn record(heard: u8, cue: u16, link: u16, hops: u16) -> Cue {
@@ -25,17 +25,11 @@ fn at_rest(plan: &Plan) -> (Field, Vec<u64>) {
     (field, words)
 }
 
-/// The readings' samples are of a triangle whose tree is links 0 and 2 by the order of links that request 03 brings. This
-/// one has that tree by today's order as well as by that one, so the rows hold as they are written.
-fn triangle() -> Plan {
-    Plan { modules: 3, links: links(&[(0, 1, 3, 3), (0, 2, 5, 5), (1, 2, 4, 0)]) }
-}
-
 const PAST: Cue = Cue { heard: 9, cue: 9, link: 9, hops: 9 };
 
 #[test]
 fn samples() {
-    let (field, words) = at_rest(&triangle());
+    let (field, words) = at_rest(&plans::worse_reading());
     assert_eq!(kruskal::tree(&field.plan), [1, 0, 1]);
     let none = Cue::UNHEARD;
     let mut cues = vec![PAST; 4];
@@ -65,7 +59,7 @@ fn samples() {
 /// The numbers in their order, each call leaving the records as they were.
 #[test]
 fn refusals() {
-    let (good, words) = at_rest(&triangle());
+    let (good, words) = at_rest(&plans::worse_reading());
     let before = vec![record(1, 7, NONE, 0), PAST, Cue::UNHEARD, PAST];
     let started = |field: &Field, words: &[u64], sender, count: usize| {
         let mut cues = before.clone();
@@ -204,7 +198,7 @@ fn every_list(count: usize, of: &[Cue], list: &mut Vec<Cue>, f: &mut dyn FnMut(&
 
 /// All shapes of up to 4 modules, with small readings.
 fn small_plans(rng: &mut Rng) -> Vec<Plan> {
-    let mut plans = vec![Plan { modules: 1, links: vec![] }, triangle()];
+    let mut plans = vec![Plan { modules: 1, links: vec![] }, plans::worse_reading()];
     for n in 2..=4 {
         let pairs = plans::complete(n);
         for subset in 0..1u32 << pairs.len() {

@@ -12,11 +12,6 @@ use crate::rules::{Fate, Response, BASIC, BRANCH};
 use crate::schedule::Step;
 use crate::tests::{links, set_up};
 
-/// A triangle whose links have the same order by today's cost and by request 03's, so that the rows hold after it too.
-fn triangle() -> Plan {
-    Plan { modules: 3, links: links(&[(0, 1, 1, 1), (0, 2, 0, 5), (1, 2, 4, 0)]) }
-}
-
 fn take(field: &mut Field, words: &mut [u64], steps: &[(u8, u16)]) {
     for (kind, number) in steps {
         field.step(words, *kind, *number).unwrap();
@@ -31,7 +26,7 @@ fn shown(field: &Field, words: &[u64], kind: u8, number: u16, places: usize) -> 
 
 #[test]
 fn samples() {
-    let (mut field, mut words) = set_up(&triangle().encode());
+    let (mut field, mut words) = set_up(&plans::worse_reading().encode());
     take(&mut field, &mut words, &[(WAKE, 0), (WAKE, 1), (HAND_OVER, 0), (HAND_OVER, 1)]);
     assert_eq!(shown(&field, &words, SERVE, 0, 1), (Ok(1), vec![0x2000000004A]));
     assert_eq!(shown(&field, &words, SERVE, 0, 3), (Ok(1), vec![0x2000000004A, 9, 9]));
@@ -54,7 +49,7 @@ fn samples() {
 #[test]
 fn refusals() {
     let (good, words) = {
-        let (mut field, mut words) = set_up(&triangle().encode());
+        let (mut field, mut words) = set_up(&plans::worse_reading().encode());
         take(&mut field, &mut words, &[(WAKE, 0), (HAND_OVER, 0)]);
         (field, words)
     };

@@ -81,13 +81,16 @@ fn check_tree(plan: &Plan, printed: &str) {
     assert!(printed.lines().skip(2).take(lines.len()).eq(lines.iter()), "the tree is not Kruskal's");
 }
 
-fn equal_costs(plan: &Plan) -> bool {
-    let costs: BTreeSet<u32> = (0..plan.links.len()).map(|k| plan.cost(k as u16)).collect();
-    costs.len() < plan.links.len()
+/// Whether two links cost the same, and whether two such have different sums.
+fn equal_costs(plan: &Plan) -> (bool, bool) {
+    let links = 0..plan.links.len() as u16;
+    let costs: BTreeSet<u32> = links.clone().map(|k| plan.cost(k)).collect();
+    let sums: BTreeSet<(u32, u32)> = links.map(|k| (plan.cost(k), plan.sum(k))).collect();
+    (costs.len() < plan.links.len(), costs.len() < sums.len())
 }
 
 fn compare(inputs: &[Input], command: &[String]) {
-    let (mut taken, mut ties) = (0, 0);
+    let (mut taken, mut ties, mut by_sum) = (0, 0, 0);
     let mut refused: BTreeMap<u32, usize> = BTreeMap::new();
     for Input { name, bytes } in inputs {
         let expected = report(bytes);
@@ -96,13 +99,20 @@ fn compare(inputs: &[Input], command: &[String]) {
             Ok(plan) => {
                 check_tree(&plan, &expected);
                 taken += 1;
-                ties += equal_costs(&plan) as usize;
+                let (equal, different_sums) = equal_costs(&plan);
+                ties += equal as usize;
+                by_sum += different_sums as usize;
             }
             Err(number) => *refused.entry(number).or_default() += 1,
         }
     }
     assert!(refused.keys().copied().eq(11..=19), "some refusal never came: {refused:?}");
-    println!("report: {} inputs, the same output; {taken} plans taken, {ties} with equal costs", inputs.len());
+    assert!(ties >= 350 && by_sum >= 250, "only {ties} plans have equal costs, {by_sum} of them different sums");
+    println!(
+        "report: {} inputs, the same output; {taken} plans taken, {ties} with equal costs, {by_sum} of them with \
+         different sums",
+        inputs.len()
+    );
     println!("report: refusals and how often: {refused:?}");
 }
 

@@ -8,5 +8,6 @@ pub mod Sample
 pub mod Span
 pub mod Cycle
 pub mod Least
+pub mod Second
 pub mod Size
 pub mod Kruskal

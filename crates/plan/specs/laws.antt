@@ -4,3 +4,4 @@ pub mod Accepted
 pub mod Pairs
 pub mod Same
 pub mod Ceiling
+pub mod Samples

@@ -9,7 +9,7 @@ ghost use Rattle.base.specs.Limits.{maxLinks};
 ghost use Rattle.base.specs.Ceiling.{firstTerm, ceiling};
 ghost use Rattle.base.specs.None.{none, beforeBy};
 ghost use Rattle.plan.specs.Links.{modulesOf, linksOf, lowerOf, higherOf, nearOf, farOf};
-ghost use Rattle.plan.specs.Weights.{costOf, cost, earlier};
+ghost use Rattle.plan.specs.Weights.{costOf, cost, readingSum, earlier};
 
 // A plan in file order: N modules, L links; then of each link the lower and the higher module and the readings (path loss), near at the
 // lower one, far at the higher one. What stands behind the L links means nothing.
@@ -95,11 +95,14 @@ pub fn level_limit(p: &Plan) -> u16
     floor_log2(p[0])
 }
 
-// The cost of two readings.
+// The cost of two readings: the larger.
 fn cost_of(near: u16, far: u16) -> u32
     ensures { λ r. ⌜ r ≡ costOf near far ⌝ }
 {
-    near as u32 + far as u32
+    if near < far {
+        return far as u32;
+    }
+    near as u32
 }
 
 // A link's cost.
@@ -110,17 +113,30 @@ pub fn cost(p: &Plan, k: usize) -> u32
     cost_of(near(p, k), far(p, k))
 }
 
-// Whether link a is earlier than link b.
+// The sum of a link's readings, which decides between equal costs.
+fn reading_sum(p: &Plan, k: usize) -> u32
+    requires { ⌜ k < maxLinks ⌝ }
+    ensures { λ r. ⌜ r ≡ readingSum (now (p .entry)) k ⌝ }
+{
+    near(p, k) as u32 + far(p, k) as u32
+}
+
+// Whether link a is earlier than link b: by cost, then by the sum of the readings, then by number.
 pub fn earlier(p: &Plan, a: u16, b: u16) -> bool
     requires { ⌜ (a < maxLinks) × (b < maxLinks) ⌝ }
     ensures { λ r. ⌜ r ≡ earlier (now (p .entry)) a b ⌝ }
 {
     let x = cost(p, a as usize);
     let y = cost(p, b as usize);
-    if x == y {
-        return a < b;
+    if x != y {
+        return x < y;
     }
-    x < y
+    let s = reading_sum(p, a as usize);
+    let t = reading_sum(p, b as usize);
+    if s != t {
+        return s < t;
+    }
+    a < b
 }
 
 // Whether weight a is earlier than weight b, each a link or none.

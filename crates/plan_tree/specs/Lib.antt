@@ -1,3 +1,4 @@
 pub mod Lent
 pub mod Tree
+pub mod Claim
 pub mod laws

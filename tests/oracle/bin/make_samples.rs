@@ -1,7 +1,7 @@
 //! Writes the plans of samples/. `make_samples FOLDER`, by samples/make.
 
 use oracle::plan::{Link, Plan};
-use oracle::plans::{complete, connected, path, plan, ring, star, Readings};
+use oracle::plans::{complete, connected, path, plan, ring, star, worse_reading, Readings};
 use oracle::report::report;
 use oracle::rng::Rng;
 
@@ -31,10 +31,11 @@ fn main() {
         ("single", Plan { modules: 1, links: vec![] }),
         ("two-modules", two_modules()),
         ("triangle", triangle()),
+        ("worse-reading", worse_reading()),
         ("path-8", plan(rng, 8, path(8), Readings::Wide)),
         ("star-16", plan(rng, 16, star(16, 5), Readings::Few)),
         ("ring-12", plan(rng, 12, ring(12), Readings::Same)),
-        ("complete-10", plan(rng, 10, complete(10), Readings::SameSum)),
+        ("complete-10", plan(rng, 10, complete(10), Readings::SameCost)),
         ("full-192", plan(rng, 192, full, Readings::Wide)),
         ("mesh-9", mesh(rng, 9, 16)),
         ("refused-17-not-ascending", not_ascending),

@@ -12,7 +12,7 @@ use Rattle.graph.specs.Decide as graph1
 use Rattle.graph.specs.Labels as graph2
 use Rattle.plan.specs.Refusal as plan1
 use Rattle.plan.specs.Weights as plan2
-use Rattle.plan.specs.Links.{Plan}
+use Rattle.plan.specs.laws.Samples.{worseReading}
 use Rattle.node.specs.Work as node1
 use Rattle.field.specs.Edges as field1
 use Rattle.field.specs.Valid as field2
@@ -32,14 +32,10 @@ use Rattle.cue.specs.Copies.{copiesSent, copiesWaiting}
 use Rattle.cue.specs.Calls.{refusalNumber, heardNumber}
 use Rattle.cue.specs.Follow.{Followed, followStart, follow, arrives}
 
--- links 0-1, 0-2 and 1-2; the tree is links 0 and 2; M is 21
-abbrev triangle : Plan
-triangle = 3 ∷ 3 ∷ 0 ∷ 1 ∷ 3 ∷ 3 ∷ 0 ∷ 2 ∷ 5 ∷ 5 ∷ 1 ∷ 2 ∷ 4 ∷ 0 ∷ []
-
--- only marks count: these modules sleep. `one` is module 1's mark for link 0, which is in the tree, `two` module 2's for link 1, which is not.
+-- A triangle whose tree is links 0 and 2; M is 21. Only marks count: these modules sleep. `one` is module 1's mark for link 0, which is in the tree, `two` module 2's for link 1, which is not.
 abbrev held : ℕ → ℕ → ℕ → Held
 held sent one two =
-    record { field = record { plan = triangle; cells = freshCells 3; marks = 1 ∷ one ∷ 0 ∷ two ∷ 1 ∷ 1 ∷ []; sent = sent }; words = replicate 21 0 }
+    record { field = record { plan = worseReading; cells = freshCells 3; marks = 1 ∷ one ∷ 0 ∷ two ∷ 1 ∷ 1 ∷ []; sent = sent }; words = replicate 21 0 }
 
 -- marked like the tree; a tree link that is not marked; another one that is; no field, as more was sent than M
 abbrev finished : Held
@@ -56,7 +52,7 @@ spoilt = held 22 0 2
 
 -- other marks: the lower end of link 0 lacks; an end of link 2 lacks; both ends agree, but on another tree
 abbrev marked : List ℕ → Held
-marked marks = record { field = record { plan = triangle; cells = freshCells 3; marks = marks; sent = 0 }; words = replicate 21 0 }
+marked marks = record { field = record { plan = worseReading; cells = freshCells 3; marks = marks; sent = 0 }; words = replicate 21 0 }
 
 -- one module and no link, straight from setup: M is 0
 abbrev alone : Held
@@ -175,7 +171,7 @@ abbrev held-by : Followed → List (List Cue)
 held-by x = map (x .channel) (0 ∷ 1 ∷ 2 ∷ 3 ∷ 4 ∷ 5 ∷ [])
 
 abbrev followed : List ℕ → Followed
-followed ds = follow triangle ds (followStart triangle (four past past past) 1 7)
+followed ds = follow worseReading ds (followStart worseReading (four past past past) 1 7)
 
 pub follow-samples :
     map (λ ds. held-by (followed ds)) ([] ∷ (1 ∷ []) ∷ (1 ∷ 1 ∷ []) ∷ (1 ∷ 4 ∷ []) ∷ [])
@@ -203,21 +199,21 @@ run-samples = refl
 
 -- sent and waiting
 pub count-samples :
-    map (λ l. copiesSent triangle l ∷ copiesWaiting triangle l ∷ []) (four sender unheard unheard ∷ four sender one unheard ∷ four sender one two ∷ four unheard sender unheard ∷ [])
+    map (λ l. copiesSent worseReading l ∷ copiesWaiting worseReading l ∷ []) (four sender unheard unheard ∷ four sender one unheard ∷ four sender one two ∷ four unheard sender unheard ∷ [])
     ≡ (1 ∷ 1 ∷ []) ∷ (2 ∷ 1 ∷ []) ∷ (2 ∷ 0 ∷ []) ∷ (2 ∷ 2 ∷ []) ∷ []
 unfolding graph1.label graph1.joinedOver graph1.inTree graph2.rename plan2.cost plan2.earlier cue1.sentOver cue1.arrivedOver
 count-samples = refl
 
 -- a channel of two copies: the first one arrives, the other stays; what is passed on stands last
 pub channel-samples :
-    map (λ d. arrives triangle 0 (record { cues = four sender unheard unheard; channel = λ e. one ∷ two ∷ [] }) (sender ∷ two ∷ []) .channel d) (0 ∷ 1 ∷ 4 ∷ 6 ∷ [])
+    map (λ d. arrives worseReading 0 (record { cues = four sender unheard unheard; channel = λ e. one ∷ two ∷ [] }) (sender ∷ two ∷ []) .channel d) (0 ∷ 1 ∷ 4 ∷ 6 ∷ [])
     ≡ (two ∷ []) ∷ (one ∷ two ∷ []) ∷ (one ∷ two ∷ one ∷ []) ∷ (one ∷ two ∷ []) ∷ []
 unfolding base3.upd graph1.label graph1.joinedOver graph1.inTree graph2.rename plan2.cost plan2.earlier cue3.passesOn cue3.arrives
 channel-samples = refl
 
 -- the order counts; what the records are
 pub order-samples :
-    map (λ ds. follow triangle ds (followStart triangle (four past past past) 0 7) .cues) ((0 ∷ 4 ∷ []) ∷ (4 ∷ 0 ∷ []) ∷ [])
+    map (λ ds. follow worseReading ds (followStart worseReading (four past past past) 0 7) .cues) ((0 ∷ 4 ∷ []) ∷ (4 ∷ 0 ∷ []) ∷ [])
     ≡ four sender one two ∷ four sender one unheard ∷ []
 unfolding base3.upd graph1.label graph1.joinedOver graph1.inTree graph2.rename plan2.cost plan2.earlier cue3.passesOn cue3.arrives cue3.follow
 order-samples = refl

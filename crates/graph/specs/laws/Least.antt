@@ -1,4 +1,4 @@
--- No set of edges that joins what the edges join has a smaller total cost than the tree (`tree-least`, `tree-least-all`).
+-- No set of edges that joins what the edges join has a smaller total cost than the tree (`tree-least`); a set that joins all nodes is one (`spanning-all`).
 use Prim.Native.Nat.{ℕ, zero, suc, _+_, _≤_, _<_, zero-le}
 use native.Mathlib.Omega.{arith}
 use native.Mathlib.Nat.{not-suc-le-zero}
@@ -152,11 +152,11 @@ module _ (g : Graph) (o : Order (g.L)) (cost : ℕ → ℕ) (mono : (a b : ℕ) 
   pub tree-least : (s : ℕ → Bool) → Spanning g s → totalCost g cost (inTree g (o.earlier)) ≤ totalCost g cost s
   tree-least s sp = least-from (g.L) 0 (omega arith) s sp (λ e l t z. absurd (not-suc-le-zero z))
 
-  -- any set that joins all nodes, for edges between nodes below n
-  pub tree-least-all : (n : ℕ) → ((e : ℕ) → e < g.L → (g.lo e < n) × (g.hi e < n))
-      → (s : ℕ → Bool) → ((u v : ℕ) → u < n → v < n → Way g (Set s) u v) → totalCost g cost (inTree g (o.earlier)) ≤ totalCost g cost s
-  tree-least-all n ends s all = tree-least s (λ e u v j. way-as-met j (let p = ends e (joins-lt j) in all (g.lo e) (g.hi e) (p .0) (p .1)))
+-- a set that joins all nodes spans, for edges between nodes below n
+pub spanning-all : (g : Graph) (n : ℕ) → ((e : ℕ) → e < g.L → (g.lo e < n) × (g.hi e < n))
+    → (s : ℕ → Bool) → ((u v : ℕ) → u < n → v < n → Way g (Set s) u v) → Spanning g s
+spanning-all g n ends s all e u v j = way-as-met j (let p = ends e (joins-lt j) in all (g.lo e) (g.hi e) (p .0) (p .1))
 
--- the tree is such a set itself
+-- the tree spans
 pub tree-spanning : (g : Graph) (o : Order (g.L)) → Spanning g (inTree g (o.earlier))
 tree-spanning g o e u v j = wider (λ f l t. tree-inTree g (o.earlier) f (t .0)) (spans-edge g o e u v j)

@@ -7,7 +7,7 @@ use lib.Dec.{ltb}
 use Rattle.graph.specs.Graph.{Graph}
 use Rattle.graph.specs.Decide.{inTree, connected}
 
--- three nodes, edges 0-1, 0-2, 1-2, all of the same cost: the lower number is earlier, and the tree is 0-1 and 0-2
+-- three nodes, edges 0-1, 0-2, 1-2, ordered by number: the tree is 0-1 and 0-2
 triangle : Graph
 triangle = record { L = 3; lo = λ e. getD (0 ∷ 0 ∷ 1 ∷ []) e 0; hi = λ e. getD (1 ∷ 2 ∷ 2 ∷ []) e 0 }
 

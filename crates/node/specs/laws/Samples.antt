@@ -57,7 +57,7 @@ basics = 0 ∷ 0 ∷ 0 ∷ 0 ∷ []
 abbrev one : List ℕ
 one = 0 ∷ 1 ∷ 0 ∷ 0 ∷ []
 
--- * "Serving a Test of level 1 at a sleeper: it wakes, sends Connect, the Test goes to the end." Of the equal edges 1 and 3 the lower number is earlier.
+-- * "Serving a Test of level 1 at a sleeper: it wakes, sends Connect, the Test goes to the end." Of its own edges 1 is the earliest.
 abbrev pub testAtSleeper : ResponseRow
 testAtSleeper = row asleep basics 0 (test 1 2) (back woken one ((1 ∷ 1 ∷ 0 ∷ none ∷ 0 ∷ []) ∷ []))
 

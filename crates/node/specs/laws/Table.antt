@@ -18,7 +18,7 @@ pub record ResponseShown : Type 0 where
   pub sends : List (List ℕ)
 
 pub record ResponseRow : Type 0 where
-  -- for each edge number 1 if it is an own edge, and its weight; equal weights go by number
+  -- for each edge number 1 if it is an own edge, and a number by which edges are ordered: the rules take any order without ties, here equal numbers go by the edge's
   pub own : List ℕ
   pub weights : List ℕ
   -- ⌊log2 N⌋

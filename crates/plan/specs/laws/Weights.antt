@@ -1,4 +1,5 @@
--- `earlier` is a strict order of the links without ties (`orderOf`); an earlier link costs no more (`earlier-cost`).
+-- `earlier` is a strict order of the links without ties (`orderOf`); an earlier link costs no more (`earlier-cost`), and of equal costs has no larger sum
+-- of readings (`earlier-sum`).
 use Prim.Native.Nat.{ℕ, _<_, _≤_}
 use mathlib.Core.Path.{_≡_}
 use mathlib.Core.Logic.{_≢_, _⊎_}
@@ -7,11 +8,11 @@ use lib.Dec.{ltb}
 use Rattle.graph.specs.Order.{Order}
 use Rattle.plan.specs.Links.{Plan, linksOf}
 use Rattle.plan.specs.laws.Keys.{keyed, keyOrder, numberOrder}
-use Rattle.plan.specs.Weights.{cost, earlier}
+use Rattle.plan.specs.Weights.{cost, readingSum, amongEqual, earlier}
 
 module _ (p : Plan) where
   abbrev keys : Order (linksOf p)
-  keys = keyOrder (cost p) numberOrder
+  keys = keyOrder (cost p) (keyOrder (readingSum p) numberOrder)
 
   pub earlier-irrefl : (a : ℕ) → earlier p a a ≡ false
   unfolding earlier
@@ -28,7 +29,12 @@ module _ (p : Plan) where
   -- an earlier link costs no more
   pub earlier-cost : (a b : ℕ) → earlier p a b ≡ true → cost p a ≤ cost p b
   unfolding earlier
-  earlier-cost a b e = keyed (cost p) ltb a b e .first
+  earlier-cost a b e = keyed (cost p) (amongEqual p) a b e .first
+
+  -- and where it costs the same, its readings have no larger sum
+  pub earlier-sum : (a b : ℕ) → earlier p a b ≡ true → cost p a ≡ cost p b → readingSum p a ≤ readingSum p b
+  unfolding earlier
+  earlier-sum a b e q = keyed (readingSum p) ltb a b (keyed (cost p) (amongEqual p) a b e .tie q) .first
 
   -- a strict order of the links without ties
   abbrev pub orderOf : Order (linksOf p)

@@ -1,14 +1,16 @@
--- What the builder writes: exactly the tree by the path rule (`written-tree`, `tree-written`); it spans, has no cycle, and no set of links that joins all
--- modules costs less (`written-spans`, `written-acyclic`, `written-least`). `centralTree p out` is the builder's contract; an answer of 0 is a plan that was taken.
-use Prim.Native.Nat.{ℕ, _≤_, _<_}
+-- What the builder writes (`tree-claim`): exactly the tree by the path rule (`written-tree`, `written-other`); it spans, has no cycle, and no set of links that
+-- joins all modules costs less (`written-spans`, `written-acyclic`, `written-least`), nor has at the same cost a smaller sum of readings (`written-least-sum`).
+-- `centralTree p out` is the builder's contract; an answer of 0 is a plan that was taken.
+use Prim.Native.Nat.{ℕ, _*_, _≤_, _<_}
 use native.Mathlib.Omega.{arith}
 use mathlib.Core.Path.{_≡_, ap, _∙_}
 use mathlib.Core.Logic.{_≢_}
 use mathlib.Core.Bool.{Bool}
 use mathlib.Core.List.{List}
 use lib.ListN.{length, getD}
-use lib.Dec.{eqb}
+use borrow.Author.Tests.{eq-eqb, eqb-true}
 use Rattle.base.specs.Cond.{bit}
+use Rattle.base.specs.Limits.{maxReading}
 use Rattle.base.specs.laws.Cond.{bool-cases, eqb-diff}
 use Rattle.base.specs.laws.Sum.{sum-eq}
 use Rattle.base.specs.laws.Table.{length-tabulate, getD-tabulate}
@@ -20,12 +22,14 @@ use Rattle.graph.specs.laws.Decide.{inTree-tree, tree-inTree}
 use Rattle.graph.specs.laws.Span.{spans}
 use Rattle.graph.specs.laws.Cycle.{spare}
 use Rattle.graph.specs.Least.{totalCost, Spanning}
-use Rattle.graph.specs.laws.Least.{tree-least, tree-least-all}
-use Rattle.plan.specs.Links.{graphOf, Plan, modulesOf, linksOf, lowerOf, higherOf}
-use Rattle.plan.specs.Weights.{cost, earlier}
-use Rattle.plan.specs.laws.Weights.{earlier-cost, orderOf}
-use Rattle.plan.specs.laws.Accepted.{accepted}
+use Rattle.graph.specs.laws.Least.{tree-least, spanning-all}
+use Rattle.graph.specs.laws.Second.{tree-least-second}
+use Rattle.plan.specs.Links.{graphOf, Plan, linksOf, modulesOf, lowerOf, higherOf}
+use Rattle.plan.specs.Weights.{cost, readingSum, earlier}
+use Rattle.plan.specs.laws.Weights.{earlier-cost, earlier-sum, orderOf}
+use Rattle.plan.specs.laws.Accepted.{Accepted, accepted}
 use Rattle.plan_tree.specs.Tree.{treeLink, treeBytes, treeRefusal, centralTree}
+use Rattle.plan_tree.specs.Claim.{chosenBy, totalOf, JoinsAll, TreeClaim}
 use Rattle.plan_tree.specs.laws.Tree.{answered, answered-bytes}
 
 module _ (p : Plan) (out : List ℕ) (taken : centralTree p out .refusal ≡ 0) where
@@ -34,7 +38,10 @@ module _ (p : Plan) (out : List ℕ) (taken : centralTree p out .refusal ≡ 0) 
   byte k = getD (centralTree p out .state) k 0
 
   abbrev pub chosen : ℕ → Bool
-  chosen k = eqb (byte k) 1
+  chosen = chosenBy (centralTree p out .state)
+
+  plan-ok : Accepted p
+  plan-ok = accepted p (answered p out taken .0)
 
   -- L bytes
   pub written-length : length (centralTree p out .state) ≡ linksOf p
@@ -58,33 +65,59 @@ module _ (p : Plan) (out : List ℕ) (taken : centralTree p out .refusal ≡ 0) 
   pub written-other : (k : ℕ) → k < linksOf p → ¬ InTree (graphOf p) (earlier p) k → byte k ≡ 0
   written-other k l n = written-byte k l ∙ bool-cases (treeLink p k) (λ t. absurd (n (inTree-tree (graphOf p) (earlier p) k t))) (λ f. rw f)
 
-  -- SPANNING: the marked links join whatever links join; so, the plan being connected, all modules
-  pub written-joins : {S : ℕ → Type 0} {u v : ℕ} → Way (graphOf p) S u v → Way (graphOf p) (λ k. byte k ≡ 1) u v
-  written-joins w = wider written-tree (spans (graphOf p) (orderOf p) w)
+  chosen-tree : (k : ℕ) → k < linksOf p → Set chosen k → InTree (graphOf p) (earlier p) k
+  chosen-tree k l e = tree-written k l (eqb-true (byte k) 1 e)
 
-  pub written-spans : (u v : ℕ) → u < modulesOf p → v < modulesOf p → Way (graphOf p) (λ k. byte k ≡ 1) u v
-  written-spans u v lu lv = written-joins (accepted p (answered p out taken .0) .whole u v lu lv)
+  -- SPANNING: the marked links join whatever links join; so, the plan being connected, all modules
+  pub written-joins : {S : ℕ → Type 0} {u v : ℕ} → Way (graphOf p) S u v → Way (graphOf p) (Set chosen) u v
+  written-joins w = wider (λ k l t. eq-eqb (byte k) 1 (written-tree k l t)) (spans (graphOf p) (orderOf p) w)
+
+  pub written-spans : JoinsAll p chosen
+  written-spans u v lu lv = written-joins (plan-ok .whole u v lu lv)
 
   -- NO CYCLE: without one of them the others do not join its ends
-  pub written-acyclic : (k : ℕ) → k < linksOf p → byte k ≡ 1 → ¬ Way (graphOf p) (But (λ j. byte j ≡ 1) k) (lowerOf p k) (higherOf p k)
-  written-acyclic k l e w = spare (graphOf p) (orderOf p) k l (tree-written k l e) (wider (λ j lj m. (tree-written j lj (m .0), m .1)) w)
+  pub written-acyclic : (k : ℕ) → k < linksOf p → Set chosen k → ¬ Way (graphOf p) (But (Set chosen) k) (lowerOf p k) (higherOf p k)
+  written-acyclic k l e w = spare (graphOf p) (orderOf p) k l (chosen-tree k l e) (wider (λ j lj m. (chosen-tree j lj (m .0), m .1)) w)
 
   -- LEAST TOTAL COST
-  written-total : totalCost (graphOf p) (cost p) chosen ≡ totalCost (graphOf p) (cost p) (treeLink p)
+  written-total : (c : ℕ → ℕ) → totalOf p c chosen ≡ totalOf p c (treeLink p)
   unfolding totalCost
-  written-total = sum-eq (linksOf p) _ _ (λ k l. rw (written-marked k l))
+  written-total c = sum-eq (linksOf p) _ _ (λ k l. rw (written-marked k l))
 
   -- among the sets that join what the links join
-  pub written-least-parts : (s : ℕ → Bool) → Spanning (graphOf p) s → totalCost (graphOf p) (cost p) chosen ≤ totalCost (graphOf p) (cost p) s
-  written-least-parts s sp = rw written-total (tree-least (graphOf p) (orderOf p) (cost p) (earlier-cost p) s sp)
+  pub written-least-parts : (s : ℕ → Bool) → Spanning (graphOf p) s → totalOf p (cost p) chosen ≤ totalOf p (cost p) s
+  written-least-parts s sp = rw (written-total (cost p)) (tree-least (graphOf p) (orderOf p) (cost p) (earlier-cost p) s sp)
 
-  -- "no set of links joining all modules has a smaller total cost"
-  pub written-least : (s : ℕ → Bool) → ((u v : ℕ) → u < modulesOf p → v < modulesOf p → Way (graphOf p) (Set s) u v)
-      → totalCost (graphOf p) (cost p) chosen ≤ totalCost (graphOf p) (cost p) s
-  written-least s all =
-      let a = accepted p (answered p out taken .0) in
-      rw written-total (tree-least-all (graphOf p) (orderOf p) (cost p) (earlier-cost p) (modulesOf p)
-      (λ k l. let o = a.each k l in (omega (arith, o.ordered, o.inside), o.inside)) s all)
+  -- and of those that cost no more, none has a smaller sum of readings
+  pub written-least-sum-parts : (s : ℕ → Bool) → Spanning (graphOf p) s → totalOf p (cost p) s ≤ totalOf p (cost p) chosen
+      → totalOf p (readingSum p) chosen ≤ totalOf p (readingSum p) s
+  written-least-sum-parts s sp l =
+      rw (written-total (readingSum p))
+      (tree-least-second (graphOf p) (orderOf p) (2 * maxReading) (cost p) (readingSum p) (earlier-cost p) (earlier-sum p)
+      (λ k b. let o = plan-ok .each k b in omega (arith, o.nearOk, o.farOk)) s sp (rw (written-total (cost p)) at l))
+
+  -- a set that joins all modules is among them
+  joining-spans : (s : ℕ → Bool) → JoinsAll p s → Spanning (graphOf p) s
+  joining-spans = spanning-all (graphOf p) (modulesOf p) (λ k l. let o = plan-ok .each k l in (omega (arith, o.ordered, o.inside), o.inside))
+
+  pub written-least : (s : ℕ → Bool) → JoinsAll p s → totalOf p (cost p) chosen ≤ totalOf p (cost p) s
+  written-least s all = written-least-parts s (joining-spans s all)
+
+  pub written-least-sum : (s : ℕ → Bool) → JoinsAll p s → totalOf p (cost p) s ≡ totalOf p (cost p) chosen
+      → totalOf p (readingSum p) chosen ≤ totalOf p (readingSum p) s
+  written-least-sum s all e = written-least-sum-parts s (joining-spans s all) (omega (arith, e))
+
+-- THE CLAIM
+pub tree-claim : TreeClaim
+tree-claim p out taken = record {
+  size = written-length p out taken;
+  tree = written-tree p out taken;
+  others = written-other p out taken;
+  spanning = written-spans p out taken;
+  acyclic = written-acyclic p out taken;
+  least = written-least p out taken;
+  leastSum = written-least-sum p out taken;
+}
 
 -- a refused call alters no byte
 pub refused-keeps : (p : Plan) (out : List ℕ) → centralTree p out .refusal ≢ 0 → centralTree p out .state ≡ out

@@ -15,6 +15,7 @@ use Rattle.format_message.specs.Listed as message2
 use Rattle.plan.specs.Refusal as plan1
 use Rattle.plan.specs.Weights as plan2
 use Rattle.plan.specs.Links.{Plan}
+use Rattle.plan.specs.laws.Samples.{worseReading}
 use Rattle.node.specs.Rules as node1
 use Rattle.node.specs.Work as node2
 use Rattle.field.specs.Edges as field0
@@ -30,10 +31,7 @@ use Rattle.preview.specs.Preview.{wouldSend, preview}
 use Rattle.preview.specs.Claim as claim1
 use Rattle.preview.specs.Claim.{remaining, goesLast}
 
--- links 0-1, 0-2 and 1-2 in the order 0, 2, 1: M is 21. A star of links 0-1, 0-2 and 0-3: M is 46.
-abbrev triangle : Plan
-triangle = 3 ∷ 3 ∷ 0 ∷ 1 ∷ 1 ∷ 1 ∷ 0 ∷ 2 ∷ 0 ∷ 5 ∷ 1 ∷ 2 ∷ 4 ∷ 0 ∷ []
-
+-- Beside a triangle of links in the order 0, 2, 1, whose M is 21: a star of links 0-1, 0-2 and 0-3, whose M is 46.
 abbrev star : Plan
 star = 4 ∷ 3 ∷ 0 ∷ 1 ∷ 1 ∷ 1 ∷ 0 ∷ 2 ∷ 2 ∷ 2 ∷ 0 ∷ 3 ∷ 3 ∷ 3 ∷ []
 
@@ -57,26 +55,26 @@ decided = 2 ∷ 1 ∷ 0 ∷ 1 ∷ 1 ∷ 65535 ∷ 0 ∷ 0 ∷ 0 ∷ []
 
 -- nobody woken, so many sent; nobody woken on one module, without a link
 abbrev quiet : ℕ → Held
-quiet sent = held triangle (asleep ++ asleep ++ asleep) (0 ∷ 0 ∷ 0 ∷ 0 ∷ 0 ∷ 0 ∷ []) sent []
+quiet sent = held worseReading (asleep ++ asleep ++ asleep) (0 ∷ 0 ∷ 0 ∷ 0 ∷ 0 ∷ 0 ∷ []) sent []
 
 abbrev alone : Held
 alone = record { field = record { plan = 1 ∷ 0 ∷ []; cells = asleep; marks = []; sent = 0 }; words = [] }
 
 -- 0 and 1 were woken, their Connects (30000FFFF01, 30001FFFF01) are handed over
 abbrev joining : Held
-joining = held triangle (woken ++ woken ++ asleep) (1 ∷ 1 ∷ 0 ∷ 0 ∷ 0 ∷ 0 ∷ []) 2 (3298551660289 ∷ 3298568437505 ∷ [])
+joining = held worseReading (woken ++ woken ++ asleep) (1 ∷ 1 ∷ 0 ∷ 0 ∷ 0 ∷ 0 ∷ []) 2 (3298551660289 ∷ 3298568437505 ∷ [])
 
 -- 0 and 1 search, their Tests wait: 2000400000B, and 3000200000B handed over to 2, which sleeps or is awake
 abbrev testing : List ℕ → Held
-testing two = held triangle (searching 1 0 ++ searching 2 0 ++ two) (1 ∷ 1 ∷ 0 ∷ 0 ∷ 0 ∷ 0 ∷ []) 6 (2199090364427 ∷ 3298568437771 ∷ [])
+testing two = held worseReading (searching 1 0 ++ searching 2 0 ++ two) (1 ∷ 1 ∷ 0 ∷ 0 ∷ 0 ∷ 0 ∷ []) 6 (2199090364427 ∷ 3298568437771 ∷ [])
 
 -- no word waits; 0, and a record behind the last module, have a best edge
 abbrev still : Held
-still = held triangle (decided ++ woken ++ woken ++ decided) (1 ∷ 1 ∷ 0 ∷ 0 ∷ 0 ∷ 0 ∷ []) 6 []
+still = held worseReading (decided ++ woken ++ woken ++ decided) (1 ∷ 1 ∷ 0 ∷ 0 ∷ 0 ∷ 0 ∷ []) 6 []
 
 -- 0 has as many reports to come as links, and 2's Connect over link 1 is to be served: 30003FFFF01
 abbrev full : Held
-full = held triangle (searching 65535 2 ++ woken ++ woken) (1 ∷ 1 ∷ 0 ∷ 1 ∷ 0 ∷ 0 ∷ []) 6 (3298601991937 ∷ [])
+full = held worseReading (searching 65535 2 ++ woken ++ woken) (1 ∷ 1 ∷ 0 ∷ 1 ∷ 0 ∷ 0 ∷ []) 6 (3298601991937 ∷ [])
 
 -- 0 gets Initiate(2, 1, Find) over link 0 (30001000152); its marks of links 0 and 2, and link 1 is a branch
 abbrev informed : ℕ → ℕ → Held
@@ -169,8 +167,8 @@ steps =
     ∷ []
 
 pub waiting-samples :
-    map (λ r. waits (r .at) (r .kind) (r .number) (remaining triangle (r .kind) (r .number) (stateOf (r .at))) (wouldSend (r .kind) (r .number) (r .at))
-    (goesLast triangle (r .kind) (r .number) (stateOf (r .at))) (waitingIn (stepAlone (r .kind) (r .number) (r .at) .state .words))) steps
+    map (λ r. waits (r .at) (r .kind) (r .number) (remaining worseReading (r .kind) (r .number) (stateOf (r .at))) (wouldSend (r .kind) (r .number) (r .at))
+    (goesLast worseReading (r .kind) (r .number) (stateOf (r .at))) (waitingIn (stepAlone (r .kind) (r .number) (r .at) .state .words))) steps
     ≡ steps
 unfolding base1.upd base2.place base3.log2-to base3.log2 base4.every graph1.label graph1.joinedOver graph1.connected message1.partsOf message1.msgOf message2.bare message2.listedAs message2.listed plan1.ascends plan1.inOrder plan1.linkVerdict plan1.linksRefusal plan1.planRefusal base5.beforeBy plan2.cost plan2.earlier node1.wakeOn node1.awake node1.coreEnd node1.onConnect node1.onTest node1.respondTo node2.earliest node2.number field0.isOwn field0.endOf field0.marksIn field1.newMarks field2.carryOut field2.wake field2.hand field2.backOf field2.serve field2.step field3.allOf field3.waitingIn field3.wordFits field3.nodeFits field3.fits field4.valid field4.stepAlone calls1.sendsAt preview1.wouldSend claim1.remaining claim1.goesLast
 waiting-samples = refl

@@ -1,4 +1,4 @@
--- Document 01's sample of the reporting program, computed.
+-- Document 01's sample of the reporting program, its cost by request 03, computed.
 use Prim.Native.Nat.{ℕ, _≤_}
 use native.Mathlib.Omega.{arith}
 use mathlib.Core.Path.{_≡_, refl, sym, ap, _∙_}
@@ -49,9 +49,9 @@ use Rattle.text_report.specs.Text as report2
 abbrev pub given : List ℕ
 given = 0x01 ∷ 0x00 ∷ 0x0c ∷ 0x00 ∷ 0x02 ∷ 0x00 ∷ 0x01 ∷ 0x00 ∷ 0x00 ∷ 0x00 ∷ 0x01 ∷ 0x00 ∷ 0x03 ∷ 0x00 ∷ 0x04 ∷ []
 
--- "it prints exactly"
+-- "it prints exactly", with request 03's: "The sample plan prints "branch 0 1 4" and "total 4""
 abbrev pub printed : List ℕ
-printed = ascii "modules 2\nlinks 1\nbranch 0 1 7\ntotal 7\ncore 0 1\nmessages 6 of 12\nrounds 4\n"
+printed = ascii "modules 2\nlinks 1\nbranch 0 1 4\ntotal 4\ncore 0 1\nmessages 6 of 12\nrounds 4\n"
 
 -- what comes to rest within k rounds does the same with a higher limit
 stays : (h : Held) (k n : ℕ) (y : State) → k ≤ n → roundsRun (h .field .plan) k (stateOf h) ≡ went k y → atRest y ≡ true → runRounds n h ≡ runRounds k h
