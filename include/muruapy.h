@@ -197,7 +197,7 @@ uint32_t muruapy_plan_value_check(const muruapy_plan *plan);
  * Answers 0, or 14 to 19, or 22. */
 uint32_t muruapy_plan_write(const muruapy_plan *plan, uint8_t *bytes, size_t room);
 
-/* The cost of a link, by which the tree is chosen.
+/* The cost of a link, by which the tree is chosen first.
  *
  * plan  any numbers, only read; it is not checked
  * link  the link's number, any number

@@ -33,8 +33,11 @@ impl Tally {
     }
 }
 
-/// Ways to get the order of links wrong, by their keys. Last: of how many plans each must change the tree, at the least.
+/// What links are compared by.
 type Keys = fn(&Plan, u16) -> [u32; 3];
+
+/// Ways to get the order of links wrong. Last: of how many plans of up to 4 modules, and of more, each must change the tree, at
+/// the least.
 const WRONG_ORDERS: [(&str, Keys, [usize; 2]); 4] = [
     ("the sum left out, or behind the number", |p, k| [p.cost(k), k as u32, p.sum(k)], [4000, 300]),
     ("the smaller reading", |p, k| [p.sum(k) - p.cost(k), p.sum(k), k as u32], [4000, 300]),

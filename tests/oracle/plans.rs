@@ -11,7 +11,7 @@ pub enum Readings {
     Wide,
     Few,
     Same,
-    /// The same larger reading, at either end, and different smaller ones: the sums decide.
+    /// The same larger reading, at either end, and drawn smaller ones: the sums decide, where they differ.
     SameCost,
     /// Different readings of the same sum.
     SameSum,

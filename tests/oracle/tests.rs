@@ -62,7 +62,7 @@ fn refused_plans() {
 }
 
 #[test]
-fn triangle_of_equal_readings() {
+fn triangle_of_links_alike() {
     let plan = Plan { modules: 3, links: links(&[(0, 1, 2, 3), (0, 2, 2, 3), (1, 2, 2, 3)]) };
     assert_eq!(kruskal::tree(&plan), [1, 1, 0]);
 }

@@ -1,6 +1,6 @@
 -- Graphs: ways over edges, the tree by the path rule, labels of parts. Main results: the cut property (`cut`), the tree spans and its total is least
--- (`tree-spanning`, `tree-least`; by a second cost too, `tree-least-second`), none of its edges can be spared (`needed`), ways and tree are decided (`way?`,
--- `inTree?`, `connected?`); where there is a way there is a path (`path-of`), just one where no edge can be spared (`paths-same`).
+-- (`tree-spanning`, `tree-least`), at that total a second one too (`tree-least-second`), none of its edges can be spared (`needed`), ways and tree are decided
+-- (`way?`, `inTree?`, `connected?`); where there is a way there is a path (`path-of`), just one where no edge can be spared (`paths-same`).
 pub mod Graph
 pub mod Order
 pub mod Labels
