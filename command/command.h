@@ -150,7 +150,8 @@ uint32_t record_step(struct record *record, uint8_t kind, uint16_t number);
 uint32_t to_rest_by_rounds(struct record *record, unsigned *rounds);
 uint32_t to_rest_by_chance(struct record *record, uint64_t seed);
 
-/* Writes the schedules FILE, FILE.2 and so on, as put_files does. Says so where an older one follows them. */
+/* Writes the schedules FILE, FILE.2 and so on, one at least, as put_files does. Says so where an older one follows
+ * them. */
 int put_schedules(const struct record *record, const char *file, const char *input);
 
 /* ---- words.c: messages, steps and fields in words ---- */

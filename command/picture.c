@@ -40,7 +40,7 @@ static void print_caption(const muruapy_field *field)
     for (uint16_t v = 0; v < field->plan.modules; v++)
         if (core_end(field, v))
             printf(" %u", v);
-    if (field->plan.modules == 1)
+    if (field->plan.modules < 2)
         fputs(" none", stdout);
 }
 

@@ -86,14 +86,17 @@ static size_t schedule_bytes(const struct record *r, size_t schedule, uint8_t *b
     bytes[0] = 1;
     bytes[1] = (uint8_t)(length >> 8);
     bytes[2] = (uint8_t)length;
-    memcpy(bytes + 3, r->bytes + 3 * from, length);
+    /* without steps there is nothing to copy from */
+    if (length > 0)
+        memcpy(bytes + 3, r->bytes + 3 * from, length);
     return 3 + length;
 }
 
 int put_schedules(const struct record *r, const char *file, const char *input)
 {
     enum { BYTES = 3 + 3 * MURUAPY_STEPS };
-    size_t count = (r->steps + MURUAPY_STEPS - 1) / MURUAPY_STEPS, room = strlen(file) + 24;
+    /* no steps are a schedule too */
+    size_t count = r->steps > 0 ? (r->steps - 1) / MURUAPY_STEPS + 1 : 1, room = strlen(file) + 24;
     struct output *files = calloc(count, sizeof *files);
     uint8_t *bytes = malloc(count * BYTES);
     char *names = malloc((count + 1) * room);

@@ -4,31 +4,31 @@
 #include <stdlib.h>
 #include <string.h>
 
-/* The modules to wake: those that are named, module 0 where none is. */
+/* The modules to wake: those that are named; where none is, module 0, or nobody in the blank plan. */
 struct wakes {
     char **names;
     int count;
 };
 
-static struct wakes wakes_of(const struct call *call)
+static struct wakes wakes_of(const struct call *call, const muruapy_plan *plan)
 {
     static char zero[] = "0", *first[] = {zero};
     if (call->count == 1)
-        return (struct wakes){first, 1};
+        return (struct wakes){first, plan->modules > 0};
     return (struct wakes){call->names + 1, call->count - 1};
 }
 
 /* Looks at the arguments before anything is read. */
-static int look_at(const struct call *call, struct wakes wakes, uint64_t *seed)
+static int look_at(const struct call *call, uint64_t *seed)
 {
     uint64_t module;
     if (!call->output || strcmp(call->output, "-") == 0)
         return stop(MISUSED, "rehearse: -o with the schedule's file is missing");
     if (call->seed && (!read_number(call->seed, INT64_MAX, seed) || *seed > INT64_MAX))
         return stop(MISUSED, "rehearse: the seed is a number up to %lld, not %s", (long long)INT64_MAX, call->seed);
-    for (int i = 0; i < wakes.count; i++)
-        if (!read_number(wakes.names[i], UINT16_MAX, &module))
-            return stop(MISUSED, "rehearse: %s is no module's number", wakes.names[i]);
+    for (int i = 1; i < call->count; i++)
+        if (!read_number(call->names[i], UINT16_MAX, &module))
+            return stop(MISUSED, "rehearse: %s is no module's number", call->names[i]);
     return DONE;
 }
 
@@ -58,7 +58,7 @@ static bool same_as_rounds(struct held *woken, const struct held *now, unsigned 
            memcmp(woken->words, now->words, sizeof now->words) == 0;
 }
 
-/* Takes the woken field to rest and makes sure that it came to the tree. None of these failures can come. */
+/* Takes the field to rest, after the wakes, and makes sure that it came to the tree. None of these failures can come. */
 static int to_rest(struct record *r, const char *seed, uint64_t value, unsigned *rounds)
 {
     static struct held woken;
@@ -92,15 +92,14 @@ int rehearse(const struct call *call)
 {
     static muruapy_plan plan;
     static struct record r;
-    struct wakes wakes = wakes_of(call);
     uint64_t seed = 0;
     unsigned rounds = 0;
-    int status = look_at(call, wakes, &seed);
+    int status = look_at(call, &seed);
     if (status == DONE)
         status = take_plan(call->names[0], &plan);
     if (status == DONE) {
         set_up(&plan, &r.held);
-        status = wake(&r, wakes);
+        status = wake(&r, wakes_of(call, &plan));
     }
     if (status == DONE)
         status = to_rest(&r, call->seed, seed, &rounds);

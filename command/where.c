@@ -62,6 +62,8 @@ static struct place link_words(uint32_t refusal, const muruapy_plan *plan, uint1
         return words(k, "link %u (%u-%u), reading %u at module %u", k, a, b, link->far, b);
     if (a >= b)
         return words(k, "link %u (%u-%u), %u is not below %u", k, a, b, a, b);
+    if (plan->modules == 0)
+        return words(k, "link %u (%u-%u), there is no module", k, a, b);
     return words(k, "link %u (%u-%u), the last module is %u", k, a, b, plan->modules - 1u);
 }
 

@@ -2,8 +2,9 @@
  *
  *     cue PLAN MODULE CUE
  *
- * MODULE and CUE are numbers of 0 to 65535. Exit 0 done, 1 refused, 2 wrong usage or a failed read or write. To build, at
- * the top of the repository after tools/build:
+ * MODULE and CUE are numbers of 0 to 65535; where there is no such module, as in the blank plan, 72 refuses.
+ * Exit 0 done, 1 refused, 2 wrong usage or a failed read or write. To build, at the top of the repository after
+ * tools/build:
  *
  *     cc -std=c99 -Iinclude examples/cue.c target/lib/libmuruapy.a -o cue */
 #include "muruapy.h"
@@ -99,7 +100,7 @@ int main(int argc, char **argv)
         return 2;
     }
     status = read_plan(argv[1]);
-    /* The whole job: then the marks are those of the tree, and a cue can be sent. */
+    /* The whole job: then the marks are those of the tree, and each module can send a cue. */
     if (status == 0)
         status = status_of(muruapy_job(&plan, &field, words, MURUAPY_WORDS, &rounds));
     if (status == 0)

@@ -3,8 +3,8 @@
  *
  *     preview PLAN MODULE
  *
- * MODULE is a number of 0 to 65535. Exit 0 done, 1 refused, 2 wrong usage or a failed read or write. To build, at the top
- * of the repository after tools/build:
+ * MODULE is a number of 0 to 65535; where there is no such module, as in the blank plan, 41 refuses. Exit 0 done,
+ * 1 refused, 2 wrong usage or a failed read or write. To build, at the top of the repository after tools/build:
  *
  *     cc -std=c99 -Iinclude examples/preview.c target/lib/libmuruapy.a -o preview */
 #include "muruapy.h"

@@ -6,6 +6,10 @@
  * and sends cues down the tree that the field comes to. Formats, numbers and the rules of a module are told in
  * docs/FORMATS.md, installed as share/doc/muruapy/FORMATS.md.
  *
+ * A plan may have no module and no link: the blank plan, a show before modules are placed. It is taken as any other is;
+ * only, nobody is there to be woken or to send a cue. Memory that is all zeros is the blank plan, or a field of it, so a
+ * plan or a field that was cleared and never filled in is taken too.
+ *
  * Linking. `cc -Iinclude program.c libmuruapy.a`, or `pkg-config --cflags --libs muruapy` once installed. The archive
  * needs memcpy, memmove and memset and nothing else. It is for x86-64 with the System V calling convention (Linux).
  *
@@ -35,10 +39,11 @@
 #include <stddef.h>
 #include <stdint.h>
 
-/* The major number rises when the same plan may come to another tree: 2 orders links by the larger reading. */
+/* The major number rises when the same plan may come to another tree: 2 orders links by the larger reading. The minor
+ * number rises when there is more to call, or when something is taken that was refused: 2.1 takes the blank plan. */
 #define MURUAPY_VERSION_MAJOR 2
-#define MURUAPY_VERSION_MINOR 0
-#define MURUAPY_VERSION "2.0"
+#define MURUAPY_VERSION_MINOR 1
+#define MURUAPY_VERSION "2.1"
 
 #ifdef __cplusplus
 extern "C" {
@@ -68,7 +73,7 @@ enum muruapy_refusal {
     MURUAPY_PLAN_SHORT = 11,   /* fewer than 3 bytes */
     MURUAPY_PLAN_VERSION = 12, /* the version byte */
     MURUAPY_PLAN_LENGTH = 13,  /* the length */
-    MURUAPY_PLAN_MODULES = 14, /* the number of modules */
+    MURUAPY_PLAN_MODULES = 14, /* too many modules */
     MURUAPY_PLAN_LINKS = 15,   /* the number of links */
     MURUAPY_LINK_ENDS = 16,    /* the two modules of a link */
     MURUAPY_LINK_ORDER = 17,   /* the order of the links */
@@ -115,7 +120,7 @@ static inline const char *muruapy_refusal_text(uint32_t number)
     case MURUAPY_PLAN_SHORT: return "the plan has fewer than 3 bytes";
     case MURUAPY_PLAN_VERSION: return "the plan's version byte is not 1";
     case MURUAPY_PLAN_LENGTH: return "the plan's length is not that of the bytes behind it, or is below 4";
-    case MURUAPY_PLAN_MODULES: return "the plan has no module, or more than 192";
+    case MURUAPY_PLAN_MODULES: return "the plan has more than 192 modules";
     case MURUAPY_PLAN_LINKS: return "the plan has more than 600 links, or as many as do not fit its length";
     case MURUAPY_LINK_ENDS: return "a link's lower module is not below its higher one, or the higher one is no module";
     case MURUAPY_LINK_ORDER: return "a link does not come after the link before it";
@@ -158,9 +163,9 @@ typedef struct muruapy_link {
     uint16_t far;    /* reading at the higher module */
 } muruapy_link;
 
-/* A plan: the numbers of its file, in the file's order. */
+/* A plan: the numbers of its file, in the file's order. All zeros is the blank plan. */
 typedef struct muruapy_plan {
-    uint16_t modules; /* how many modules, 1 to 192 */
+    uint16_t modules; /* how many modules, 0 to 192 */
     uint16_t links;   /* how many links, 0 to 600 */
     muruapy_link link[MURUAPY_LINKS]; /* the first `links` count, in rising order of (lower, higher), no pair twice */
 } muruapy_plan;
@@ -212,15 +217,15 @@ uint32_t muruapy_link_cost(const muruapy_plan *plan, uint16_t link);
  * modules  how many modules there are, any number
  * links    how many links, any number
  *
- * Answers 5 * modules * log + 2 * links, where log is the whole part of the binary logarithm of modules (0 for 0).
- * Refuses nothing. */
+ * Answers 5 * modules * log + 2 * links, where log is the whole part of the binary logarithm of modules (0 for 0). So
+ * the blank plan's is 0, and its field needs no word. Refuses nothing. */
 uint32_t muruapy_ceiling(uint16_t modules, uint16_t links);
 
 /* The minimum spanning tree of a plan, worked out centrally.
  *
  * plan  any numbers, only read
  * tree  gets 1 for a link of the tree and 0 for another, by link number
- * room  how many bytes there are: just as many as links
+ * room  how many bytes there are: just as many as links, 0 for the blank plan
  *
  * Answers 0, or 14 to 19, or 20. */
 uint32_t muruapy_tree(const muruapy_plan *plan, uint8_t *tree, size_t room);
@@ -308,7 +313,8 @@ typedef struct muruapy_module {
 } muruapy_module;
 
 /* A field. The messages that wait lie in words of the caller's, at least as many as the ceiling, beside the field: from
- * the front and without gaps, 0 behind the last. */
+ * the front and without gaps, 0 behind the last. All zeros, with words that are all 0 or with none, is a field of the
+ * blank plan: it is at rest, and nobody can be woken. */
 typedef struct muruapy_field {
     muruapy_plan plan;                       /* its plan */
     muruapy_module modules[MURUAPY_MODULES]; /* by number; the first plan.modules count */
@@ -403,7 +409,7 @@ muruapy_delivery muruapy_cue_deliver_value(muruapy_field field, const uint64_t *
  * plan   any numbers, only read; not the plan within `field`
  * field  gets the field, the plan too
  * words  all become 0
- * room   how many words there are: the ceiling or more
+ * room   how many words there are: the ceiling or more; for the blank plan any number
  *
  * Answers 0, or 14 to 19, or 21. */
 static inline uint32_t muruapy_setup(const muruapy_plan *plan, muruapy_field *field, uint64_t *words, size_t room)
@@ -418,7 +424,8 @@ static inline uint32_t muruapy_setup(const muruapy_plan *plan, muruapy_field *fi
  * room   how many words there are, any number
  *
  * Answers 0, or 31: then muruapy_step, muruapy_run and muruapy_rounds on this field are refused by 31, and so are
- * muruapy_preview, muruapy_cue_start and muruapy_cue_deliver. */
+ * muruapy_preview, muruapy_cue_start and muruapy_cue_deliver. Of a field without modules the number of links, the sent
+ * count and all words must be 0, and nothing else is looked at. */
 static inline uint32_t muruapy_field_check(const muruapy_field *field, const uint64_t *words, size_t room)
 {
     return muruapy_field_check_parts(&field->plan, field->modules, field->marks, field->sent, words, room);
@@ -491,11 +498,11 @@ static inline uint32_t muruapy_rounds(muruapy_field *field, uint64_t *words, siz
     return muruapy_rounds_parts(&field->plan, field->modules, field->marks, &field->sent, words, room, limit, rounds);
 }
 
-/* The whole job: sets up the field of a plan, wakes module 0, runs rounds to rest. Then every module marks exactly the
- * links that muruapy_tree writes.
+/* The whole job: sets up the field of a plan, wakes module 0 if there is one, runs rounds to rest. Then every module
+ * marks exactly the links that muruapy_tree writes.
  *
  * plan, field, words, room  as for muruapy_setup; field and words get what the last round leaves
- * rounds                    gets the number of rounds; 0 where the call is refused
+ * rounds                    gets the number of rounds; 0 for the blank plan, and where the call is refused
  *
  * Answers 0, or 14 to 19, or 21. */
 static inline uint32_t muruapy_job(const muruapy_plan *plan, muruapy_field *field, uint64_t *words, size_t room,
@@ -530,7 +537,7 @@ static inline size_t muruapy_report(const muruapy_field *field, uint16_t rounds,
  * sender  the number of the module that the cue starts from, any number
  * cue     the cue, any number
  *
- * Answers 0, or 31, 71, 72 or 73 (too few records). */
+ * Answers 0, or 31, 71, 72 or 73 (too few records); for the blank plan 72, since no module can send. */
 static inline uint32_t muruapy_cue_start(const muruapy_field *field, const uint64_t *words, size_t room,
                                          muruapy_cue *cues, size_t count, uint16_t sender, uint16_t cue)
 {
@@ -549,7 +556,7 @@ static inline uint32_t muruapy_cue_start(const muruapy_field *field, const uint6
  * link                the directed link, any number: 2 * k from link k's lower module to the higher one, 2 * k + 1 back
  *
  * Answers with refusal 0, and heard 1 if a module heard, 0 if no copy waited there (then all records keep); or with
- * refusal 31, 71, 73 or 42, and heard 0. */
+ * refusal 31, 71, 73 or 42, and heard 0; for the blank plan 73, since no cue can be under way. */
 static inline muruapy_delivery muruapy_cue_deliver(const muruapy_field *field, const uint64_t *words, size_t room,
                                                    muruapy_cue *cues, size_t count, uint16_t link)
 {

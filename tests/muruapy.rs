@@ -205,6 +205,14 @@ pub struct Record {
 }
 
 impl Record {
+    /// Memory that nobody wrote to.
+    pub const ZEROS: Record = Record {
+        plan: [0; 2 + 4 * MOST_LINKS],
+        cells: [0; MOST_MODULES as usize * WIDTH],
+        marks: [0; 2 * MOST_LINKS],
+        sent: 0,
+    };
+
     /// Anything.
     pub fn any(rng: &mut Rng) -> Record {
         Record {

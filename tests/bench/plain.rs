@@ -42,7 +42,7 @@ pub fn check(bytes: &[u8]) -> u32 {
         return 13;
     }
     let (n, l) = (be16(bytes, 3), be16(bytes, 5) as usize);
-    if n == 0 || n > 192 {
+    if n > 192 {
         return 14;
     }
     if l > 600 || length != 4 + 8 * l {
@@ -80,7 +80,7 @@ fn links_check(n: u16, links: impl Iterator<Item = [u16; 4]>) -> u32 {
 
 /// The plan of a record: 14 to 19, or 0.
 pub fn check_plan(r: &Record) -> u32 {
-    if r.modules() == 0 || r.modules() > 192 {
+    if r.modules() > 192 {
         return 14;
     }
     if r.links() > 600 {

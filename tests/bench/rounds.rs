@@ -99,8 +99,9 @@ impl Record {
         a != NONE && (b == NONE || self.key(a) < self.key(b))
     }
 
+    /// The floor of log2 N; 0 where there is nobody.
     fn top_level(&self) -> u16 {
-        self.modules().ilog2() as u16
+        self.modules().checked_ilog2().unwrap_or(0) as u16
     }
 
     fn ceiling(&self) -> u32 {

@@ -2,18 +2,21 @@
 
 use crate::tool::Tool;
 use oracle::cue::{deliver, finished_tree, start, waits, Cue};
-use oracle::field::{setup_value, WAKE};
 use oracle::plan::{Plan, NONE};
-use oracle::rounds;
+use oracle::report::job;
 
-/// What it prints of a cue from a module, on a good plan.
+/// What it prints of a cue from a module, on a good plan; on a blank one nobody can send.
 pub fn told(tool: &Tool, plan: &Plan, sender: u16) {
     let mut words = vec![0; plan.ceiling() as usize];
-    let mut field = setup_value(plan.clone(), &mut words).expect("a good plan");
-    field.step(&mut words, WAKE, 0).expect("a sleeper");
-    rounds::run(&mut field, &mut words, 65535);
+    let (field, _) = job(plan.clone(), &mut words).expect("a good plan");
     let mut cues = vec![Cue::UNHEARD; plan.modules as usize];
-    start(&field, &words, &mut cues, sender, 0).expect("a finished field");
+    if let Err(refusal) = start(&field, &words, &mut cues, sender, 0) {
+        assert_eq!((refusal, plan.modules), (72, 0), "a finished field");
+        let ran = tool.run(&["cue", "-", &sender.to_string()], &plan.encode());
+        assert_eq!((ran.code, ran.out.len()), (1, 0), "a cue from nobody");
+        assert!(ran.err.starts_with(&format!("muruapy: cue from {sender}: 72: ")), "{}", ran.err);
+        return;
+    }
     let tree = finished_tree(&field, &words).expect("a finished field");
     while let Some(directed) = (0..2 * plan.links.len() as u16).find(|d| waits(&field, &tree, &cues, *d)) {
         deliver(&field, &words, &mut cues, directed).expect("a copy");

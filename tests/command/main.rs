@@ -5,6 +5,7 @@
 //! COMMAND is the command, CHECKED the same built with sanitizers, which gets some of the damaged inputs, REPORT the proved
 //! reporting program, WORK a folder for files, COUNT how many plans are drawn.
 
+mod blank;
 mod cues;
 mod pictures;
 mod places;
@@ -27,9 +28,9 @@ struct Tools {
 }
 
 impl Tools {
-    /// For the damaged inputs; the checked one takes longer to start, so it gets every fourth.
+    /// For the damaged inputs; the checked one takes longer to start, so it gets every third: of each kind of plan some.
     fn any(&self, i: usize) -> &Tool {
-        if i % 4 == 0 {
+        if i % 3 == 0 {
             &self.checked
         } else {
             &self.plain
@@ -68,9 +69,9 @@ fn plans(tools: &Tools, rng: &mut Rng, count: usize) -> String {
     }
     for i in 0..count {
         let plan = plans::good(rng, KINDS[i % KINDS.len()]);
-        good(tools, &plan, i % 4 == 0);
-        if i % 4 == 0 {
-            cues::told(tools.any(i / 4), &plan, rng.below(plan.modules as usize) as u16);
+        good(tools, &plan, i % 3 == 0);
+        if i % 3 == 0 {
+            cues::told(tools.any(i / 3), &plan, rng.below(plan.modules.max(1) as usize) as u16);
         }
     }
     format!("{} plans", taken + count)
@@ -240,6 +241,7 @@ fn main() {
         shown(&tools, &mut rng, count / 5),
     ];
     unread(&tools, &mut rng);
+    let blank = blank::all(&tools.plain) + blank::all(&tools.checked);
     let runs = tools.plain.runs.get() + tools.checked.runs.get();
-    println!("{}, {runs} runs", said.join(", "));
+    println!("{}, {runs} runs, {blank} of them on the blank plan and beside it", said.join(", "));
 }

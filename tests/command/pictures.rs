@@ -6,7 +6,7 @@ use oracle::plan::Plan;
 use oracle::report::report;
 use std::collections::{BTreeMap, BTreeSet};
 
-/// The two numbers of the report's line `core`, none for one module.
+/// The two numbers of the report's line `core`, none for fewer than two modules.
 fn core(plan: &Plan) -> Vec<u16> {
     let report = report(&plan.encode());
     let line = report.lines().find_map(|l| l.strip_prefix("core ")).expect("a core");

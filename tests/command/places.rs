@@ -38,6 +38,7 @@ fn link_place(number: u32, n: u16, links: &[Link]) -> String {
     let link = format!("link {k} ({lower}-{higher})");
     match number {
         16 if lower >= higher => format!("{link}, {lower} is not below {higher}"),
+        16 if n == 0 => format!("{link}, there is no module"),
         16 => format!("{link}, the last module is {}", n - 1),
         17 => format!("{link}, behind link {} ({}-{})", k - 1, links[k - 1].lower, links[k - 1].higher),
         _ if at_lower > 2000 => format!("{link}, reading {at_lower} at module {lower}"),

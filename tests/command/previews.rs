@@ -24,14 +24,15 @@ pub fn told(tool: &Tool, rng: &mut Rng, plan: &Plan, tally: &mut Tally) {
     for _ in 0..6 {
         let mut words = vec![0; plan.ceiling() as usize];
         let mut field = setup_value(plan.clone(), &mut words).expect("a good plan");
-        let before = &steps[..rng.below(steps.len())];
+        let before = &steps[..rng.below(steps.len().max(1))];
         for step in before {
             field.take(&mut words, step.kind, step.number).expect("only the last of all may be refused");
         }
         let (first, second) = before.split_at(rng.below(before.len() + 1));
         tool.write("first", &encode(first));
         tool.write("second", &encode(second));
-        let step = if rng.once_in(2) { some_step(rng, &field, &words) } else { steps[before.len()] };
+        let next = steps.get(before.len()).copied().filter(|_| rng.once_in(2));
+        let step = next.unwrap_or_else(|| some_step(rng, &field, &words));
         if (1..=3).contains(&step.kind) {
             compare(tool, &field, &words, step, tally);
         }

@@ -78,11 +78,11 @@ pub fn rehearsed(tool: &Tool, plan: &Plan, wakes: &[u16], seed: Option<u64>, tal
     let said = tool.text(&args, &plan.encode());
     let schedules = written(tool);
     let (last, full) = schedules.split_last().expect("a schedule");
-    assert!(full.iter().all(|s| s.len() == 21845) && !last.is_empty());
+    assert!(full.iter().all(|s| s.len() == 21845) && last.is_empty() == (plan.modules == 0));
     let told = replayed(tool, plan, &schedules, tally);
     assert!(finished(&told.field, &told.words), "not finished");
 
-    let woken: &[u16] = if wakes.is_empty() { &[0] } else { wakes };
+    let woken: &[u16] = if wakes.is_empty() && plan.modules > 0 { &[0] } else { wakes };
     let all = schedules.concat();
     let first: Vec<Step> = woken.iter().map(|v| Step { kind: WAKE, number: *v }).collect();
     assert_eq!(all[..first.len()], first, "the wakes come first");
@@ -130,7 +130,7 @@ pub fn drawn_steps(rng: &mut Rng, plan: &Plan, count: usize) -> Vec<Step> {
                 let bounds = [plan.modules, 2 * plan.links.len() as u16, 65535, 0];
                 Step { kind: rng.range(1, 3) as u8, number: rng.pick(&bounds) }
             }
-            k if k == 0 || all == 0 => Step { kind: WAKE, number: rng.below(plan.modules as usize) as u16 },
+            k if k == 0 || all == 0 => Step { kind: WAKE, number: rng.below(plan.modules.max(1) as usize) as u16 },
             _ => {
                 let word = words[rng.below(all)];
                 let directed = (word >> 24) as u16;

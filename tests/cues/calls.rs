@@ -34,7 +34,7 @@ pub fn compare_start(rng: &mut Rng, tally: &mut Tally, site: &Site, cues: &mut V
     let answer = start(&site.field, &site.words, &mut after, sender, cue).err().unwrap_or(0);
     assert!(answer == 0 || after == *cues, "a refusal changes nothing");
     same(rng, site, [&cues[..], &after], answer, |field, words, cues| field.start_cue(words, cues, sender, cue));
-    tally.count(format!("start ends with {answer}"));
+    tally.start(&site.field, answer);
     *cues = after;
     answer
 }

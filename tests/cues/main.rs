@@ -1,8 +1,9 @@
 //! Compares the compiled start and delivery of cues with the oracle: cues that go through drawn fields in drawn orders, to
 //! the end and beyond, several on the same records; records in which one item of 73 alone is broken; marks and fields that
-//! are damaged, fields on the way to their tree; calls with several faults at once. Answer and all records must be the same,
-//! words and field stay. Prints counts, or panics at the first difference.
+//! are damaged, fields on the way to their tree; calls with several faults at once; fields of the blank plan. Answer and all
+//! records must be the same, words and field stay. Prints counts, or panics at the first difference.
 
+mod blank;
 mod calls;
 #[path = "../counts.rs"]
 mod counts;
@@ -78,8 +79,10 @@ fn journey(rng: &mut Rng, tally: &mut Tally, site: &Site) {
 }
 
 fn journeys(rng: &mut Rng, tally: &mut Tally) {
+    // a blank plan has no sender, and the full ones come last
+    let kinds = plans::kinds_without(&["blank", "full"]);
     for i in 0..FINISHED {
-        let site = run_site(rng, plans::KINDS[i % (plans::KINDS.len() - 1)], 65535);
+        let site = run_site(rng, kinds[i % kinds.len()], 65535);
         journey(rng, tally, &site);
     }
     for _ in 0..JOURNEYS {
@@ -159,8 +162,10 @@ fn main() {
     damaged_marks(&mut rng, &mut tally);
     spoilt_fields(&mut rng, &mut tally);
     let sets = orders(&mut rng, &mut tally);
+    blank::fields(&mut rng, &mut tally);
     let marks = UNFINISHED + MARKS * DAMAGED.len();
     let cases = FINISHED + JOURNEYS + LARGE + ALONE * WAYS.len() + CHANGED + marks + SPOILT + ORDERS * sets;
-    println!("cues: {cases} drawn cases agree, {sets} sets of faults among them");
+    let blank = blank::FIELDS;
+    println!("cues: {cases} drawn cases agree, {sets} sets of faults among them, and {blank} fields of the blank plan");
     tally.report();
 }

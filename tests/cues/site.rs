@@ -38,7 +38,7 @@ impl Site {
     }
 }
 
-/// Marked by hand on a drawn plan, small most of the time.
+/// Marked by hand on a drawn plan, small most of the time, with a module or more.
 pub fn some_site(rng: &mut Rng) -> Site {
     let kind = rng.pick(&["single", "path", "star", "ring", "complete", "tree", "small", "small", "small", "medium"]);
     let plan = plans::good(rng, kind);

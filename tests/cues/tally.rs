@@ -3,6 +3,7 @@
 use crate::counts::{Counts, Wanted};
 use oracle::cue::{Cue, Delivery};
 use oracle::field::Field;
+use oracle::plans;
 
 #[derive(Default)]
 pub struct Tally(Counts);
@@ -11,8 +12,8 @@ pub struct Tally(Counts);
 #[rustfmt::skip]
 const WANTED: &Wanted = &[
     ("journey:", &[
-        ("on 1 module", 25), ("on 2 modules", 20), ("on 3 to 191 modules", 230), ("on 192 modules", 6),
-        ("to the end", 560), ("left under way", 65),
+        ("on 1 module", 32), ("on 2 modules", 32), ("on 3 to 191 modules", 230), ("on 192 modules", 6),
+        ("to the end", 560), ("left under way", 82),
     ]),
     ("start ends with", &[("0", 1400), ("31", 310), ("71", 300), ("72", 330), ("73", 320)]),
     ("delivery ends with", &[
@@ -22,7 +23,8 @@ const WANTED: &Wanted = &[
         ("no tree link", 2200), ("the near end has not heard", 1500), ("the far end has heard", 2500),
     ]),
     ("changed records, delivery ends with", &[("0", 95), ("73", 460), ("42", 35)]),
-    ("unfinished:", &[("0", 14), ("0, messages wait", 16), ("71, messages wait", 90)]),
+    ("unfinished:", &[("0", 17), ("0, messages wait", 16), ("71, messages wait", 90)]),
+    ("blank plan:", &[("start 31", 50), ("start 72", 110), ("delivery 31", 50), ("delivery 73", 110)]),
     ("71 alone:", &[]),
     ("73 alone:", &[]),
 ];
@@ -32,9 +34,19 @@ impl Tally {
         self.0.count(event);
     }
 
+    /// A start; on a field of the blank plan it is counted by itself.
+    pub fn start(&mut self, field: &Field, answer: u32) {
+        if field.plan == plans::blank() {
+            self.count(format!("blank plan: start {answer}"));
+        } else {
+            self.count(format!("start ends with {answer}"));
+        }
+    }
+
     /// A delivery, by the records before it.
     pub fn delivery(&mut self, field: &Field, tree: &[u8], cues: &[Cue], link: u16, outcome: Result<Delivery, u32>) {
         let how = match outcome {
+            Err(refusal) if field.plan == plans::blank() => return self.count(format!("blank plan: delivery {refusal}")),
             Err(73) if cues.len() < field.plan.modules as usize => "ends with 73, too few".to_string(),
             Err(refusal) => format!("ends with {refusal}"),
             Ok(Delivery::Heard) => "ends with heard".to_string(),

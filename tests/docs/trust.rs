@@ -6,12 +6,13 @@ use scan::{Target, Tree};
 use std::collections::{BTreeMap, BTreeSet};
 
 /// The claims: in words, its file, its name.
-const CLAIMS: [(&str, &str, &str); 5] = [
+const CLAIMS: [(&str, &str, &str); 6] = [
     ("What is claimed of the central tree", "crates/plan_tree/specs/Claim.antt", "TreeClaim"),
     ("Demand 3", "crates/field_calls/specs/Demand.antt", "Demand3"),
     ("What request 01 claims of a cue", "crates/cue/specs/Claims.antt", "CueClaim"),
     ("That 73 is exact", "crates/cue/specs/Claims.antt", "Exact73"),
     ("What request 02 claims of a preview", "crates/preview/specs/Claim.antt", "PreviewClaim"),
+    ("What request 04 claims of a plan with nobody in it", "crates/blank/specs/Claim.antt", "BlankClaim"),
 ];
 
 /// The functions that a host or one of the two programs calls, by crate; no names: all public ones of the crate.
@@ -50,7 +51,7 @@ const SPARED: [(&str, &[&str]); 2] = [
 const HEAD: &str = "\
 # What must be believed
 
-To know what the claims (the central tree, demand 3, requests 01 and 02) and the functions that a host calls say, read the contracts of the first table and the definitions of the second: they
+To know what the claims (the central tree, demand 3, requests 01, 02 and 04) and the functions that a host calls say, read the contracts of the first table and the definitions of the second: they
 are made of these and of the names of the toolchain's libraries below. Theorems and proofs are not among them, since the prover checks those.
 Then read what else is assumed, at the end. (Made by `tools/trust`; the tests compare it with the tree.)
 ";
@@ -166,9 +167,12 @@ fn files_table(tree: &Tree, keys: &BTreeSet<Key>) -> String {
     out
 }
 
+/// By module. A crate's own files have "·specs" in the names of its modules, other crates have not: it is one module.
 fn library_table(outside: &BTreeSet<(String, String)>) -> String {
-    let mut by: BTreeMap<&str, Vec<String>> = BTreeMap::new();
-    outside.iter().for_each(|(module, name)| by.entry(module).or_default().push(name.clone()));
+    let mut by: BTreeMap<String, BTreeSet<String>> = BTreeMap::new();
+    for (module, name) in outside {
+        by.entry(module.replace("·specs.", ".")).or_default().insert(name.clone());
+    }
     let mut out = String::from("| Module | Names |\n|---|---|\n");
     by.into_iter().for_each(|(module, names)| out += &format!("| {module} | {} |\n", code(names)));
     out

@@ -79,10 +79,11 @@ pub type Damage = fn(&mut Rng, &mut Field, &mut Vec<u64>);
 /// Item, way to break it, damage (of a generator r, a field f and its words w). Some damages do nothing to some fields,
 /// or break more than their item: the caller looks at what is broken.
 #[rustfmt::skip]
-pub const WAYS: [(&str, &str, Damage); 46] = [
-    ("plan 14", "N is 0", no_modules),
+pub const WAYS: [(&str, &str, Damage); 47] = [
     ("plan 14", "N above 192", |r, f, w| replanned(r, f, w, |r, p| p.modules = r.range(193, 255) as u16)),
     ("plan 15", "L above 600", many_links),
+    ("plan 15", "L above 600, N is 0", many_of_nobody),
+    ("plan 16", "N is 0", no_modules),
     ("plan 16", "lower is higher", |r, f, w| relinked(r, f, w, |_, _, k| k.lower = k.higher)),
     ("plan 16", "lower above higher", |r, f, w| relinked(r, f, w, |_, _, k| (k.lower, k.higher) = (k.higher, k.lower))),
     ("plan 16", "higher not below N", |r, f, w| relinked(r, f, w, |r, n, k| k.higher = past(r, n))),
@@ -109,21 +110,21 @@ pub const WAYS: [(&str, &str, Damage); 46] = [
     ("carried link", "not below L", carry),
     ("directed link", "not below 2 × L", direct),
     ("word's level", "above log2 N", raise),
-    ("status", "above 2", |r, f, _| some_module(r, f).status = past(r, 3)),
-    ("identity", "not below L", |r, f, _| some_module(r, f).identity = past_links(r, f)),
-    ("best weight", "not below L", |r, f, _| some_module(r, f).best_weight = past_links(r, f)),
-    ("best edge", "not below L", |r, f, _| some_module(r, f).best_edge = past_links(r, f)),
-    ("best edge", "another module's", |r, f, _| some_module(r, f).best_edge = some_link(r, f)),
-    ("test edge", "not below L", |r, f, _| some_module(r, f).test_edge = past_links(r, f)),
-    ("test edge", "another module's", |r, f, _| some_module(r, f).test_edge = some_link(r, f)),
-    ("in-branch", "not below L", |r, f, _| some_module(r, f).in_branch = past_links(r, f)),
-    ("in-branch", "another module's", |r, f, _| some_module(r, f).in_branch = some_link(r, f)),
-    ("halted", "above 1", |r, f, _| some_module(r, f).halted = past(r, 2)),
+    ("status", "above 2", |r, f, _| some_module(r, f, |r, _, m| m.status = past(r, 3))),
+    ("identity", "not below L", |r, f, _| some_module(r, f, |r, p, m| m.identity = past_links(r, p))),
+    ("best weight", "not below L", |r, f, _| some_module(r, f, |r, p, m| m.best_weight = past_links(r, p))),
+    ("best edge", "not below L", |r, f, _| some_module(r, f, |r, p, m| m.best_edge = past_links(r, p))),
+    ("best edge", "another module's", |r, f, _| some_module(r, f, |r, p, m| m.best_edge = some_link(r, p))),
+    ("test edge", "not below L", |r, f, _| some_module(r, f, |r, p, m| m.test_edge = past_links(r, p))),
+    ("test edge", "another module's", |r, f, _| some_module(r, f, |r, p, m| m.test_edge = some_link(r, p))),
+    ("in-branch", "not below L", |r, f, _| some_module(r, f, |r, p, m| m.in_branch = past_links(r, p))),
+    ("in-branch", "another module's", |r, f, _| some_module(r, f, |r, p, m| m.in_branch = some_link(r, p))),
+    ("halted", "above 1", |r, f, _| some_module(r, f, |r, _, m| m.halted = past(r, 2))),
     ("mark", "above 2", mark),
-    ("level", "above log2 N", |r, f, _| some_module(r, f).level = past(r, f.plan.top_level() + 1)),
+    ("level", "above log2 N", |r, f, _| some_module(r, f, |r, p, m| m.level = past(r, p.top_level() + 1))),
     ("find-count", "above the links", find_count),
-    ("no identity above level 0", "none", |r, f, _| some_module(r, f).identity = NONE),
-    ("identity at level 0", "a link", |r, f, _| some_module(r, f).identity = some_link(r, f)),
+    ("no identity above level 0", "none", |r, f, _| some_module(r, f, |_, _, m| m.identity = NONE)),
+    ("identity at level 0", "a link", |r, f, _| some_module(r, f, |r, p, m| m.identity = some_link(r, p))),
     ("waiting above sent", "sent lowered", |r, f, w| f.sent = r.below(waiting(w).max(1)) as u32),
     ("sent above M", "sent raised", |r, f, _| f.sent = f.plan.ceiling() + r.pick(&[1, 1, 2, 65536, u32::MAX / 2])),
 ];
@@ -134,17 +135,20 @@ fn past(rng: &mut Rng, bound: u16) -> u16 {
     rng.pick(&[bound, bound, bound + 1, 65534, any])
 }
 
-fn past_links(rng: &mut Rng, field: &Field) -> u16 {
-    past(rng, field.plan.links.len() as u16)
+fn past_links(rng: &mut Rng, plan: &Plan) -> u16 {
+    past(rng, plan.links.len() as u16)
 }
 
-fn some_link(rng: &mut Rng, field: &Field) -> u16 {
-    rng.below(field.plan.links.len().max(1)) as u16
+fn some_link(rng: &mut Rng, plan: &Plan) -> u16 {
+    rng.below(plan.links.len().max(1)) as u16
 }
 
-fn some_module<'a>(rng: &mut Rng, field: &'a mut Field) -> &'a mut Module {
-    let v = rng.below(field.modules.len());
-    &mut field.modules[v]
+/// Changes some module's values, if there is a module.
+fn some_module(rng: &mut Rng, field: &mut Field, change: fn(&mut Rng, &Plan, &mut Module)) {
+    if !field.modules.is_empty() {
+        let v = rng.below(field.modules.len());
+        change(rng, &field.plan, &mut field.modules[v]);
+    }
 }
 
 /// A field over a changed plan, sound but for that.
@@ -165,6 +169,7 @@ fn relinked(rng: &mut Rng, field: &mut Field, words: &mut Vec<u64>, change: fn(&
     }
 }
 
+/// Nobody at the links. Where there are none, the field is that of a blank plan, and nothing is broken.
 fn no_modules(rng: &mut Rng, field: &mut Field, words: &mut Vec<u64>) {
     field.plan.modules = 0;
     field.modules.clear();
@@ -178,6 +183,11 @@ fn many_links(rng: &mut Rng, field: &mut Field, words: &mut Vec<u64>) {
     let n = 1 + pairs.iter().map(|p| p.1).max().unwrap();
     let plan = plans::plan(rng, n, pairs, Readings::Wide);
     (*field, *words) = drawn(rng, &plan);
+}
+
+fn many_of_nobody(rng: &mut Rng, field: &mut Field, words: &mut Vec<u64>) {
+    many_links(rng, field, words);
+    no_modules(rng, field, words);
 }
 
 fn twice(rng: &mut Rng, plan: &mut Plan) {
@@ -234,14 +244,14 @@ fn with(word: u64, at: u32, ones: u64, bits: u64) -> u64 {
 /// One of these headers in a waiting word, with a link or with none.
 fn message(rng: &mut Rng, field: &Field, words: &mut [u64], headers: &[u8], link: bool) {
     if let Some(word) = some_word(rng, words) {
-        let carried = if link { some_link(rng, field) } else { NONE };
+        let carried = if link { some_link(rng, &field.plan) } else { NONE };
         *word = with(with(*word, 0, 0xff, rng.pick(headers) as u64), 8, 0xffff, carried as u64);
     }
 }
 
 fn carry(rng: &mut Rng, field: &mut Field, words: &mut Vec<u64>) {
     if let Some(word) = some_word(rng, words) {
-        *word = with(*word, 8, 0xffff, past_links(rng, field) as u64);
+        *word = with(*word, 8, 0xffff, past_links(rng, &field.plan) as u64);
     }
 }
 
@@ -267,6 +277,9 @@ fn mark(rng: &mut Rng, field: &mut Field, _: &mut Vec<u64>) {
 }
 
 fn find_count(rng: &mut Rng, field: &mut Field, _: &mut Vec<u64>) {
+    if field.modules.is_empty() {
+        return;
+    }
     let v = rng.below(field.modules.len());
     let links = field.plan.own_links(v as u16).len() as u16;
     field.modules[v].find_count = if rng.once_in(8) { 65535 } else { past(rng, links + 1) };

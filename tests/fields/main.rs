@@ -1,8 +1,9 @@
 //! Compares the compiled steps and runs, 31 by itself and the report with the oracle on fields that a host may make up:
-//! valid ones, most of which no run from setup reaches, spoilt ones, and for each item of 31 some in which this item alone
-//! is broken. Answer, cells, marks, sent count and all words must be the same. Prints counts, or panics at the first
-//! difference.
+//! valid ones, most of which no run from setup reaches, spoilt ones, for each item of 31 some in which this item alone is
+//! broken, and those of the blank plan. Answer, cells, marks, sent count and all words must be the same. Prints counts, or
+//! panics at the first difference.
 
+mod blank;
 #[path = "../counts.rs"]
 mod counts;
 mod items;
@@ -59,9 +60,11 @@ fn same<T: PartialEq + std::fmt::Debug>(
 }
 
 /// The calls that alter nothing of a field: 31 by itself, how many words wait, the report, also in a text that is too short.
-fn looked_at(rng: &mut Rng, field: &Field, words: &[u64]) {
+fn looked_at(rng: &mut Rng, tally: &mut Tally, field: &Field, words: &[u64]) {
     let record = Record::of(field, rng);
-    assert_eq!(record.check(words), field.check(words).err().unwrap_or(0), "31 by itself, for {field:?}");
+    let answer = field.check(words).err().unwrap_or(0);
+    assert_eq!(record.check(words), answer, "31 by itself, for {field:?}");
+    tally.ends(field, "31 by itself", answer);
     assert_eq!(muruapy::waiting(words), waiting(words), "how many words wait");
     let accepted = field.plan.check().is_ok();
     if accepted && rng.once_in(8) {
@@ -74,6 +77,7 @@ fn looked_at(rng: &mut Rng, field: &Field, words: &[u64]) {
             assert_eq!(out[..put], text[..put], "the report");
             assert!(out[put..].iter().all(|byte| *byte == b'~'), "behind the report");
         }
+        tally.ends(field, "report", 0);
     }
 }
 
@@ -86,7 +90,7 @@ fn compare_step(rng: &mut Rng, tally: &mut Tally, field: &mut Field, words: &mut
     assert!(answer == 0 || field_after == *field && words_after == *words, "a refusal changes nothing");
     let case = Case { field, words, field_after: &field_after, words_after: &words_after };
     same(rng, case, answer, |record, words| record.step(words, step.kind, step.number));
-    looked_at(rng, field, words);
+    looked_at(rng, tally, field, words);
     tally.step(field, words, step, outcome);
     (*field, *words) = (field_after, words_after);
     answer
@@ -111,7 +115,7 @@ fn compare_run(rng: &mut Rng, tally: &mut Tally, field: &Field, words: &[u64], r
         Run::Schedule(bytes) => record.run(words, bytes),
         Run::Rounds(limit) => record.rounds(words, *limit),
     });
-    tally.count(format!("{name} ends with {refusal}"));
+    tally.ends(field, name, refusal);
     refusal
 }
 
@@ -197,9 +201,12 @@ fn main() {
     let refused = spoilt_fields(&mut rng, &mut tally);
     let alone = items_alone(&mut rng, &mut tally);
     runs(&mut rng, &mut tally);
+    blank::fields(&mut rng, &mut tally);
+    let zeros = blank::zeros();
     println!(
         "fields: {VALID} valid with {STEPS} steps each, {SPOILT} spoilt ({refused} refused by 31), {RUNS} runs agree"
     );
     println!("fields: 31 by one item alone, each in a step, a schedule and a round: {}", list(&alone));
+    println!("fields: {} of the blank plan with every call, {zeros} calls on memory full of zeros", blank::FIELDS);
     tally.report();
 }

@@ -3,6 +3,7 @@
 use crate::counts::{Counts, Wanted};
 use oracle::field::{waiting, Done, Field, HAND_OVER};
 use oracle::frame::{ACCEPT, CONNECT, INITIATE, NAMES, REJECT, REPORT, TEST};
+use oracle::plans;
 use oracle::rules::{ASLEEP, BASIC};
 use oracle::schedule::Step;
 
@@ -17,38 +18,54 @@ const WANTED: &Wanted = &[
         ("45", 3000), ("54", 500),
     ]),
     ("schedule ends with", &[
-        ("0", 60), ("31", 1400), ("32", 35), ("33", 14), ("41", 15), ("42", 9), ("43", 60), ("44", 60), ("45", 70),
-        ("51", 12), ("52", 11), ("53", 40), ("54", 40),
+        ("0", 60), ("31", 1400), ("32", 35), ("33", 11), ("41", 15), ("42", 9), ("43", 60), ("44", 60), ("45", 70),
+        ("51", 5), ("52", 11), ("53", 49), ("54", 34),
     ]),
-    ("rounds ends with", &[("0", 160), ("31", 1400), ("32", 230), ("33", 45)]),
+    ("31 by itself ends with", &[("0", 14000), ("31", 3000)]),
+    ("report ends with", &[("0", 2000)]),
+    ("rounds ends with", &[("0", 160), ("31", 1400), ("32", 230), ("33", 36)]),
     ("32:", &[
-        ("Initiate, asleep", 200), ("Accept, asleep", 200), ("Reject, asleep", 200), ("Report, asleep", 200),
-        ("Change-root, asleep", 200), ("Connect, level", 30), ("Connect, find-count", 40),
+        ("Initiate, asleep", 200), ("Accept, asleep", 170), ("Reject, asleep", 200), ("Report, asleep", 200),
+        ("Change-root, asleep", 200), ("Connect, level", 30), ("Connect, find-count", 27),
         ("Initiate, find-count", 50), ("Test, in-branch none", 15), ("Accept, in-branch none", 70),
-        ("Reject, in-branch none", 35), ("Reject, Test at level 0", 55), ("Report, find-count", 100),
+        ("Reject, in-branch none", 30), ("Reject, Test at level 0", 55), ("Report, find-count", 71),
         ("Report, in-branch none", 110), ("Report, best edge none", 8), ("Change-root, best edge none", 150),
     ]),
     ("taken:", &[
-        ("woken", 900), ("handed over", 1200), ("served Connect", 170), ("served Initiate", 250), ("served Test", 180),
+        ("woken", 900), ("handed over", 1200), ("served Connect", 170), ("served Initiate", 250), ("served Test", 150),
         ("served Accept", 270), ("served Reject", 240), ("served Report", 120), ("served Change-root", 180),
-        ("served Connect at a sleeper", 80), ("put back Connect", 90), ("put back Test", 170),
+        ("served Connect at a sleeper", 80), ("put back Connect", 74), ("put back Test", 170),
         ("put back Report", 70), ("put back Connect at a sleeper", 25), ("put back Test at a sleeper", 120),
     ]),
     ("full store:", &[
-        ("handed over", 130), ("put back Connect", 5), ("put back Test", 12), ("put back Report", 4),
-        ("served Accept", 20), ("served Initiate", 7), ("served Reject", 10), ("served Report", 8),
-        ("refused 33", 220),
+        ("handed over", 130), ("put back Connect", 6), ("put back Test", 12), ("put back Report", 7),
+        ("served Accept", 16), ("served Initiate", 12), ("served Reject", 10), ("served Report", 5),
+        ("refused 33", 180),
+    ]),
+    ("blank plan:", &[
+        ("31 by itself 0", 1800), ("31 by itself 31", 120), ("report 0", 240), ("step 31", 120), ("step 41", 1000),
+        ("step 42", 500), ("step 54", 200), ("schedule 0", 100), ("schedule 31", 5), ("schedule 41", 210),
+        ("schedule 42", 100), ("schedule 54", 200), ("rounds 0", 130), ("rounds 31", 8),
     ]),
 ];
 
 impl Tally {
-    pub fn count(&mut self, event: impl Into<String>) {
+    fn count(&mut self, event: impl Into<String>) {
         self.0.count(event);
+    }
+
+    /// What a call answered; on a field of the blank plan it is counted by itself.
+    pub fn ends(&mut self, field: &Field, call: &str, answer: u32) {
+        if field.plan == plans::blank() {
+            self.count(format!("blank plan: {call} {answer}"));
+        } else {
+            self.count(format!("{call} ends with {answer}"));
+        }
     }
 
     /// A step given alone, by the field and the words before it.
     pub fn step(&mut self, field: &Field, words: &[u64], step: Step, outcome: Result<Done, u32>) {
-        self.count(format!("step ends with {}", outcome.err().unwrap_or(0)));
+        self.ends(field, "step", outcome.err().unwrap_or(0));
         let full = !words.is_empty() && waiting(words) == words.len();
         match outcome {
             Err(32) => self.count(format!("32: {}", cause(field, words, step.number))),

@@ -21,6 +21,8 @@ struct Tally {
     /// plans, frames and plan values, drawn or damaged, that are refused
     refused: usize,
     numbers: BTreeMap<u32, usize>,
+    /// plans and plan values with N = 0, by what they are answered
+    nobody: BTreeMap<(&'static str, u32), usize>,
     /// good plans whose tree each of `WRONG_ORDERS` would change: of up to 4 modules, and of more
     told_apart: [[usize; 2]; WRONG_ORDERS.len()],
 }
@@ -31,7 +33,26 @@ impl Tally {
             *self.numbers.entry(number).or_default() += 1;
         }
     }
+
+    fn count_nobody(&mut self, n: u16, what: &'static str, number: u32) {
+        if n == 0 {
+            *self.nobody.entry((what, number)).or_default() += 1;
+        }
+    }
 }
+
+/// With N = 0, as bytes and as a value: taken, refused by 15 (L does not fit, or is above 600), by 16 (a link); and the empty
+/// tree of those that are taken. How often each must come, about half as often as with the seed of main.
+const NOBODY: [((&str, u32), usize); 8] = [
+    (("bytes", 0), 230),
+    (("bytes", 15), 280),
+    (("bytes", 16), 340),
+    (("tree", 0), 230),
+    (("tree", 20), 460),
+    (("value", 0), 70),
+    (("value", 15), 19),
+    (("value", 16), 120),
+];
 
 /// What links are compared by.
 type Keys = fn(&Plan, u16) -> [u32; 3];
@@ -45,6 +66,7 @@ const WRONG_ORDERS: [(&str, Keys, [usize; 2]); 4] = [
     ("the higher number", |p, k| [p.cost(k), p.sum(k), NONE as u32 - k as u32], [7000, 300]),
 ];
 
+const GOOD: usize = 500;
 const GUARD: usize = 16;
 
 /// Lends `len` bytes of a larger buffer of arbitrary bytes. The call must answer `number`, and leave `written` at the
@@ -83,6 +105,9 @@ fn compare_plan(rng: &mut Rng, tally: &mut Tally, bytes: &[u8]) {
     let before: Numbers = std::array::from_fn(|_| rng.next() as u16);
     let mut numbers = before;
     let answer = expected.as_ref().err().copied().unwrap_or(0);
+    if answer == 0 || answer > 13 {
+        tally.count_nobody(plan::be16(bytes, 3), "bytes", answer);
+    }
     assert_eq!(muruapy::plan_check(bytes), answer, "the check");
     assert_eq!(muruapy::plan_read(bytes, &mut numbers), answer, "the reader");
     assert!(numbers == numbers_read(&expected, &before), "the plan read, or kept");
@@ -101,9 +126,11 @@ fn compare_plan(rng: &mut Rng, tally: &mut Tally, bytes: &[u8]) {
                 count[(plan.modules > 4) as usize] += (kruskal::tree_by(&plan, |k| key(&plan, k)) != expected) as usize;
             }
             lend(rng, l, 0, &expected, tree);
+            tally.count_nobody(plan.modules, "tree", 0);
             for len in [l + 1, l + 600, rng.below(l.max(1)), l.saturating_sub(1)] {
                 if len != l {
                     refused(rng, tally, len, 20, tree);
+                    tally.count_nobody(plan.modules, "tree", 20);
                 }
             }
             lend(rng, bytes.len(), 0, bytes, copy);
@@ -170,7 +197,9 @@ fn compare_value(rng: &mut Rng, tally: &mut Tally, plan: &Plan) {
         tally.refused += 1;
     }
     let value = muruapy::numbers(plan, rng);
-    assert_eq!(muruapy::plan_value_check(&value), plan.check().err().unwrap_or(0), "the check of a value");
+    let answer = plan.check().err().unwrap_or(0);
+    tally.count_nobody(plan.modules, "value", answer);
+    assert_eq!(muruapy::plan_value_check(&value), answer, "the check of a value");
     for k in [0, rng.below(700) as u16, plan.links.len() as u16, 599, 600, NONE] {
         let there = (k as usize) < plan.links.len().min(600);
         let cost = if there { plan.cost(k) } else { NONE as u32 };
@@ -275,9 +304,20 @@ fn all_ceilings() -> usize {
     compared
 }
 
-/// Document 01's samples for plans, tree, ceiling and frames, with the numbers written out here.
+/// A plan of zeros is blank: checked, written, without a tree and without costs.
+fn zeros(rng: &mut Rng) {
+    let value = [0; 2402];
+    assert_eq!(muruapy::plan_value_check(&value), 0, "the check of zeros");
+    assert_eq!(muruapy::link_cost(&value, 0), NONE as u32, "a cost of zeros");
+    lend(rng, 7, 0, &[1, 0, 4, 0, 0, 0, 0], |out| muruapy::plan_write(&value, out));
+    lend(rng, 6, 22, &[], |out| muruapy::plan_write(&value, out));
+    lend(rng, 0, 0, &[], |out| muruapy::tree(&value, out));
+    lend(rng, 1, 20, &[], |out| muruapy::tree(&value, out));
+}
+
+/// The documents' samples for plans, tree, ceiling and frames, with the numbers written out here.
 fn samples(rng: &mut Rng) {
-    for (n, l, m) in [(1, 0, 0), (2, 1, 12), (3, 3, 21), (192, 600, 7920)] {
+    for (n, l, m) in [(0, 0, 0), (1, 0, 0), (2, 1, 12), (3, 3, 21), (192, 600, 7920)] {
         assert_eq!(muruapy::ceiling(n, l), m);
     }
     let link = |lower, higher, at_lower, at_higher| Link { lower, higher, at_lower, at_higher };
@@ -287,7 +327,7 @@ fn samples(rng: &mut Rng) {
     let many = |l: usize| Plan { modules: 60, links: complete[..l].to_vec() }.encode();
     let no_link = Plan { modules: 2, links: vec![] }.encode();
     let two = [1, 0, 0x0C, 0, 2, 0, 1, 0, 0, 0, 1, 0, 3, 0, 4];
-    let numbers: [(&[u8], u32); 10] = [
+    let numbers: [(&[u8], u32); 13] = [
         (&[], 11),
         (&path(193), 14),
         (&path(192), 0),
@@ -298,6 +338,9 @@ fn samples(rng: &mut Rng) {
         (&no_link, 19),
         (&two, 0),
         (&two[..14], 13),
+        (&[1, 0, 4, 0, 0, 0, 0], 0),
+        (&[1, 0, 0x0C, 0, 0, 0, 1, 0, 0, 0, 1, 0, 3, 0, 4], 16),
+        (&[1, 0, 0x0C, 0, 0, 0, 2, 0, 0, 0, 1, 0, 3, 0, 4], 15),
     ];
     for (bytes, number) in numbers {
         assert_eq!(muruapy::plan_check(bytes), number);
@@ -329,50 +372,62 @@ fn sample_files(rng: &mut Rng, tally: &mut Tally) {
     }
 }
 
-fn main() {
-    let mut rng = Rng::new(20);
-    let mut tally = Tally::default();
-    samples(&mut rng);
-    let ceilings = all_ceilings();
-    all_headers();
-    words(&mut rng);
-    for i in 0..450 {
-        let plan = plans::good(&mut rng, plans::KINDS[i % plans::KINDS.len()]);
-        compare_plan(&mut rng, &mut tally, &plan.encode());
-    }
-    assert_eq!(tally.good_plans, 450);
-    sample_files(&mut rng, &mut tally);
-    all_of_four(&mut rng, &mut tally);
-    for _ in 0..15000 {
-        let bytes = plans::damaged(&mut rng);
-        compare_plan(&mut rng, &mut tally, &bytes);
-    }
-    for _ in 0..15000 {
-        let bytes = plans::damaged_frame(&mut rng);
-        compare_frame(&mut rng, &mut tally, &bytes);
-    }
-    for i in 0..3000 {
-        let plan = if i % 40 == 0 { plans::too_many(&mut rng) } else { plans::damaged_value(&mut rng) };
-        compare_value(&mut rng, &mut tally, &plan);
-        let carried = rng.pick(&[0, 5, 599, 600, 65534, NONE]);
-        let header = rng.byte();
-        compare_write(&mut rng, &mut tally, header, carried);
-    }
-    let drawn = tally.frames;
-    all_frames(&mut tally);
-
-    let listed = (11..=20).chain([22]).chain(61..=64);
-    for number in listed {
+/// What came, as often as wanted.
+fn check_counts(tally: &Tally) {
+    for number in (11..=20).chain([22]).chain(61..=64) {
         let times = tally.numbers.get(&number).copied().unwrap_or(0);
         assert!(times >= 20, "refusal {number} came only {times} times: {:?}", tally.numbers);
+    }
+    for (what, least) in NOBODY {
+        let times = tally.nobody.get(&what).copied().unwrap_or(0);
+        assert!(times >= least, "N = 0, {what:?}: only {times} times, {least} wanted");
     }
     for ((order, _, least), times) in WRONG_ORDERS.iter().zip(tally.told_apart) {
         assert!(times.iter().zip(least).all(|(t, l)| t >= l), "{order}: only {times:?} trees would be others");
     }
     assert!(tally.refused >= 10_000, "only {} inputs were refused", tally.refused);
+}
+
+/// Good plans of every kind, the samples, small plans of all shapes, damaged plans and frames, plan values and headers.
+fn drawn(rng: &mut Rng, tally: &mut Tally) {
+    for i in 0..GOOD {
+        let plan = plans::good(rng, plans::KINDS[i % plans::KINDS.len()]);
+        compare_plan(rng, tally, &plan.encode());
+    }
+    assert_eq!(tally.good_plans, GOOD);
+    sample_files(rng, tally);
+    all_of_four(rng, tally);
+    for _ in 0..15000 {
+        let bytes = plans::damaged(rng);
+        compare_plan(rng, tally, &bytes);
+    }
+    for _ in 0..15000 {
+        let bytes = plans::damaged_frame(rng);
+        compare_frame(rng, tally, &bytes);
+    }
+    for i in 0..3000 {
+        let plan = plans::some_value(rng, i);
+        compare_value(rng, tally, &plan);
+        let carried = rng.pick(&[0, 5, 599, 600, 65534, NONE]);
+        let header = rng.byte();
+        compare_write(rng, tally, header, carried);
+    }
+}
+
+fn main() {
+    let mut rng = Rng::new(20);
+    let mut tally = Tally::default();
+    samples(&mut rng);
+    zeros(&mut rng);
+    let ceilings = all_ceilings();
+    all_headers();
+    words(&mut rng);
+    drawn(&mut rng, &mut tally);
+    let frames = tally.frames;
+    all_frames(&mut tally);
     let numbers: Vec<String> = tally.numbers.iter().map(|(number, times)| format!("{number}:{times}")).collect();
     println!(
-        "ground: {} plans ({} good, tree as Kruskal's), {} plan values, {} frames ({drawn} drawn), {ceilings} ceilings \
+        "ground: {} plans ({} good, tree as Kruskal's), {} plan values, {} frames ({frames} drawn), {ceilings} ceilings \
          agree; {} drawn inputs refused; refusals {}; trees that a wrong order of links would change: {:?}",
         tally.plans,
         tally.good_plans,
@@ -382,4 +437,6 @@ fn main() {
         numbers.join(" "),
         tally.told_apart
     );
+    println!("ground: N = 0, by what was answered: {:?}", tally.nobody);
+    check_counts(&tally);
 }

@@ -32,5 +32,6 @@ void field_calls(bool whole);
 void job_calls(bool whole, const char *reports);
 void preview_calls(bool whole);
 void cue_calls(bool whole);
+void blank_calls(bool whole);
 
 #endif

@@ -17,20 +17,6 @@ static void words_are(const uint64_t *want, size_t count)
 
 /* ---- setup ---- */
 
-static void is_fresh(const muruapy_plan *plan)
-{
-    static const muruapy_module asleep = {0, 0, 65535, 65535, 65535, 65535, 65535, 0, 0};
-    static const uint8_t basic[2];
-    size_t i;
-    must(memcmp(&state.field.plan, plan, sizeof *plan) == 0, "the field has another plan");
-    for (i = 0; i < MURUAPY_MODULES; i++)
-        must(memcmp(&state.field.modules[i], &asleep, sizeof asleep) == 0, "a module is not as at setup");
-    for (i = 0; i < MURUAPY_LINKS; i++)
-        must(memcmp(state.field.marks[i], basic, 2) == 0, "a mark is not as at setup");
-    must(state.field.sent == 0, "something was sent at setup");
-    words_are(NULL, 0);
-}
-
 /* Into memory that holds anything. */
 static void setup_gives(const muruapy_plan *value, size_t room, uint32_t number)
 {
@@ -42,7 +28,7 @@ static void setup_gives(const muruapy_plan *value, size_t room, uint32_t number)
     fetch(&s, &state);
     take_back();
     if (number == 0)
-        is_fresh(value);
+        is_fresh(&state, value);
 }
 
 static void setups(void)

@@ -91,7 +91,7 @@ static void report_is(uint16_t rounds, size_t room, const uint8_t *want, size_t 
     uint8_t *text = lend(NULL, room);
     size_t put = do_report(&s, rounds, text, room), i;
     must(put <= room && put <= length, "more is put than there is, or room for it");
-    gave("report", put, room < length ? put : length, false);
+    gave("report", put, room < length ? room : length, false);
     must(put == 0 || memcmp(text, want, put) == 0, "another text is put");
     for (i = put; i < room; i++)
         must(text[i] == FILL, "a byte behind the text is written");

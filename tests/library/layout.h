@@ -31,7 +31,8 @@ HOLDS(cue_link, offsetof(muruapy_cue, link) == 4);
 HOLDS(cue_hops, offsetof(muruapy_cue, hops) == 6);
 HOLDS(delivery_size, sizeof(muruapy_delivery) == 8);
 HOLDS(delivery_heard, offsetof(muruapy_delivery, heard) == 4);
-HOLDS(version, MURUAPY_VERSION_MAJOR == 2); /* since the larger reading counts */
+HOLDS(version, MURUAPY_VERSION_MAJOR == 2);       /* since the larger reading counts */
+HOLDS(minor_version, MURUAPY_VERSION_MINOR == 1); /* since the blank plan is taken */
 HOLDS(plan_bytes, MURUAPY_PLAN_BYTES == 7 + 8 * MURUAPY_LINKS);
 HOLDS(ceiling, MURUAPY_WORDS == 5 * MURUAPY_MODULES * 7 + 2 * MURUAPY_LINKS);
 HOLDS(steps, MURUAPY_STEPS == 65535 / 3);

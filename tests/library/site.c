@@ -41,6 +41,21 @@ void fetch(const struct site *s, struct state *to)
     memcpy(to->words, s->words, s->room * sizeof *s->words);
 }
 
+void is_fresh(const struct state *state, const muruapy_plan *plan)
+{
+    static const muruapy_module asleep = {0, 0, 65535, 65535, 65535, 65535, 65535, 0, 0};
+    const muruapy_field *f = &state->field;
+    size_t i;
+    must(memcmp(&f->plan, plan, sizeof *plan) == 0, "the field has another plan");
+    for (i = 0; i < MURUAPY_MODULES; i++)
+        must(memcmp(&f->modules[i], &asleep, sizeof asleep) == 0, "a module is not as at setup");
+    for (i = 0; i < MURUAPY_LINKS; i++)
+        must(f->marks[i][0] == 0 && f->marks[i][1] == 0, "a mark is not as at setup");
+    must(f->sent == 0, "something was sent at setup");
+    for (i = 0; i < state->room; i++)
+        must(state->words[i] == 0, "a word waits at setup");
+}
+
 uint32_t do_setup(const struct site *s, const muruapy_plan *plan)
 {
     return s->whole ? muruapy_setup(plan, s->whole, s->words, s->room)

@@ -28,6 +28,9 @@ struct site lend_site(const struct state *from, bool whole, enum lent how);
 /* What the call left goes into the state. */
 void fetch(const struct site *s, struct state *to);
 
+/* The state is what setup makes of a plan, all that there is room for and all words. */
+void is_fresh(const struct state *state, const muruapy_plan *plan);
+
 uint32_t do_setup(const struct site *s, const muruapy_plan *plan);
 uint32_t do_check(const struct site *s);
 uint32_t do_step(const struct site *s, uint8_t kind, uint16_t number);

@@ -4,7 +4,7 @@
 use crate::field::{waiting, Field, Word, HAND_OVER, SERVE, WAKE};
 use crate::frame::{Message, CONNECT, INITIATE, REPORT, TEST};
 use crate::kruskal;
-use crate::plan::{Plan, NONE};
+use crate::plan::{Link, Plan, NONE};
 use crate::plans;
 use crate::rng::Rng;
 use crate::rules::{Module, BASIC, BRANCH, REJECTED};
@@ -96,8 +96,9 @@ pub fn drawn(rng: &mut Rng, plan: &Plan) -> (Field, Vec<u64>) {
 
 /// The same over a drawn plan, small most of the time.
 pub fn some_field(rng: &mut Rng) -> (Field, Vec<u64>) {
-    let kind =
-        rng.pick(&["single", "path", "star", "ring", "complete", "small", "small", "small", "small", "medium", "full"]);
+    let kind = rng.pick(&[
+        "blank", "single", "path", "star", "ring", "complete", "small", "small", "small", "small", "medium", "full",
+    ]);
     let plan = plans::good(rng, kind);
     drawn(rng, &plan)
 }
@@ -113,8 +114,33 @@ pub fn marked(rng: &mut Rng, plan: &Plan) -> (Field, Vec<u64>) {
     (field, words)
 }
 
+/// Changes a field of a blank plan or its words: there are only the plan, the sent count and the words to change.
+fn spoil_blank(rng: &mut Rng, field: &mut Field, words: &mut Vec<u64>) {
+    let connect = Word { message: Message::connect(0), directed: 0, handed: rng.once_in(2) };
+    match rng.below(6) {
+        0 => field.sent = rng.pick(&[1, 2, 65536, u32::MAX]),
+        1 => words.push(rng.pick(&[1, 1 << 41, connect.pack()])),
+        // as one that was sent
+        2 => {
+            words.insert(0, connect.pack());
+            field.sent = 1;
+        }
+        // a link, and as many words as its ceiling asks for
+        3 => {
+            field.plan.links.push(Link { lower: 0, higher: 1, at_lower: 3, at_higher: 4 });
+            field.marks.push([BASIC; 2]);
+            words.resize(words.len().max(2), 0);
+        }
+        4 => field.plan.modules = rng.pick(&[2, 193, NONE]),
+        _ => words.push(0),
+    }
+}
+
 /// Changes one value of a field or its words. Most changes bring 31, some leave the field valid.
 pub fn spoil(rng: &mut Rng, field: &mut Field, words: &mut Vec<u64>) {
+    if field.modules.is_empty() {
+        return spoil_blank(rng, field, words);
+    }
     let v = rng.below(field.modules.len());
     let odd = rng.pick(&[0, 1, 2, 3, 8, field.plan.links.len() as u16, 600, NONE]);
     let module = &mut field.modules[v];

@@ -1,4 +1,4 @@
-//! The oracle: a second implementation of document 01, and of requests 01 to 03 of document 02, in plain Rust, written
+//! The oracle: a second implementation of document 01, and of requests 01 to 04 of document 02, in plain Rust, written
 //! from the documents and the appendix of Gallager, Humblet and Spira alone. The tests compare the compiled Rattle code
 //! with it. Nothing here is proved and nothing here is fast: it is meant to be read beside the documents.
 //!
@@ -23,6 +23,8 @@ pub mod trace;
 
 #[cfg(test)]
 mod tests;
+#[cfg(test)]
+mod tests_blank;
 #[cfg(test)]
 mod tests_cue;
 #[cfg(test)]

@@ -39,7 +39,7 @@ pub fn read(bytes: &[u8]) -> Result<Plan, u32> {
         return Err(13);
     }
     let (n, l) = (be16(bytes, 3), be16(bytes, 5) as usize);
-    if n == 0 || n > MOST_MODULES {
+    if n > MOST_MODULES {
         return Err(14);
     }
     if l > MOST_LINKS || length != 4 + 8 * l {
@@ -70,7 +70,7 @@ pub fn write(plan: &Plan, out: &mut [u8]) -> Result<usize, u32> {
 impl Plan {
     /// Refusals 14 to 19 of a plan value. There is no length here, so 15 is for L above 600 alone.
     pub fn check(&self) -> Result<(), u32> {
-        if self.modules == 0 || self.modules > MOST_MODULES {
+        if self.modules > MOST_MODULES {
             return Err(14);
         }
         if self.links.len() > MOST_LINKS {
@@ -96,10 +96,12 @@ impl Plan {
         Ok(())
     }
 
-    /// Every module is reached from module 0 over links.
+    /// Every module is reached from module 0 over links; where there is none, nobody is left out.
     fn connected(&self) -> bool {
         let mut reached = vec![false; self.modules as usize];
-        reached[0] = true;
+        if let Some(first) = reached.first_mut() {
+            *first = true;
+        }
         loop {
             let mut grown = false;
             for link in &self.links {

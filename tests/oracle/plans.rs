@@ -57,7 +57,7 @@ pub fn connected(rng: &mut Rng, n: u16, l: usize) -> Pairs {
         let (a, b) = (order[rng.below(i)], order[i]);
         pairs.insert((a.min(b), a.max(b)));
     }
-    let room = n as usize * (n as usize - 1) / 2;
+    let room = n as usize * (n as usize).saturating_sub(1) / 2;
     while pairs.len() < l.min(room).min(MOST_LINKS) {
         let (a, b) = (rng.below(n as usize) as u16, rng.below(n as usize) as u16);
         if a != b {
@@ -65,6 +65,11 @@ pub fn connected(rng: &mut Rng, n: u16, l: usize) -> Pairs {
         }
     }
     pairs.into_iter().collect()
+}
+
+/// The plan with nobody in it.
+pub fn blank() -> Plan {
+    Plan { modules: 0, links: vec![] }
 }
 
 /// Three links with readings 3 and 3, 0 and 5, 4 and 0: in the order 0, 2, 1, and by their sums 2, 1, 0.
@@ -98,7 +103,11 @@ pub fn plan(rng: &mut Rng, n: u16, mut pairs: Pairs, readings: Readings) -> Plan
     Plan { modules: n, links: links.collect() }
 }
 
-pub const KINDS: [&str; 9] = ["single", "path", "star", "ring", "complete", "tree", "small", "medium", "full"];
+pub const KINDS: [&str; 10] = ["blank", "single", "path", "star", "ring", "complete", "tree", "small", "medium", "full"];
+
+pub fn kinds_without(left_out: &[&str]) -> Vec<&'static str> {
+    KINDS.into_iter().filter(|kind| !left_out.contains(kind)).collect()
+}
 
 /// A good plan of a kind.
 pub fn good(rng: &mut Rng, kind: &str) -> Plan {
@@ -108,6 +117,7 @@ pub fn good(rng: &mut Rng, kind: &str) -> Plan {
         rng.range(least, most) as u16
     };
     let (n, pairs) = match kind {
+        "blank" => (0, Vec::new()),
         "single" => (1, Vec::new()),
         "path" => {
             let n = size(rng, 2);
@@ -149,7 +159,7 @@ pub fn good(rng: &mut Rng, kind: &str) -> Plan {
 fn odd_number(rng: &mut Rng, bound: u16) -> u16 {
     match rng.below(6) {
         0 => bound,
-        1 => bound + 1,
+        1 => bound.wrapping_add(1),
         2 => bound.saturating_sub(1),
         3 => 0,
         4 => NONE,
@@ -157,19 +167,26 @@ fn odd_number(rng: &mut Rng, bound: u16) -> u16 {
     }
 }
 
+/// Damages a plan value without links: its number of modules, or a link in it.
+fn damage_linkless(rng: &mut Rng, plan: &mut Plan) {
+    match rng.below(4) {
+        0 => plan.links.push(Link { lower: 0, higher: 1, at_lower: 3, at_higher: 4 }),
+        _ => plan.modules = odd_number(rng, MOST_MODULES),
+    }
+}
+
 /// Damages a plan value: its counts, an end of a link, the order of links, a reading, its connectedness.
 fn damage_value(rng: &mut Rng, plan: &mut Plan) {
     if plan.links.is_empty() {
-        plan.modules = odd_number(rng, MOST_MODULES);
-        return;
+        return damage_linkless(rng, plan);
     }
     let k = rng.below(plan.links.len());
-    match rng.below(11) {
+    match rng.below(12) {
         0 => plan.modules = odd_number(rng, MOST_MODULES),
         // one module more, without a link
-        1 => plan.modules += 1,
+        1 => plan.modules = plan.modules.wrapping_add(1),
         // one module fewer than the links name
-        2 => plan.modules -= 1,
+        2 => plan.modules = plan.modules.wrapping_sub(1),
         3 => plan.links[k].higher = plan.links[k].lower,
         4 => {
             let link = &mut plan.links[k];
@@ -184,6 +201,8 @@ fn damage_value(rng: &mut Rng, plan: &mut Plan) {
         7 => plan.links.insert(k, plan.links[k]),
         8 => plan.links[k].at_lower = odd_number(rng, 2000),
         9 => plan.links[k].at_higher = odd_number(rng, 2000),
+        // nobody at the links
+        10 => plan.modules = 0,
         // all links of one module
         _ => {
             let v = plan.links[k].lower;
@@ -200,9 +219,9 @@ pub fn too_many(rng: &mut Rng) -> Plan {
     plan(rng, n, pairs, Readings::Wide)
 }
 
-/// Damages bytes: flips, truncation, appended bytes, version, length, counts.
+/// Damages bytes: flips, truncation, appended bytes, version, length, counts, zeros from some place on.
 fn damage_bytes(rng: &mut Rng, bytes: &mut Vec<u8>) {
-    match rng.below(7) {
+    match rng.below(8) {
         0 => {
             for _ in 0..rng.range(1, 3) {
                 let at = rng.below(bytes.len().max(1));
@@ -222,6 +241,10 @@ fn damage_bytes(rng: &mut Rng, bytes: &mut Vec<u8>) {
         4 if !bytes.is_empty() => bytes[0] = rng.pick(&[0, 2, 3, 128, 255]),
         5 if bytes.len() >= 3 => bytes[1 + rng.below(2)] = rng.byte(),
         6 if bytes.len() >= 7 => bytes[5 + rng.below(2)] = rng.byte(),
+        7 => {
+            let from = rng.pick(&[0, 1, 3, 3, 5, 7]).min(bytes.len());
+            bytes[from..].fill(0);
+        }
         _ => {}
     }
 }
@@ -236,6 +259,26 @@ pub fn damaged_value(rng: &mut Rng) -> Plan {
     plan
 }
 
+/// The same, the i-th of many: some with more than 600 links, and with nobody at them.
+pub fn some_value(rng: &mut Rng, i: usize) -> Plan {
+    match i % 80 {
+        0 => too_many(rng),
+        40 => Plan { modules: 0, ..too_many(rng) },
+        _ => damaged_value(rng),
+    }
+}
+
+/// Bytes with N = 0: the links of another plan behind it, if it has any, and their number right, 0 or another.
+fn nobody(rng: &mut Rng) -> Vec<u8> {
+    let kind = rng.pick(&KINDS);
+    let plan = Plan { modules: 0, ..good(rng, kind) };
+    let l = plan.links.len() as u16;
+    let told = rng.pick(&[l, l, 0, l + 1, l.saturating_sub(1), NONE]);
+    let mut bytes = plan.encode();
+    bytes[5..7].copy_from_slice(&told.to_be_bytes());
+    bytes
+}
+
 /// The bytes of a plan with one damage or several, or random bytes. Some come out whole.
 pub fn damaged(rng: &mut Rng) -> Vec<u8> {
     if rng.once_in(40) {
@@ -243,6 +286,9 @@ pub fn damaged(rng: &mut Rng) -> Vec<u8> {
     }
     if rng.once_in(40) {
         return too_many(rng).encode();
+    }
+    if rng.once_in(40) {
+        return nobody(rng);
     }
     if rng.once_in(40) {
         // the right length of too little, or of a few random bytes

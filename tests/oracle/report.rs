@@ -1,10 +1,22 @@
-//! What the reporting program prints for a plan: module 0 is woken, then rounds run with limit 65535.
+//! The whole job, and what the reporting program prints of it for a plan.
 
-use crate::field::{setup, Field, WAKE};
-use crate::plan;
+use crate::field::{setup_value, Field, WAKE};
+use crate::plan::{self, Plan};
 use crate::rounds;
 use crate::rules::BRANCH;
 use std::fmt::Write;
+
+/// Setup, a wake of module 0, rounds with limit 65535. In a blank plan nobody can be woken: "the program skips the wake".
+/// Setup's refusals, or the field and how many rounds were completed.
+pub fn job(plan: Plan, words: &mut [u64]) -> Result<(Field, u32), u32> {
+    let mut field = setup_value(plan, words)?;
+    if field.plan.modules > 0 {
+        field.step(words, WAKE, 0).expect("module 0 sleeps");
+    }
+    let answer = rounds::run(&mut field, words, 65535);
+    assert_eq!(answer.refusal, None, "rounds from setup are not refused");
+    Ok((field, answer.done))
+}
 
 pub fn report(bytes: &[u8]) -> String {
     let plan = match plan::read(bytes) {
@@ -12,12 +24,9 @@ pub fn report(bytes: &[u8]) -> String {
         Err(refusal) => return format!("refused {refusal}\n"),
     };
     let mut words = vec![0; plan.ceiling() as usize];
-    let mut field = setup(bytes, &mut words).expect("the plan was taken");
-    field.step(&mut words, WAKE, 0).expect("module 0 sleeps");
-    let answer = rounds::run(&mut field, &mut words, 65535);
-    assert_eq!(answer.refusal, None, "rounds from setup are not refused");
+    let (field, rounds) = job(plan, &mut words).expect("the plan was taken");
     assert!(field.marks.iter().all(|[a, b]| a == b), "both ends say the same");
-    text(&field, answer.done)
+    text(&field, rounds)
 }
 
 /// The lines of any field: a branch by the lower end's mark, every module that has halted.

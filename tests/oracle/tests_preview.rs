@@ -10,7 +10,7 @@ use crate::rng::Rng;
 use crate::rounds;
 use crate::rules::{Fate, Response, BASIC, BRANCH};
 use crate::schedule::Step;
-use crate::tests::{links, set_up};
+use crate::tests::set_up;
 
 fn take(field: &mut Field, words: &mut [u64], steps: &[(u8, u16)]) {
     for (kind, number) in steps {

@@ -4,6 +4,7 @@
 use crate::muruapy::{Previewed, Record};
 use crate::tally::Tally;
 use oracle::field::{waiting, Done, Field, HAND_OVER, SERVE};
+use oracle::plans;
 use oracle::preview::preview;
 use oracle::rng::Rng;
 use oracle::schedule::Step;
@@ -123,7 +124,11 @@ pub fn compare(rng: &mut Rng, tally: &mut Tally, site: &mut Site, step: Step) ->
         let said = compare_one(rng, site, &record, step, places);
         let refusal = if places < sends { 75 } else { outcome.err().unwrap_or(0) };
         assert_eq!(said.0.refusal, refusal, "{step:?}: 75 exactly where the places are too few");
-        tally.preview(said.0, outcome.is_ok(), sends, places);
+        if site.field.plan == plans::blank() {
+            tally.count(format!("blank plan: {refusal}"));
+        } else {
+            tally.preview(said.0, outcome.is_ok(), sends, places);
+        }
         if places >= sends {
             enough = Some(said);
         }

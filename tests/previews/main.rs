@@ -1,9 +1,9 @@
 //! Compares the compiled preview of a step with the oracle, and with the step itself: steps of runs from setup, each
 //! previewed before it is taken; steps on fields that a host may make up, most of which no run reaches; fields that are
 //! damaged, each item of 31 by itself; sent counts about the ceiling; every set of faults at once; a module of many
-//! links, up to the largest number of messages. Each is made with an empty buffer, one that is just long enough, a
-//! longer one, and shorter ones. Answer and buffer must be the same, field and words stay. Prints counts, or panics at
-//! the first difference.
+//! links, up to the largest number of messages; fields of the blank plan. Each is made with an empty buffer, one that is
+//! just long enough, a longer one, and shorter ones. Answer and buffer must be the same, field and words stay. Prints
+//! counts, or panics at the first difference.
 
 mod calls;
 #[path = "../counts.rs"]
@@ -17,8 +17,9 @@ mod tally;
 
 use calls::{compare, Site};
 use faults::{ceilings, items_alone, orders, ALONE, CEILINGS};
-use oracle::field::{setup_value, waiting, Word, SERVE};
-use oracle::fields::{good_step, some_field, some_step, spoil};
+use muruapy::{Previewed, Record};
+use oracle::field::{setup_value, waiting, Word, HAND_OVER, SERVE, WAKE};
+use oracle::fields::{drawn, good_step, some_field, some_step, spoil};
 use oracle::frame::Message;
 use oracle::plans::{self, Readings};
 use oracle::rng::Rng;
@@ -32,6 +33,7 @@ const VALID: usize = 2500;
 const STEPS: usize = 3;
 const SPOILT: usize = 1500;
 const HUBS: usize = 160;
+const BLANK: usize = 100;
 
 /// Steps from setup on, of which most are taken, to rest or so many. How many they were.
 fn run(rng: &mut Rng, tally: &mut Tally, kind: &str) -> usize {
@@ -117,18 +119,40 @@ fn hubs(rng: &mut Rng, tally: &mut Tally) {
     }
 }
 
+/// What a step of each kind is refused by in a blank plan.
+const NOBODY: [(u8, u32); 5] = [(WAKE, 41), (HAND_OVER, 42), (SERVE, 41), (0, 54), (4, 54)];
+
+/// Fields of the blank plan, with words and without, and memory that is all zeros, which is one. No step is taken.
+fn blank_fields(rng: &mut Rng, tally: &mut Tally) {
+    for _ in 0..BLANK {
+        let mut site = Site::of(drawn(rng, &plans::blank()));
+        for (kind, refusal) in NOBODY {
+            let step = Step { kind, number: rng.pick(&[0, 1, 192, 1199, 65535]) };
+            assert_eq!(compare(rng, tally, &mut site, step), refusal, "{step:?}");
+            let shown = Record::ZEROS.preview(&site.words, kind, step.number, &mut []);
+            assert_eq!(shown, Previewed { refusal, count: 0 }, "{step:?} of zeros");
+        }
+        site.field.sent = rng.pick(&[1, 2, 65536]);
+        let step = some_step(rng, &site.field, &site.words);
+        assert_eq!(compare(rng, tally, &mut site, step), 31, "a sent count above 0");
+    }
+}
+
 fn main() {
     let mut rng = Rng::new(75);
     let mut tally = Tally::default();
-    let kinds = |i: usize| plans::KINDS[i % plans::KINDS.len()];
-    let from_setup: usize = (0..RUNS).map(|i| run(&mut rng, &mut tally, kinds(i))).sum();
+    // in a blank plan no run has a step
+    let kinds = plans::kinds_without(&["blank"]);
+    let from_setup: usize = (0..RUNS).map(|i| run(&mut rng, &mut tally, kinds[i % kinds.len()])).sum();
     valid_fields(&mut rng, &mut tally);
     spoilt_fields(&mut rng, &mut tally);
     items_alone(&mut rng, &mut tally);
     ceilings(&mut rng, &mut tally);
     let faulty = orders(&mut rng, &mut tally);
     hubs(&mut rng, &mut tally);
-    let made_up = VALID * STEPS + SPOILT + ALONE * items::WAYS.len() + 3 * CEILINGS + faulty + HUBS;
+    blank_fields(&mut rng, &mut tally);
+    let blank = BLANK * (NOBODY.len() + 1);
+    let made_up = VALID * STEPS + SPOILT + ALONE * items::WAYS.len() + 3 * CEILINGS + faulty + HUBS + blank;
     println!("previews: {} steps agree, {from_setup} of them in {RUNS} runs from setup", from_setup + made_up);
     tally.report();
 }

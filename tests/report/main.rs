@@ -28,14 +28,14 @@ fn samples() -> Vec<Input> {
     paths.map(|path| input(path.display().to_string(), std::fs::read(&path).unwrap())).collect()
 }
 
-/// A connected plan of each number of modules, the readings drawn in each way in turn.
+/// A connected plan of each number of modules, from 0 on, the readings drawn in each way in turn.
 fn each_size(rng: &mut Rng) -> Vec<Input> {
     let one = |n: u16| {
         let pairs = plans::connected(rng, n, n as usize + n as usize % 7 * 30);
         let readings = READINGS[n as usize % READINGS.len()];
         input(format!("{n} modules"), plans::plan(rng, n, pairs, readings).encode())
     };
-    (1..=MOST_MODULES).map(one).collect()
+    (0..=MOST_MODULES).map(one).collect()
 }
 
 /// Inputs about as long as the longest plan, as long as a length can tell, and longer.
@@ -52,6 +52,8 @@ fn long(rng: &mut Rng) -> Vec<Input> {
         input("the longest plan and a link", behind(8)),
         input("the longest plan and 100,000 bytes", behind(100_000)),
         input("length 65535, no links", head(1, 1, 65538)),
+        input("length 65535, nobody", head(1, 0, 65538)),
+        input("65538 zeros", vec![0; 65538]),
         input("length 65535, 193 modules", head(1, 193, 65538)),
         input("length 65535 and a byte missing", head(1, 1, 65537)),
         input("length 65535 and a byte behind", head(1, 1, 65539)),
@@ -89,13 +91,22 @@ fn equal_costs(plan: &Plan) -> (bool, bool) {
     (costs.len() < plan.links.len(), costs.len() < sums.len())
 }
 
+/// How often plans with N = 0 must be taken, refused by 15 and by 16: about half as often as with seed 7.
+const NOBODY: [(u32, usize); 3] = [(0, 49), (15, 13), (16, 21)];
+
 fn compare(inputs: &[Input], command: &[String]) {
     let (mut taken, mut ties, mut by_sum) = (0, 0, 0);
     let mut refused: BTreeMap<u32, usize> = BTreeMap::new();
+    let mut nobody: BTreeMap<u32, usize> = BTreeMap::new();
     for Input { name, bytes } in inputs {
         let expected = report(bytes);
         same_output(command, bytes, &expected, name);
-        match plan::read(bytes) {
+        let read = plan::read(bytes);
+        let answer = read.as_ref().err().copied().unwrap_or(0);
+        if (answer == 0 || answer > 13) && plan::be16(bytes, 3) == 0 {
+            *nobody.entry(answer).or_default() += 1;
+        }
+        match read {
             Ok(plan) => {
                 check_tree(&plan, &expected);
                 taken += 1;
@@ -113,7 +124,11 @@ fn compare(inputs: &[Input], command: &[String]) {
          different sums",
         inputs.len()
     );
-    println!("report: refusals and how often: {refused:?}");
+    println!("report: refusals and how often: {refused:?}; with N = 0: {nobody:?}");
+    for (answer, least) in NOBODY {
+        let times = nobody.get(&answer).copied().unwrap_or(0);
+        assert!(times >= least, "N = 0 was answered by {answer} {times} times, {least} wanted");
+    }
 }
 
 fn main() {

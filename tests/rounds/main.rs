@@ -1,6 +1,7 @@
 //! Compares the rounds of the benchmark's other side (tests/bench/rounds.rs, plain Rust on a field's record) with the
-//! oracle's: on fields from a woken module on, to rest, and on fields that a host may make up, valid and spoilt. Rounds
-//! completed, refusal, the whole record and all words must be the same. Prints counts, or panics at the first difference.
+//! oracle's: on fields from a woken module on, to rest, and on fields that a host may make up, valid and spoilt, those of
+//! the blank plan among them. Rounds completed, refusal, the whole record and all words must be the same. Prints counts, or
+//! panics at the first difference.
 
 #[path = "../muruapy.rs"]
 mod muruapy;
@@ -21,7 +22,9 @@ const WOKEN: usize = 90;
 const MADE_UP: usize = 1200;
 
 /// How each run must end, and how often at least: about half as often as with the seed of main.
-const LEAST: [(u32, usize); 4] = [(0, 190), (31, 85), (32, 280), (33, 35)];
+const LEAST: [(u32, usize); 4] = [(0, 220), (31, 95), (32, 240), (33, 35)];
+/// The same of the blank plan's.
+const BLANK: [(u32, usize); 2] = [(0, 55), (31, 10)];
 
 /// One run on both sides: its rounds and its refusal, or 0.
 fn compare(rng: &mut Rng, field: &Field, words: &[u64], limit: u16) -> (usize, u32) {
@@ -38,11 +41,12 @@ fn compare(rng: &mut Rng, field: &Field, words: &[u64], limit: u16) -> (usize, u
     got
 }
 
-/// Runs from one woken module to rest, on good plans of every kind.
+/// Runs from one woken module to rest, on good plans of every kind that has one.
 fn woken(rng: &mut Rng) -> usize {
     let mut completed = 0;
+    let kinds = plans::kinds_without(&["blank"]);
     for i in 0..WOKEN {
-        let plan = plans::good(rng, plans::KINDS[i % plans::KINDS.len()]);
+        let plan = plans::good(rng, kinds[i % kinds.len()]);
         let mut words = vec![7; plan.ceiling() as usize + rng.below(3)];
         let mut field = setup_value(plan, &mut words).expect("a good plan");
         let v = rng.below(field.plan.modules as usize) as u16;
@@ -54,9 +58,12 @@ fn woken(rng: &mut Rng) -> usize {
     completed
 }
 
-/// Runs of a few rounds on fields that a host may make up; how they end.
-fn made_up(rng: &mut Rng) -> BTreeMap<u32, usize> {
-    let mut ends = BTreeMap::new();
+/// How often runs end by each refusal, or by 0.
+type Ends = BTreeMap<u32, usize>;
+
+/// Runs of a few rounds on fields that a host may make up; how they end, all of them and those of the blank plan.
+fn made_up(rng: &mut Rng) -> (Ends, Ends) {
+    let (mut ends, mut blank) = (Ends::new(), Ends::new());
     for _ in 0..MADE_UP {
         let kind = rng.pick(&plans::KINDS);
         let plan = plans::good(rng, kind);
@@ -65,20 +72,30 @@ fn made_up(rng: &mut Rng) -> BTreeMap<u32, usize> {
             spoil(rng, &mut field, &mut words);
         }
         let limit = rng.pick(&[0, 1, 2, 3, 10, 65535]);
-        *ends.entry(compare(rng, &field, &words, limit).1).or_default() += 1;
+        let end = compare(rng, &field, &words, limit).1;
+        *ends.entry(end).or_default() += 1;
+        if plan == plans::blank() {
+            *blank.entry(end).or_default() += 1;
+        }
     }
-    ends
+    (ends, blank)
+}
+
+/// Says how runs end, each as often as wanted.
+fn report(what: &str, ends: &Ends, wanted: &[(u32, usize)]) {
+    let each: Vec<String> = ends.iter().map(|(refusal, times)| format!("{refusal} {times}")).collect();
+    println!("rounds: {what}, by refusal: {}", each.join("; "));
+    for (refusal, least) in wanted {
+        let times = ends.get(refusal).copied().unwrap_or(0);
+        assert!(times >= *least, "{what}: {refusal} came {times} times, {least} wanted");
+    }
 }
 
 fn main() {
     let mut rng = Rng::new(44);
     let completed = woken(&mut rng);
-    let ends = made_up(&mut rng);
-    let each: Vec<String> = ends.iter().map(|(refusal, times)| format!("{refusal} {times}")).collect();
+    let (ends, blank) = made_up(&mut rng);
     println!("rounds: {WOKEN} runs to rest, {completed} rounds, and {MADE_UP} on made-up fields agree");
-    println!("rounds: made-up fields, by refusal: {}", each.join("; "));
-    for (refusal, least) in LEAST {
-        let times = ends.get(&refusal).copied().unwrap_or(0);
-        assert!(times >= least, "{refusal} came {times} times, {least} wanted");
-    }
+    report("made-up fields", &ends, &LEAST);
+    report("those of the blank plan", &blank, &BLANK);
 }

@@ -1,22 +1,26 @@
 //! Compares the compiled setup, whole job, schedule check and schedule reader with the oracle. Setup and job: on plan
 //! values good and damaged, in words that hold anything, fewer than M, M and more; the answer, every word, every number of
-//! the field, which lay full of other numbers before.
+//! the field, which lay full of other numbers before. Blank plans are counted by themselves, and one is memory that is all
+//! zeros.
 //! The reader: on schedules good and damaged, opened, at every place and past the end. Prints counts, or panics at the first
 //! difference.
 
+#[path = "../counts.rs"]
+mod counts;
 #[path = "../muruapy.rs"]
 mod muruapy;
 
+use counts::{Counts, Wanted};
 use muruapy::{numbers, schedule_check, schedule_read, schedule_steps, Record};
 use oracle::field::{setup_value, HAND_OVER, SERVE, WAKE};
 use oracle::plan::{Link, Plan};
 use oracle::plans;
-use oracle::rounds;
+use oracle::report::job;
 use oracle::rng::Rng;
 use oracle::schedule::{encode, read, Reader, Step};
 use std::collections::BTreeMap;
 
-const GOOD: usize = 450;
+const GOOD: usize = 500;
 const DAMAGED: usize = 3000;
 const SCHEDULES: usize = 3000;
 const LONG: usize = 12;
@@ -27,27 +31,48 @@ type Least = [(u32, usize)];
 
 #[rustfmt::skip]
 const SETUPS: &Least =
-    &[(0, 2500), (14, 750), (15, 220), (16, 1600), (17, 700), (18, 400), (19, 900), (21, 1400)];
-const DONE: &Least = &[(0, 240), (14, 25), (15, 2), (16, 50), (17, 23), (18, 16), (19, 29), (21, 110)];
-const CHECKS: &Least = &[(0, 550), (51, 150), (52, 200), (53, 470), (54, 110)];
+    &[(0, 2700), (14, 670), (15, 240), (16, 2100), (17, 690), (18, 330), (19, 750), (21, 1270)];
+const DONE: &Least = &[(0, 250), (14, 21), (15, 8), (16, 73), (17, 10), (18, 12), (19, 22), (21, 100)];
+const CHECKS: &Least = &[(0, 550), (51, 150), (52, 200), (53, 470), (54, 95)];
 
-/// How often each answer came.
+/// The same of plans with N = 0.
+const SETUPS_OF_NOBODY: &Wanted =
+    &[("N = 0:", &[("taken, no words", 270), ("taken, some words", 180), ("15", 100), ("16", 640)])];
+const JOBS_OF_NOBODY: &Wanted = &[("N = 0:", &[("taken, no words", 13), ("taken, some words", 23), ("15", 3), ("16", 26)])];
+
+/// How often each answer came, and what came of plans with N = 0.
 #[derive(Default)]
-struct Tally(BTreeMap<u32, usize>);
+struct Tally {
+    answers: BTreeMap<u32, usize>,
+    nobody: Counts,
+}
 
 impl Tally {
     fn count(&mut self, answer: u32) {
-        *self.0.entry(answer).or_default() += 1;
+        *self.answers.entry(answer).or_default() += 1;
     }
 
-    fn report(&self, what: &str, least: &Least) {
-        let each: Vec<String> = self.0.iter().map(|(answer, times)| format!("{answer} {times}")).collect();
+    /// A call on a plan and so many words.
+    fn of_plan(&mut self, plan: &Plan, len: usize, answer: u32) {
+        self.count(answer);
+        if plan.modules == 0 {
+            self.nobody.count(match (answer, len) {
+                (0, 0) => "N = 0: taken, no words".to_string(),
+                (0, _) => "N = 0: taken, some words".to_string(),
+                _ => format!("N = 0: {answer}"),
+            });
+        }
+    }
+
+    fn report(&self, what: &str, least: &Least, of_nobody: &Wanted) {
+        let each: Vec<String> = self.answers.iter().map(|(answer, times)| format!("{answer} {times}")).collect();
         println!("setup: {what}, by answer: {}", each.join("; "));
         for (answer, least) in least {
-            let times = self.0.get(answer).copied().unwrap_or(0);
+            let times = self.answers.get(answer).copied().unwrap_or(0);
             assert!(times >= *least, "{what}: {answer} came {times} times, {least} wanted");
         }
-        assert_eq!(self.0.len(), least.len(), "{what}: no other answer");
+        assert_eq!(self.answers.len(), least.len(), "{what}: no other answer");
+        self.nobody.report(&format!("setup: {what}"), of_nobody);
     }
 }
 
@@ -66,7 +91,7 @@ fn compare_setup(rng: &mut Rng, tally: &mut Tally, plan: &Plan, len: usize) {
     assert!(given == before, "the lent plan stays");
     assert_eq!(words, expected, "the words, or those beside them, {len} of them, for {plan:?}");
     assert!(record == expected_record, "the field, or the one that lay there, {len} words, for {plan:?}");
-    tally.count(answer);
+    tally.of_plan(plan, len, answer);
 }
 
 /// Setup of a plan value in words of several numbers: M, one more or fewer, many more, none.
@@ -86,13 +111,10 @@ fn compare_job(rng: &mut Rng, tally: &mut Tally, plan: &Plan, len: usize) {
     let mut record = Record::any(rng);
     let mut expected = record.clone();
     let (mut done, mut refusal) = (0, 0);
-    match setup_value(plan.clone(), &mut expected_words) {
+    match job(plan.clone(), &mut expected_words) {
         Err(number) => refusal = number,
-        Ok(mut field) => {
-            field.step(&mut expected_words, WAKE, 0).expect("module 0 sleeps");
-            let answer = rounds::run(&mut field, &mut expected_words, 65535);
-            assert_eq!(answer.refusal, None, "a job is not refused past setup");
-            done = answer.done as usize;
+        Ok((field, rounds)) => {
+            done = rounds as usize;
             expected = Record::at_setup(&given);
             expected.put(&field);
         }
@@ -100,7 +122,7 @@ fn compare_job(rng: &mut Rng, tally: &mut Tally, plan: &Plan, len: usize) {
     assert_eq!(record.job(&given, &mut words), (done, refusal), "the job in {len} words, for {plan:?}");
     assert!(record == expected, "the field after the job in {len} words, for {plan:?}");
     assert!(words == expected_words, "the words after the job in {len} words, for {plan:?}");
-    tally.count(refusal);
+    tally.of_plan(plan, len, refusal);
 }
 
 /// Jobs on good plans in M words, more and fewer, and on damaged ones.
@@ -110,19 +132,37 @@ fn jobs(rng: &mut Rng, tally: &mut Tally) {
         let m = plan.ceiling() as usize;
         let len = if rng.once_in(4) { rng.below(m + 1) } else { m + rng.below(3) };
         compare_job(rng, tally, &plan, len);
-        let damaged = plans::damaged_value(rng);
+        let damaged = plans::some_value(rng, i);
         compare_job(rng, tally, &damaged, m);
     }
 }
 
-/// Document 01's refusals at their bounds, as values.
+/// A plan of zeros is blank: setup and the job take it, whatever record and words held.
+fn zeros(rng: &mut Rng) {
+    let plan = Record::ZEROS.plan;
+    for len in [0, 1, 9] {
+        let any: Vec<u64> = (0..len).map(|_| rng.next()).collect();
+        let (mut set_up, mut words) = (Record::any(rng), any.clone());
+        assert_eq!(set_up.setup(&plan, &mut words), 0, "setup of zeros");
+        assert!(set_up == Record::at_setup(&plan) && words == vec![0; len], "setup of zeros leaves something else");
+        let (mut done, mut words) = (Record::any(rng), any);
+        assert_eq!(done.job(&plan, &mut words), (0, 0), "the job on zeros");
+        assert!(done == set_up && words == vec![0; len], "the job on zeros leaves something else");
+    }
+}
+
+/// The documents' refusals at their bounds, as values.
 fn samples(rng: &mut Rng, tally: &mut Tally) {
     let link = |lower, higher, at_lower, at_higher| Link { lower, higher, at_lower, at_higher };
     let path = |n: u16| Plan { modules: n, links: (1..n).map(|v| link(v - 1, v, 2, 3)).collect() };
     let pair = |near, far| Plan { modules: 2, links: vec![link(0, 1, near, far)] };
     let none = |n| Plan { modules: n, links: vec![] };
+    let nobody = |l: usize| Plan { modules: 0, links: vec![link(0, 1, 3, 4); l] };
     for plan in [none(0), none(1), none(2), path(192), path(193), pair(2000, 0), pair(2001, 0), pair(0, 2001)] {
         setups(rng, tally, &plan);
+    }
+    for l in [1, 2, 600, 601] {
+        setups(rng, tally, &nobody(l));
     }
 }
 
@@ -206,12 +246,13 @@ fn main() {
     let mut rng = Rng::new(21);
     let (mut answers, mut checks) = (Tally::default(), Tally::default());
     samples(&mut rng, &mut answers);
+    zeros(&mut rng);
     for i in 0..GOOD {
         let plan = plans::good(&mut rng, plans::KINDS[i % plans::KINDS.len()]);
         setups(&mut rng, &mut answers, &plan);
     }
     for i in 0..DAMAGED {
-        let plan = if i % 40 == 0 { plans::too_many(&mut rng) } else { plans::damaged_value(&mut rng) };
+        let plan = plans::some_value(&mut rng, i);
         setups(&mut rng, &mut answers, &plan);
     }
     for _ in 0..SCHEDULES {
@@ -224,7 +265,7 @@ fn main() {
     println!("setup: {SCHEDULES} schedules and {LONG} long ones agree, at every place");
     let mut ends = Tally::default();
     jobs(&mut rng, &mut ends);
-    answers.report("setups", SETUPS);
-    ends.report("jobs", DONE);
-    checks.report("schedules", CHECKS);
+    answers.report("setups", SETUPS, SETUPS_OF_NOBODY);
+    ends.report("jobs", DONE, JOBS_OF_NOBODY);
+    checks.report("schedules", CHECKS, &[]);
 }

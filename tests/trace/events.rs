@@ -14,48 +14,55 @@ pub struct Events(BTreeMap<String, usize>);
 
 /// What must be reached, and how often at least in INPUTS inputs: about half as often as with seed 7.
 const INPUTS: usize = 3000;
-const WANTED: [(&str, usize); 41] = [
+const WANTED: [(&str, usize); 48] = [
     ("put back Connect", 16000),
     ("put back Test", 19000),
     ("put back Report", 13000),
-    ("put back Connect at a sleeper", 750),
+    ("put back Connect at a sleeper", 610),
     ("put back Test at a sleeper", 1800),
     ("woken by Connect", 2500),
     ("woken by Test", 1800),
-    ("woke without links", 58),
+    ("woke without links", 46),
     ("crossing Tests", 2100),
     ("Test of the own fragment on a branch link", 2400),
     ("Reject on a branch link", 2300),
     ("absorbed while Find", 4100),
     ("absorbed while Found", 100),
     ("absorbed while Found, 5 modules or more", 100),
-    ("several Initiates on one directed link", 8),
+    ("several Initiates on one directed link", 10),
     ("Connect against Connect: a new level", 5000),
     ("Report against a worse one: change-root", 1700),
     ("Report on the in-branch, earlier or equal: nothing", 1700),
     ("Change-root passed on", 85),
     ("Change-root to Connect", 220),
-    ("halted", 900),
-    ("at rest", 360),
+    ("halted", 770),
+    ("at rest", 290),
     ("level 3", 950),
     ("refused 11", 10),
-    ("refused 12", 10),
+    ("refused 12", 7),
     ("refused 13", 14),
-    ("refused 14", 6),
+    ("refused 14", 4),
     ("refused 15", 8),
     ("refused 16", 12),
-    ("refused 17", 2),
+    ("refused 17", 6),
     ("refused 18", 1),
     ("refused 19", 5),
     ("refused 41", 95),
-    ("refused 42", 110),
-    ("refused 43", 80),
+    ("refused 42", 94),
+    ("refused 43", 100),
     ("refused 44", 90),
-    ("refused 45", 115),
-    ("refused 51", 24),
-    ("refused 52", 21),
-    ("refused 53", 50),
-    ("refused 54", 21),
+    ("refused 45", 86),
+    ("refused 51", 20),
+    ("refused 52", 17),
+    ("refused 53", 65),
+    ("refused 54", 15),
+    ("N = 0: no steps", 53),
+    ("N = 0: refused 15", 1),
+    ("N = 0: refused 16", 3),
+    ("N = 0: refused 41", 13),
+    ("N = 0: refused 42", 13),
+    ("N = 0: refused 51", 3),
+    ("N = 0: refused 53", 3),
 ];
 
 impl Events {
@@ -85,24 +92,34 @@ impl Events {
         rare.map(|(event, _)| *event).collect()
     }
 
+    /// A refusal; those with nobody in the plan are counted by themselves.
+    fn refused(&mut self, nobody: bool, refusal: u32) {
+        self.count(&format!("{}refused {refusal}", if nobody { "N = 0: " } else { "" }));
+    }
+
     /// Runs one input and counts.
     pub fn observe(&mut self, input: &[u8]) {
         let (plan_bytes, schedule_bytes) = split(input);
-        let ceiling = match plan::read(plan_bytes) {
-            Ok(plan) => plan.ceiling() as usize,
-            Err(refusal) => return self.count(&format!("refused {refusal}")),
+        let plan = match plan::read(plan_bytes) {
+            Ok(plan) => plan,
+            Err(refusal) => {
+                let nobody = refusal > 13 && plan::be16(plan_bytes, 3) == 0;
+                return self.refused(nobody, refusal);
+            }
         };
-        let mut words = vec![0; ceiling];
+        let nobody = plan.modules == 0;
+        let mut words = vec![0; plan.ceiling() as usize];
         let mut field = setup(plan_bytes, &mut words).expect("the plan was taken");
         let steps = match schedule::read(schedule_bytes) {
             Ok(steps) => steps,
-            Err(refusal) => return self.count(&format!("refused {refusal}")),
+            Err(refusal) => return self.refused(nobody, refusal),
         };
         for step in steps {
             if let Err(refusal) = self.step(&mut field, &mut words, step) {
-                return self.count(&format!("refused {refusal}"));
+                return self.refused(nobody, refusal);
             }
         }
+        self.count_if(nobody, "N = 0: no steps");
         let rest = waiting(&words) == 0 && field.modules.iter().any(|m| m.status != ASLEEP);
         self.count_if(rest, "at rest");
     }

@@ -136,7 +136,8 @@ fn weighted(rng: &mut Rng, choices: &[(u64, Step)]) -> Option<Step> {
 fn refused_step(rng: &mut Rng, field: &Field, words: &[u64]) -> Option<Step> {
     let (n, d) = (field.plan.modules, 2 * field.plan.links.len() as u16);
     let beyond = |rng: &mut Rng, bound: u16| rng.pick(&[bound, bound + 1, 255, 256, 65535]).max(bound);
-    let wanted = rng.range(41, 45) as u32;
+    // in a blank plan nothing else can be met
+    let wanted = if n == 0 { rng.pick(&[41, 42]) } else { rng.range(41, 45) as u32 };
     for _ in 0..20 {
         let (kind, number) = match wanted {
             41 => (rng.pick(&[WAKE, SERVE]), beyond(rng, n)),
@@ -213,11 +214,13 @@ fn drawn_plan(rng: &mut Rng) -> Plan {
     if rng.once_in(3) {
         return pendants(rng);
     }
-    let kind = rng.pick(&["small", "small", "small", "complete", "ring", "path", "star", "tree", "medium", "single"]);
+    let kind = rng.pick(&[
+        "small", "small", "small", "complete", "ring", "path", "star", "tree", "medium", "single", "blank",
+    ]);
     loop {
         let plan = plans::good(rng, kind);
         // 5 modules or more show what smaller plans hide; large plans cost time
-        let few = plan.modules < 5 && kind != "single" && !rng.once_in(4);
+        let few = (2..5).contains(&plan.modules) && !rng.once_in(4);
         if !few && plan.ceiling() <= 600 {
             return plan;
         }

@@ -1,4 +1,4 @@
--- The limits of document 01: "N modules (1 to 192)", "L links (0 to 600)", readings "0 to 2000"; those of a byte.
+-- The limits of document 01: "N modules (1 to 192)", since request 04 from 0 on, "L links (0 to 600)", readings "0 to 2000"; those of a byte.
 use Prim.Native.Nat.{ℕ, _*_, _≤_}
 use mathlib.Core.List.{List}
 use lib.ListN.{getD}

@@ -4,7 +4,7 @@
 // "none" of document 01: no link.
 pub const NONE: u16 = 65535;
 
-// The largest plan: "N modules (1 to 192)", "L links (0 to 600)", readings "0 to 2000"; its ends of links and its ceiling.
+// The largest plan: "N modules (1 to 192)", since request 04 from 0 on, "L links (0 to 600)", readings "0 to 2000"; its ends of links and its ceiling.
 pub const MAX_MODULES: u16 = 192;
 
 pub const MAX_LINKS: u16 = 600;

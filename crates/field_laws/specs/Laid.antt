@@ -106,10 +106,10 @@ pub step-back : (h : Held) {kind number : ℕ} {s : State} → FieldStep (h .fie
 step-back h {s} t = waiting-back (length (h .words) - length (s .words)) (step-nonzero (h .field .plan) (stateOf h) (waiting-nonzero (h .words)) t)
 
 -- what 31 checks
-checked : (h : Held) → valid h ≡ true
+pub valid-parts : (h : Held) → valid h ≡ true
     → (planRefusal (h .field .plan) ≡ 0) × (leb (ceilingOf (h .field .plan)) (length (h .words)) ≡ true) × (zeroAfter (h .words) ≡ true) × (fits (h .field .plan) (stateOf h) ≡ true)
 unfolding valid
-checked h e =
+valid-parts h e =
     let p = h .field .plan in
     let a = and-eq-true-iff (eqb (planRefusal p) 0 && leb (ceilingOf p) (length (h .words)) && zeroAfter (h .words)) (fits p (stateOf h)) .0 e in
     let b = and-eq-true-iff (eqb (planRefusal p) 0 && leb (ceilingOf p) (length (h .words))) (zeroAfter (h .words)) .0 (a .0) in
@@ -126,7 +126,7 @@ module _ (kind number : ℕ) (h : Held) where
     passed = bool-cases (valid h) (λ v. v) (λ v. absurd (omega (arith, e, ap (λ a. a .refusal) (alone-31 kind number h v))))
 
     pub alone-plan : Accepted (h .field .plan)
-    alone-plan = accepted (h .field .plan) (checked h passed .0)
+    alone-plan = accepted (h .field .plan) (valid-parts h passed .0)
 
     -- taken alone, the step was taken in the field's state ..
     pub alone-took : FieldStep (h .field .plan) (stateOf h) kind number (stepHere .state)
@@ -149,7 +149,7 @@ module _ (h : Held) (i : Live h) where
   plan = h .field .plan
 
   checks : (planRefusal plan ≡ 0) × (leb (ceilingOf plan) (length (h .words)) ≡ true) × (zeroAfter (h .words) ≡ true) × (fits plan (stateOf h) ≡ true)
-  checks = checked h (i .valid)
+  checks = valid-parts h (i .valid)
 
   pub live-plan : Accepted plan
   live-plan = accepted plan (checks .0)

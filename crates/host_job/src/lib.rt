@@ -1,8 +1,10 @@
-// The whole job on one plan: setup, a wake of module 0, rounds until the field is at rest.
+// The whole job on one plan: setup, a wake of module 0 where there is one, rounds until the field is at rest.
 use field::Field;
 use field_calls::WAKE;
 use plan::Plan;
+ghost use Prim.Native.Nat.{min};
 ghost use mathlib.Core.Path.{_≡_};
+ghost use Rattle.plan.specs.Links.{modulesOf};
 ghost use Rattle.host_job.specs.Job.{jobRun};
 
 // "rounds with limit 65535"
@@ -13,6 +15,16 @@ pub struct JobDone {
     pub rounds: u16,
     pub refusal: u32,
     pub field: Field,
+}
+
+// How many modules are woken: module 0, where there is one.
+fn wakes(p: &Plan) -> u8
+    ensures { λ r. ⌜ r ≡ min (modulesOf (now (p .entry))) 1 ⌝ }
+{
+    if plan::modules(p) == 0 {
+        return 0;
+    }
+    1
 }
 
 pub fn run_job(p: &Plan, words: &mut [u64]) -> JobDone
@@ -28,7 +40,10 @@ pub fn run_job(p: &Plan, words: &mut [u64]) -> JobDone
             field: start,
         };
     }
-    let w = host_run::step(start, words, WAKE, 0);
+    // a schedule of as many steps, so that a plan with nobody in it takes no other way
+    let steps = wakes(p);
+    let schedule = [1, 0, 3 * steps, WAKE, 0, 0];
+    let w = host_run::run(start, words, &schedule[..3 + 3 * steps as usize]);
     let woken = w.field;
     if w.refusal != 0 {
         return JobDone {

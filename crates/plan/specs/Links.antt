@@ -17,7 +17,7 @@ planNumbers links = 2 + 4 * links
 abbrev pub planSize : ℕ
 planSize = planNumbers maxLinks
 
--- the plan of zeros that stands beside a refusal
+-- the plan of zeros: one with nobody in it (request 04), and what stands beside a refusal
 abbrev pub blank : Plan
 blank = replicate planSize 0
 

@@ -7,9 +7,9 @@ use Rattle.base.specs.Limits.{maxModules, maxLinks, maxReading}
 use Rattle.plan.specs.Links.{Plan, modulesOf, linksOf, lowerOf, higherOf, nearOf, farOf, graphOf}
 use Rattle.graph.specs.Decide.{connected}
 
--- "14 N is 0 or above 192; 15 L above 600 or not fitting the length": of a plan value and of its bytes
+-- "14 N .. above 192; 15 L above 600 or not fitting the length": of a plan value and of its bytes. (Request 04: "Refusal 14 is now only for N above 192")
 abbrev pub countsRefusal : ℕ → ℕ → Bool → ℕ
-countsRefusal n l fits = orElse (eqb n 0 || ltb maxModules n) 14 (orElse (ltb maxLinks l || not fits) 15 0)
+countsRefusal n l fits = orElse (ltb maxModules n) 14 (orElse (ltb maxLinks l || not fits) 15 0)
 
 -- "Links ascend strictly by (lower, higher)"
 unfoldable pub ascends : ℕ → ℕ → ℕ → ℕ → Bool

@@ -92,23 +92,19 @@ ends-inside p n z k l = let o = link-accepted p k (links-accepted p (linksOf p) 
 -- N AND L
 
 module _ (n l : ℕ) (fits : Bool) where
-  pub c-nobody : n ≡ 0 → 14 ≡ countsRefusal n l fits
-  c-nobody e = rw (eq-eqb n 0 e)
+  pub c-modules : maxModules < n → 14 ≡ countsRefusal n l fits
+  c-modules h = rw (lt-ltb maxModules n h)
 
-  module _ (a : n ≢ 0) where
-    pub c-modules : maxModules < n → 14 ≡ countsRefusal n l fits
-    c-modules h = rw (ne-eqb n 0 a, lt-ltb maxModules n h)
+  module _ (b : n ≤ maxModules) where
+    pub c-links : maxLinks < l → 15 ≡ countsRefusal n l fits
+    c-links h = rw (le-ltb maxModules n b, lt-ltb maxLinks l h)
 
-    module _ (b : n ≤ maxModules) where
-      pub c-links : maxLinks < l → 15 ≡ countsRefusal n l fits
-      c-links h = rw (ne-eqb n 0 a, le-ltb maxModules n b, lt-ltb maxLinks l h)
+    module _ (d : l ≤ maxLinks) where
+      pub c-length : fits ≡ false → 15 ≡ countsRefusal n l fits
+      c-length h = rw (le-ltb maxModules n b, le-ltb maxLinks l d, h)
 
-      module _ (d : l ≤ maxLinks) where
-        pub c-length : fits ≡ false → 15 ≡ countsRefusal n l fits
-        c-length h = rw (ne-eqb n 0 a, le-ltb maxModules n b, le-ltb maxLinks l d, h)
-
-        pub c-fine : fits ≡ true → 0 ≡ countsRefusal n l fits
-        c-fine h = rw (ne-eqb n 0 a, le-ltb maxModules n b, le-ltb maxLinks l d, h)
+      pub c-fine : fits ≡ true → 0 ≡ countsRefusal n l fits
+      c-fine h = rw (le-ltb maxModules n b, le-ltb maxLinks l d, h)
 
 pub c-limits : (n l : ℕ) {r : ℕ} → r ≡ countsRefusal n l true → r ≡ 0 → Counts n l
 c-limits n l e z = counted n l true (sym e ∙ z) .0

@@ -96,9 +96,6 @@ fn links_check(p: &Plan) -> u32
 pub fn counts_check(n: u16, l: u16, fits: bool) -> u32
     ensures { λ r. ⌜ r ≡ countsRefusal n l fits ⌝ }
 {
-    if n == 0 {
-        return 14;
-    }
     if MAX_MODULES < n {
         return 14;
     }

@@ -1,4 +1,4 @@
-// The reporting program: reads a plan on standard input, wakes module 0, runs rounds to rest and prints the tree that the
+// The reporting program: reads a plan on standard input, wakes module 0 where there is one, runs rounds to rest and prints the tree that the
 // field has come to. A refused plan prints one line, as "refused 19".
 ghost use mathlib.Core.Path.{_≡_};
 ghost use Rattle.format_text.specs.Input.{OfInput};

@@ -39,7 +39,7 @@ unfoldable pub endsText : List ℕ → ℕ → List ℕ
 endsText cells zero = []
 endsText cells (suc v) = endsText cells v ++ endText (nodeIn cells v .halted) v
 
--- "or "core none" for N = 1"
+-- "or "core none" for N = 1", and request 04: for N = 0
 unfoldable pub coreText : ℕ → List ℕ → List ℕ
 coreText n cells = cond (ltb n 2) (ascii "core none\n") (ascii "core" ++ endsText cells (min n maxModules) ++ ascii "\n")
 

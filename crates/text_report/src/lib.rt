@@ -113,7 +113,7 @@ fn ends<'a>(plan: &'a Plan, cells: &'a Cells, out: &mut [u8], at: usize) -> usiz
     a
 }
 
-// The ends of the core. A module alone halts too, and has no core.
+// The ends of the core. A module alone halts too, and has no core; nor has a plan with nobody in it.
 fn core<'a>(plan: &'a Plan, cells: &'a Cells, out: &mut [u8], at: usize) -> usize
     ensures { λ r. ⌜ page r (now (out .exit)) ≡ put (page at (now (out .entry))) (coreText (modulesOf (now (plan .entry))) (now (cells .entry))) ⌝ }
 {

@@ -1,7 +1,7 @@
 //! Writes the plans of samples/. `make_samples FOLDER`, by samples/make.
 
 use oracle::plan::{Link, Plan};
-use oracle::plans::{complete, connected, path, plan, ring, star, worse_reading, Readings};
+use oracle::plans::{blank, complete, connected, path, plan, ring, star, worse_reading, Readings};
 use oracle::report::report;
 use oracle::rng::Rng;
 
@@ -28,6 +28,7 @@ fn main() {
     let mut reading_2001 = two_modules();
     reading_2001.links[0].at_higher = 2001;
     let plans = [
+        ("blank", blank()),
         ("single", Plan { modules: 1, links: vec![] }),
         ("two-modules", two_modules()),
         ("triangle", triangle()),

@@ -1,36 +1,40 @@
--- What the whole job leaves, by demand 3: not refused, at rest within M + N rounds (`outcome`), and every module marks exactly the tree that the central
+-- What the whole job leaves, by demand 3: not refused, at rest within M + N rounds (`job-outcome`), and every module marks exactly the tree that the central
 -- builder writes (`same-tree`, `same-others`).
 use Prim.Native.Nat.{ℕ, _+_, _≤_, _<_}
 use native.Mathlib.Omega.{arith}
 use mathlib.Core.Path.{_≡_, refl, sym, ap, subst, _∙_}
 use mathlib.Core.Logic.{_≢_, _⊎_, inl, inr}
+use mathlib.Core.Bool.{true, cond}
 use mathlib.Core.List.{List, [], _∷_}
 use lib.ListN.{length, getD}
 use lib.Dec.{eqb, ltb}
-use borrow.Author.Tests.{eq-eqb, lt-leb}
-use Rattle.base.specs.laws.Cond.{bool-cases}
+use borrow.Author.Tests.{eq-eqb, ne-eqb, lt-leb}
+use Rattle.base.specs.laws.Cond.{bool-cases, by-eq}
+use Rattle.base.specs.Loop.{Ran, countedTurn, runs, runsTrace}
+use Rattle.base.specs.Test.{every}
 use Rattle.base.specs.Pool.{All, con}
 use Rattle.plan.specs.Links.{Plan, modulesOf, linksOf}
-use Rattle.plan.specs.laws.Accepted.{accepted}
+use Rattle.plan.specs.laws.Accepted.{Accepted, accepted}
 use Rattle.plan.specs.laws.Ceiling.{ceiling-small}
 use Rattle.node.specs.Work.{Work, ASLEEP, REFUSED, BRANCH, REJECTED}
 use Rattle.field.specs.Edges.{ceilingOf}
 use Rattle.field.specs.State.{State, nodeAt}
 use Rattle.field.specs.Step.{carryOut, wake, WAKE, step}
-use Rattle.field.specs.Held.{Held, stateOf, setUp, stepAlone}
-use Rattle.field_calls.specs.Call.{Call, one, rounds, after, answers, does, runRounds}
-use Rattle.field_calls.specs.Trail.{trail, stepsOf, ifTaken, messagesSent, wokenIn, wakesOne}
+use Rattle.field.specs.Held.{Held, stateOf, valid, setUp}
+use Rattle.field_calls.specs.Schedule.{scheduleRefusal}
+use Rattle.field_calls.specs.Call.{Call, run, rounds, after, answers, does, laidBack, runBytes, runRounds}
+use Rattle.field_calls.specs.Trail.{stepTaken, trail, stepsOf, ifTaken, messagesSent, wokenIn, wakesOne}
 use Rattle.field_calls.specs.Demand.{BothSay, Agreed, Allowed, ComesToRest, Claim}
 use Rattle.field_laws.specs.After.{started, begun-live, fresh-node}
 use Rattle.field_laws.specs.Laid.{Live}
 use Rattle.demand.specs.Demand.{demand3}
 use Rattle.plan_tree.specs.Tree.{centralTree}
 use Rattle.plan_tree.specs.laws.Theorems.{written-tree, tree-written}
-use Rattle.host_job.specs.Job.{maxRounds, next, jobRun}
+use Rattle.host_job.specs.Job.{jobWakes, maxRounds, jobRun}
 
 -- the calls that it makes
-abbrev pub calls : List Call
-calls = one WAKE 0 ∷ rounds maxRounds ∷ []
+abbrev pub calls : Plan → List Call
+calls p = run (jobWakes p) ∷ rounds maxRounds ∷ []
 
 -- 0, 32 or 33
 abbrev CarriedAs : ℕ → Type 0
@@ -42,30 +46,46 @@ unfolding carryOut
 carry-only p v w s words back = bool-cases (eqb (w .answer) REFUSED) (λ e. rw e (inr (inl refl)))
     (λ e. rw e (bool-cases (ltb (ceilingOf p) (s .sent + length (w .sends))) (λ b. rw b (inr (inr refl))) (λ b. rw b (inl refl))))
 
-wake-only : (h : Held) → Live h → 0 < modulesOf (h .field .plan) → nodeAt (stateOf h) 0 .status ≡ ASLEEP → CarriedAs (stepAlone WAKE 0 h .refusal)
-unfolding stepAlone step wake
-wake-only h i l e = rw (i .valid, lt-leb (modulesOf (h .field .plan)) 0 l, eq-eqb _ ASLEEP e) (carry-only (h .field .plan) 0 _ (stateOf h) (stateOf h .words) [])
+wake-only : (p : Plan) (s : State) → 0 < modulesOf p → nodeAt s 0 .status ≡ ASLEEP → CarriedAs (step p WAKE 0 s .refusal)
+unfolding step wake
+wake-only p s l e = rw (lt-leb (modulesOf p) 0 l, eq-eqb _ ASLEEP e) (carry-only p 0 _ s (s .words) [])
+
+-- the run of the wakes, where there is nobody and where there is
+wakes-none : (p : Plan) (h : Held) → valid h ≡ true → modulesOf p ≡ 0 → runBytes (jobWakes p) h ≡ laidBack h (record { done = 0; refusal = 0; state = stateOf h })
+unfolding runBytes scheduleRefusal runs every
+wakes-none p h i e = rw (i, eq-eqb _ 0 e) refl
+
+wakes-one : (p : Plan) (h : Held) → valid h ≡ true → modulesOf p ≢ 0 → runBytes (jobWakes p) h ≡ laidBack h (countedTurn 0 (step (h .field .plan) WAKE 0 (stateOf h)))
+unfolding runBytes scheduleRefusal runs every
+wakes-one p h i n = rw (i, ne-eqb _ 0 n) refl
 
 -- what demand 3 leaves of these
-unrefused : (r : ℕ) → CarriedAs r → Allowed (one WAKE 0) r → r ≡ 0
-unrefused r (inl e) a = e
-unrefused r (inr (inl e)) (inl z) = z
-unrefused r (inr (inl e)) (inr (inl h)) = omega (arith, h .0)
-unrefused r (inr (inl e)) (inr (inr h)) = omega (arith, h .0)
-unrefused r (inr (inr e)) (inl z) = z
-unrefused r (inr (inr e)) (inr (inl h)) = omega (arith, h .0)
-unrefused r (inr (inr e)) (inr (inr h)) = omega (arith, h .0)
+unrefused : (r : ℕ) (bytes : List ℕ) → CarriedAs r → Allowed (run bytes) r → r ≡ 0
+unrefused r b (inl e) a = e
+unrefused r b (inr (inl e)) (inl z) = z
+unrefused r b (inr (inl e)) (inr (inl h)) = omega (arith, h .0)
+unrefused r b (inr (inl e)) (inr (inr h)) = omega (arith, h .0)
+unrefused r b (inr (inr e)) (inl z) = z
+unrefused r b (inr (inr e)) (inr (inl h)) = omega (arith, h .0)
+unrefused r b (inr (inr e)) (inr (inr h)) = omega (arith, h .0)
 
 head : {A : Type 0} {P : A → Type 0} {x : A} {l : List A} → All P (x ∷ l) → P x
 head (con h t) = h
 
 -- then a module was woken
-woken : (p : Plan) (h : Held) → Live h → stepAlone WAKE 0 h .refusal ≡ 0 → (cs : List Call) → wokenIn p (trail (one WAKE 0 ∷ cs) h) ≢ []
-unfolding stepAlone trail stepsOf ifTaken wokenIn wakesOne
-woken p h i z cs e =
-    let y : step (h .field .plan) 1 0 (stateOf h) .refusal ≡ 0 = rw (i .valid) at z in
-    let f = rw (i .valid, eq-eqb _ 0 y) at e in
+woken : (p : Plan) (h : Held) → valid h ≡ true → modulesOf p ≢ 0 → step (h .field .plan) WAKE 0 (stateOf h) .refusal ≡ 0 → (cs : List Call) → wokenIn p (trail (run (jobWakes p) ∷ cs) h) ≢ []
+unfolding trail stepsOf ifTaken wokenIn wakesOne scheduleRefusal every runs runsTrace
+woken p h i n z cs e =
+    let f = rw (i, ne-eqb _ 0 n, eq-eqb _ 0 z) at e in
     omega (arith, ap length f)
+
+-- where there is nobody, there is nothing to agree on
+nobody-agrees : (p : Plan) (s : State) → Accepted p → modulesOf p ≡ 0 → Agreed p s
+nobody-agrees p s a e = record {
+  tree = λ k l t. absurd (omega (arith, a .each k l .inside));
+  others = λ k l t. absurd (omega (arith, a .each k l .inside));
+  core = λ m. absurd (omega arith);
+}
 
 module _ (p : Plan) (lent : List ℕ) (ok : setUp p lent .refusal ≡ 0) where
   abbrev start : Held
@@ -74,45 +94,62 @@ module _ (p : Plan) (lent : List ℕ) (ok : setUp p lent .refusal ≡ 0) where
   live : Live start
   live = let q = started p lent ok in subst Live (sym (q .is)) (begun-live p lent (q .plan) (q .room))
 
-  first : Claim p start (one WAKE 0 ∷ [])
-  first = demand3 p lent ok (one WAKE 0 ∷ [])
+  first : Claim p start (run (jobWakes p) ∷ [])
+  first = demand3 p lent ok (run (jobWakes p) ∷ [])
 
-  whole : Claim p start calls
-  whole = demand3 p lent ok calls
+  whole : Claim p start (calls p)
+  whole = demand3 p lent ok (calls p)
 
-  -- module 0 is there and asleep: the wake is taken
-  wakes : stepAlone WAKE 0 start .refusal ≡ 0
+  own : start .field .plan ≡ p
+  own = ap (λ (h : Held). h .field .plan) (started p lent ok .is)
+
+  -- where there is somebody, module 0 is asleep: the wake is taken
+  taken : modulesOf p ≢ 0 → step (start .field .plan) WAKE 0 (stateOf start) .refusal ≡ 0
   unfolding answers does
-  wakes =
+  taken n =
       let q = started p lent ok in
       let asleep : nodeAt (stateOf start) 0 .status ≡ ASLEEP = ap (λ h. nodeAt (stateOf h) 0 .status) (q .is) ∙ ap (λ n. n .status) (fresh-node 0 (omega arith)) in
-      let some : 0 < modulesOf (start .field .plan) = subst (λ (h : Held). 0 < modulesOf (h .field .plan)) (sym (q .is)) (accepted p (q .plan) .someone) in
-      unrefused _ (wake-only start live some asleep) (head (first .refusals))
+      let some : 0 < modulesOf (start .field .plan) = omega (arith, ap modulesOf own) in
+      unrefused _ (jobWakes p) (wake-only (start .field .plan) (stateOf start) some asleep)
+      (subst (Allowed (run (jobWakes p))) (ap (λ (r : Ran Held). r .refusal) (wakes-one p start (live .valid) n)) (head (first .refusals)))
+
+  wakes : runBytes (jobWakes p) start .refusal ≡ 0
+  wakes = by-eq (modulesOf p) 0
+      (λ e. ap (λ (r : Ran Held). r .refusal) (wakes-none p start (live .valid) e))
+      (λ n. ap (λ (r : Ran Held). r .refusal) (wakes-one p start (live .valid) n) ∙ taken n)
 
   -- M + N is below the limit
   room : ceilingOf p + modulesOf p ≤ maxRounds
   room = let k = started p lent ok .plan in omega (arith, ceiling-small p k, accepted p k .modulesOk)
 
   -- so the job is that list of calls
-  pub job-is : jobRun p lent ≡ runRounds maxRounds (stepAlone WAKE 0 start .state)
-  unfolding jobRun next
+  pub job-is : jobRun p lent ≡ runRounds maxRounds (runBytes (jobWakes p) start .state)
+  unfolding jobRun
   job-is = rw (ok, wakes) refl
 
   -- AT THE END: "comes to rest unrefused within N more rounds than the ceiling"; the sent count is exact and within the ceiling; all modules
   -- agree on the tree, and exactly the ends of one tree link have halted
   pub record JobOutcome : Type 0 where
+    -- "wakes module 0"; request 04: "skips the wake" where there is nobody
+    pub wakes : trail (run (jobWakes p) ∷ []) start ≡ cond (eqb (modulesOf p) 0) [] (stepTaken WAKE 0 (stateOf start) ∷ [])
     pub rests : ComesToRest p (jobRun p lent)
-    pub exact : stateOf (jobRun p lent .state) .sent ≡ messagesSent p (trail calls start)
+    pub exact : stateOf (jobRun p lent .state) .sent ≡ messagesSent p (trail (calls p) start)
     pub ceiling : stateOf (jobRun p lent .state) .sent ≤ ceilingOf p
     pub agreed : Agreed p (stateOf (jobRun p lent .state))
+
+  waking : trail (run (jobWakes p) ∷ []) start ≡ cond (eqb (modulesOf p) 0) [] (stepTaken WAKE 0 (stateOf start) ∷ [])
+  unfolding trail stepsOf ifTaken scheduleRefusal every runs runsTrace
+  waking = by-eq (modulesOf p) 0 (λ e. rw (live .valid, eq-eqb _ 0 e) refl) (λ n. rw (live .valid, ne-eqb _ 0 n, eq-eqb _ 0 (taken n)) refl)
 
   pub job-outcome : JobOutcome
   unfolding after does
   job-outcome = record {
+    wakes = waking;
     rests = rw job-is (first .rests maxRounds room);
     exact = rw job-is (whole .exact);
     ceiling = rw job-is (whole .ceiling);
-    agreed = rw job-is (whole .agreed (woken p start live wakes _) (first .rests maxRounds room .rest));
+    agreed = by-eq (modulesOf p) 0 (nobody-agrees p _ (accepted p (started p lent ok .plan)))
+        (λ n. rw job-is (whole .agreed (woken p start (live .valid) n (taken n) _) (first .rests maxRounds room .rest)));
   }
 
   -- THE TREE OF THE CENTRAL BUILDER: both ends of a link say branch where its byte is 1, rejected where it is 0

@@ -9,7 +9,7 @@ use Rattle.plan.specs.Links.{Plan}
 use Rattle.field.specs.declared.Field.{Field}
 use Rattle.field.specs.Held.{Held, setUp}
 use Rattle.field_calls.specs.Call.{refusedRun}
-use Rattle.host_job.specs.Job.{next, jobRun}
+use Rattle.host_job.specs.Job.{jobRun}
 use Rattle.host_job.specs.laws.Agrees.{job-outcome}
 use Rattle.library_field.specs.laws.Lent.{refused-words}
 use Rattle.library_job.specs.Lent.{jobInto}
@@ -19,7 +19,7 @@ job-by-setup p lent n ok = n (job-outcome p lent ok .rests .unrefused)
 
 -- then nothing is done but setup
 pub job-stops : (p : Plan) (lent : List ℕ) → setUp p lent .refusal ≢ 0 → jobRun p lent ≡ refusedRun (setUp p lent .refusal) (setUp p lent .state)
-unfolding jobRun next
+unfolding jobRun
 job-stops p lent n = rw (eqb-diff _ 0 n) refl
 
 pub job-alters-nothing : (p : Plan) (h : Held) → jobInto p h .refusal ≢ 0 → jobInto p h .state ≡ h

@@ -4,7 +4,7 @@ use Prim.Native.Nat.{ℕ, zero, suc, _+_, _≤_, _<_}
 use native.Mathlib.Omega.{arith}
 use mathlib.Core.Path.{_≡_, refl, subst}
 use mathlib.Core.Bool.{Bool, true}
-use borrow.Author.Tests.{ltb-false, leb-false, le-ltb, lt-leb, eqb-false, ne-eqb, not-false}
+use borrow.Author.Tests.{ltb-false, leb-false, le-ltb, lt-leb, not-false}
 use Rattle.base.specs.laws.Cond.{by-eq}
 use Rattle.base.specs.Limits.{maxModules, maxLinks, maxReading}
 use Rattle.base.specs.laws.Refuse.{orElse-zero, firstRefusal-zero, zero-firstRefusal, or-false}
@@ -22,7 +22,6 @@ pub record LinkOk (p : Plan) (k : ℕ) : Type 0 where
   pub farOk : farOf p k ≤ maxReading
 
 pub record Accepted (p : Plan) : Type 0 where
-  pub someone : 1 ≤ modulesOf p
   pub modulesOk : modulesOf p ≤ maxModules
   pub linksOk : linksOf p ≤ maxLinks
   pub each : (k : ℕ) → k < linksOf p → LinkOk p k
@@ -30,7 +29,6 @@ pub record Accepted (p : Plan) : Type 0 where
 
 -- N and L within their limits
 pub record Counts (n l : ℕ) : Type 0 where
-  pub someone : 1 ≤ n
   pub modulesOk : n ≤ maxModules
   pub linksOk : l ≤ maxLinks
 
@@ -38,18 +36,11 @@ pub counted : (n l : ℕ) (fits : Bool) → countsRefusal n l fits ≡ 0 → Cou
 counted n l fits h =
     let f14 = orElse-zero _ 13 h in
     let f15 = orElse-zero _ 14 (f14 .1) in
-    let a = or-false _ _ (f14 .0) in
     let b = or-false _ _ (f15 .0) in
-    (record { someone = nonzero (eqb-false n 0 (a .0)); modulesOk = ltb-false _ _ (a .1); linksOk = ltb-false _ _ (b .0) }, not-false _ (b .1))
-  where
-    nonzero : (n ≡ 0 → ⊥) → 1 ≤ n
-    nonzero d = omega arith
+    (record { modulesOk = ltb-false _ _ (f14 .0); linksOk = ltb-false _ _ (b .0) }, not-false _ (b .1))
 
 pub counted-back : (n l : ℕ) → Counts n l → countsRefusal n l true ≡ 0
-counted-back n l o = rw (ne-eqb n 0 nobody, le-ltb maxModules n (o .modulesOk), le-ltb maxLinks l (o .linksOk))
-  where
-    nobody : n ≡ 0 → ⊥
-    nobody e = omega (arith, o .someone)
+counted-back n l o = rw (le-ltb maxModules n (o .modulesOk), le-ltb maxLinks l (o .linksOk))
 
 module _ (p : Plan) where
   pub link-accepted : (k : ℕ) → linkRefusal p k ≡ 0 → LinkOk p k
@@ -98,7 +89,6 @@ module _ (p : Plan) where
       let fl = firstRefusal-zero _ (f .1) in
       let f19 = orElse-zero _ 18 (fl .1) in
       record {
-        someone = o .someone;
         modulesOk = o .modulesOk;
         linksOk = o .linksOk;
         each = λ k l. link-accepted k (links-accepted (linksOf p) 0 (fl .0) k (omega arith) (omega arith));
@@ -109,5 +99,5 @@ module _ (p : Plan) where
   pub accepted-back : Accepted p → planRefusal p ≡ 0
   unfolding planRefusal
   accepted-back a =
-      zero-firstRefusal (counted-back (modulesOf p) (linksOf p) (record { someone = a .someone; modulesOk = a .modulesOk; linksOk = a .linksOk }))
+      zero-firstRefusal (counted-back (modulesOf p) (linksOf p) (record { modulesOk = a .modulesOk; linksOk = a .linksOk }))
       (zero-firstRefusal (accepted-links (linksOf p) 0 (λ j l m. accepted-link j (a .each j (omega arith)))) (rw (ways-connected (graphOf p) (modulesOf p) (a .whole))))

@@ -37,7 +37,6 @@ module _ {p q : Plan} (e : Same p q) where
 
   pub same-accepted : Accepted p → Accepted q
   same-accepted a = record {
-    someone = omega (arith, a .someone, e .modules);
     modulesOk = omega (arith, a .modulesOk, e .modules);
     linksOk = omega (arith, a .linksOk, e .links);
     each = λ k l. let m : k < linksOf p = omega (arith, e .links) in same-link k m (a .each k m);

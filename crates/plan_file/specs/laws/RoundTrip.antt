@@ -65,7 +65,7 @@ module _ (p : Plan) where
     version = refl;
     len = number-of 1 ((4 + 8 * linksOf p) ∷ ownNumbers) 0 (omega arith) ∙ rw (number-encode 1 (omega arith));
     size = length-encode p ∙ rw (number-encode 1 (omega arith));
-    counts = rw (number-encode 0 (omega arith), number-encode 1 (omega arith)) (record { someone = a .someone; modulesOk = a .modulesOk; linksOk = a .linksOk });
+    counts = rw (number-encode 0 (omega arith), number-encode 1 (omega arith)) (record { modulesOk = a .modulesOk; linksOk = a .linksOk });
   }
 
   pub written-taken : planRefusal p ≡ 0 → readRefusal (encode p) ≡ 0

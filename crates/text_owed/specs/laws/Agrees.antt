@@ -67,7 +67,7 @@ module _ (s : List ℕ) (z : readPlan s .refusal ≡ 0) where
   own-plan =
       let q = started p lent set in
       let live : Live (setUp p lent .state) = subst Live (sym (q .is)) (begun-live p lent (q .plan) (q .room)) in
-      ap (λ (r : Ran Held). r .state .field .plan) (job-is p lent set) ∙ after-plan calls (setUp p lent .state) live ∙ ap (λ (h : Held). h .field .plan) (q .is)
+      ap (λ (r : Ran Held). r .state .field .plan) (job-is p lent set) ∙ after-plan (calls p) (setUp p lent .state) live ∙ ap (λ (h : Held). h .field .plan) (q .is)
 
   -- the lower end of a link marks it 1 where the tree has it, 2 elsewhere
   marked : MarksTree p (ran .state .field .marks) (linksOf p)
@@ -110,7 +110,7 @@ module _ (s : List ℕ) (z : readPlan s .refusal ≡ 0) where
     pub says : reported s
         ≡ sizesText (modulesOf p) (linksOf p) ++ treeLines p (linksOf p) ++ line "total " (totalCost (graphOf p) (cost p) (treeLink p)) ++ core
         ++ tailText (ran .state .field .sent) (ceilingOf p) (ran .done)
-    pub alone : modulesOf p ≡ 1 → core ≡ ascii "core none\n"
+    pub alone : modulesOf p < 2 → core ≡ ascii "core none\n"
     pub others : 2 ≤ modulesOf p → CoreNamed core
     pub within : ran .state .field .sent ≤ ceilingOf p
     pub soon : ran .done ≤ ceilingOf p + modulesOf p
@@ -122,7 +122,7 @@ module _ (s : List ℕ) (z : readPlan s .refusal ≡ 0) where
     says = never-refused
         ∙ report-of (ran .state .field) (ran .done) p own-plan (accepted p (read-taken s (readPlan s) refl z) .linksOk)
         (lines-tree p _ (linksOf p) marked) (total-tree p _ (linksOf p) marked) refl;
-    alone = λ e. core-none (modulesOf p) _ (omega arith);
+    alone = λ l. core-none (modulesOf p) _ l;
     others = core-named;
     within = job-outcome p lent set .ceiling;
     soon = job-outcome p lent set .rests .within;

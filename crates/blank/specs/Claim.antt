@@ -1,0 +1,103 @@
+-- Document 02's request 04, "A plan with nobody in it", as one type (`BlankClaim`).
+use Prim.Native.Nat.{ℕ, _≤_, _<_}
+use mathlib.Core.Path.{_≡_}
+use mathlib.Core.Logic.{_↔_}
+use mathlib.Core.Bool.{true, cond}
+use mathlib.Core.List.{List, [], _∷_, _++_}
+use lib.ListN.{length, drop, replicate}
+use lib.Dec.{eqb}
+use Rattle.base.specs.Limits.{maxModules, maxLinks, AllBytes}
+use Rattle.base.specs.Loop.{takenTo, refusedBy}
+use Rattle.base.specs.Refuse.{firstRefusal}
+use Rattle.format_text.specs.Ascii.{ascii}
+use Rattle.plan.specs.Links.{Plan, modulesOf, linksOf}
+use Rattle.plan.specs.Refusal.{planRefusal}
+use Rattle.plan_file.specs.Layout.{numberAt}
+use Rattle.plan_file.specs.Reading.{headRefusal, readPlan}
+use Rattle.plan_file.specs.Writing.{writePlan}
+use Rattle.plan_tree.specs.Tree.{centralTree}
+use Rattle.field.specs.Edges.{limitOf, ceilingOf}
+use Rattle.field.specs.Step.{WAKE, HAND, SERVE}
+use Rattle.field.specs.Held.{Held, fresh, valid, setUp, stepAlone}
+use Rattle.field_calls.specs.Schedule.{scheduleRefusal, stepsIn, kindOf}
+use Rattle.field_calls.specs.Call.{Call, after, refusedRun, runBytes, runRounds}
+use Rattle.field_calls.specs.Trail.{trail}
+use Rattle.preview.specs.Preview.{preview, notShown}
+use Rattle.cue.specs.declared.Cue.{Cue}
+use Rattle.cue.specs.declared.Delivery.the-variants.{Refused}
+use Rattle.cue.specs.Calls.{startCue, deliverCue}
+use Rattle.host_job.specs.Job.{jobRun}
+use Rattle.text_owed.specs.Reported.{reported}
+
+-- "A plan with N = 0 and L = 0": whatever stands behind these two numbers
+pub record Blank (p : Plan) : Type 0 where
+  pub nobody : modulesOf p ≡ 0
+  pub unlinked : linksOf p ≡ 0
+
+-- its bytes: version, length, N, L
+abbrev pub blankBytes : List ℕ
+blankBytes = 0x01 ∷ 0x00 ∷ 0x04 ∷ 0x00 ∷ 0x00 ∷ 0x00 ∷ 0x00 ∷ []
+
+-- so many words, all 0
+abbrev pub zeroWords : ℕ → List ℕ
+zeroWords n = replicate n 0
+
+-- what it prints: "zero modules, links and total, no branch lines, "core none", "messages 0 of 0" and "rounds 0""
+abbrev pub blankReport : List ℕ
+blankReport = ascii "modules 0\nlinks 0\ntotal 0\ncore none\nmessages 0 of 0\nrounds 0\n"
+
+-- what a step meets, by its kind: "waking anything meets 41", and so does serving; a hand-over meets 42; other kinds 54 as ever
+abbrev pub blankStep : ℕ → ℕ
+blankStep kind = cond (eqb kind WAKE) 41 (cond (eqb kind HAND) 42 (cond (eqb kind SERVE) 41 54))
+
+-- what a run of a schedule meets: its own refusals, then that of its first step, where it has one
+abbrev pub blankRun : List ℕ → ℕ
+blankRun bytes = firstRefusal (scheduleRefusal bytes) (cond (eqb (stepsIn bytes) 0) 0 (blankStep (kindOf bytes 0)))
+
+-- a field of such a plan, however made, that 31 lets pass
+pub record OnBlankField (h : Held) : Type 0 where
+  -- "waking anything meets 41"
+  pub steps : (kind number : ℕ) → stepAlone kind number h ≡ refusedBy (blankStep kind) h
+  pub previews : (kind number : ℕ) (buffer : List ℕ) → preview kind number h buffer ≡ notShown (blankStep kind) buffer
+  -- no step is done, whatever the schedule
+  pub runs : (bytes : List ℕ) → runBytes bytes h ≡ refusedRun (blankRun bytes) h
+  -- "its field is at rest"
+  pub rounds : (limit : ℕ) → runRounds limit h ≡ record { done = 0; refusal = 0; state = h }
+  -- no list of calls takes a step, so nobody is ever woken, and field and words are as they were
+  -- ("What is claimed about finished fields still begins with a woken module.")
+  pub still : (calls : List Call) → trail calls h ≡ []
+  pub same : (calls : List Call) → after calls h ≡ h
+  -- a cue is not started, whatever its sender and the records; none is delivered, since no sending left these
+  pub start : (cues : List Cue) (sender cue : ℕ) → startCue h cues sender cue ≡ refusedBy 72 cues
+  pub deliver : (cues : List Cue) (d : ℕ) → deliverCue h cues d ≡ record { answer = Refused 73; cues = cues }
+
+pub record BlankPlan (p : Plan) : Type 0 where
+  -- "is accepted"
+  pub accepted : planRefusal p ≡ 0
+  pub written : (out : List ℕ) → 7 ≤ length out → writePlan p out ≡ takenTo (blankBytes ++ drop 7 out)
+  pub short : (out : List ℕ) → length out < 7 → writePlan p out ≡ refusedBy 22 out
+  -- "Its ceiling is 0", and so is its highest level, the logarithm of 0: however few words are lent, they are enough
+  pub ceiling : ceilingOf p ≡ 0
+  pub limit : limitOf p ≡ 0
+  pub set : (lent : List ℕ) → setUp p lent ≡ takenTo (record { field = fresh p; words = zeroWords (length lent) })
+  -- "its field is at rest": 31 lets pass whatever has nothing sent and nothing waiting
+  pub field : (h : Held) → h .field .plan ≡ p → (valid h ≡ true) ↔ ((h .field .sent ≡ 0) × (h .words ≡ zeroWords (length (h .words))))
+  pub calls : (h : Held) → h .field .plan ≡ p → valid h ≡ true → OnBlankField h
+  -- "its tree is empty"
+  pub tree : centralTree p [] ≡ takenTo []
+  pub others : (x : ℕ) (out : List ℕ) → centralTree p (x ∷ out) ≡ refusedBy 20 (x ∷ out)
+  -- "The program skips the wake": the job leaves what setup leaves
+  pub job : (lent : List ℕ) → jobRun p lent ≡ record { done = 0; refusal = 0; state = setUp p lent .state }
+
+pub record BlankClaim : Type 0 where
+  pub blank : (p : Plan) → Blank p → BlankPlan p
+  -- of all bytes these are read as such a plan
+  pub read : (s : List ℕ) → AllBytes s → ((readPlan s .refusal ≡ 0) × Blank (readPlan s .plan)) ↔ (s ≡ blankBytes)
+  -- "The program .. prints"
+  pub prints : reported blankBytes ≡ blankReport
+  -- "Refusal 14 is now only for N above 192": of plan values, and of bytes
+  pub above : (p : Plan) → (planRefusal p ≡ 14) ↔ (maxModules < modulesOf p)
+  pub bytesAbove : (s : List ℕ) → readPlan s .refusal ≡ 14 → maxModules < numberAt s 1
+  -- "a link in such a plan meets 16": of plan values, and of bytes that meet none of 11 to 15
+  pub link : (p : Plan) → modulesOf p ≡ 0 → 0 < linksOf p → linksOf p ≤ maxLinks → planRefusal p ≡ 16
+  pub bytesLink : (s : List ℕ) → headRefusal s ≡ 0 → numberAt s 1 ≡ 0 → 0 < numberAt s 2 → readPlan s .refusal ≡ 16

@@ -1,0 +1,33 @@
+-- REQUEST 04 HOLDS (`blank-claim`).
+use mathlib.Core.Path.{subst, sym}
+use Rattle.plan.specs.Links.{Plan}
+use Rattle.blank.specs.Claim.{Blank, BlankPlan, BlankClaim}
+use Rattle.blank.specs.laws.Plans.{blank-taken, blank-ceiling, blank-limit, blank-written, blank-short, blank-tree, blank-tree-20, read-blank, above-192, bytes-above-192, link-meets-16, bytes-meet-16}
+use Rattle.blank.specs.laws.Fields.{blank-set, blank-valid, blank-field}
+use Rattle.blank.specs.laws.Program.{blank-job, blank-prints}
+
+blank-plan : (p : Plan) → Blank p → BlankPlan p
+blank-plan p b = record {
+  accepted = blank-taken p b;
+  written = blank-written p b;
+  short = blank-short p b;
+  ceiling = blank-ceiling p b;
+  limit = blank-limit p b;
+  set = blank-set p b;
+  field = λ h e. blank-valid h (subst Blank (sym e) b);
+  calls = λ h e v. blank-field h (subst Blank (sym e) b) v;
+  tree = blank-tree p b;
+  others = blank-tree-20 p b;
+  job = blank-job p b;
+}
+
+pub blank-claim : BlankClaim
+blank-claim = record {
+  blank = blank-plan;
+  read = read-blank;
+  prints = blank-prints;
+  above = above-192;
+  bytesAbove = bytes-above-192;
+  link = link-meets-16;
+  bytesLink = bytes-meet-16;
+}
