@@ -1,6 +1,7 @@
 # shellcheck shell=sh
 # For tools/build and tools/test: `. tools/progress.sh` from the top of the repository. What rt prints becomes one line of
-# progress on standard error: rewritten in place on a terminal, a line each elsewhere.
+# progress on standard error: rewritten in place on a terminal, a line each elsewhere. And where rt puts what it needs for
+# a while.
 live=no
 if [ -t 2 ] && [ "${TERM:-dumb}" != dumb ]; then live=yes; fi
 
@@ -57,6 +58,17 @@ closure() {
             print n
         }
         END { count = split(ENVIRON["WANTED"], want, " "); for (i = 1; i <= count; i++) visit(want[i]) }' crates.txt
+}
+
+# A new folder for rt's temporary files: in memory, unless TMPDIR names another place, there is less than 2 GB, or no program
+# could run there. For each crate the prover lays out what it loads, some 7,000 files of 210 MB, and removes them again; on a
+# disk that takes about a third of all its time (docs/BENCHMARKS.md).
+scratch() {
+    where=${TMPDIR:-/tmp} room=$(df -Pk /dev/shm 2>/dev/null | awk 'END { print $4 }')
+    if [ -z "${TMPDIR:-}" ] && [ -w /dev/shm ] && [ "${room:-0}" -ge 2097152 ] &&
+        ! grep -q ' /dev/shm [^ ]* [^ ]*noexec' /proc/mounts; then where=/dev/shm; fi
+    # rt runs programs in it as nobody
+    folder=$(mktemp -d "$where/muruapy.XXXXXX") && chmod 711 "$folder" && printf '%s\n' "$folder"
 }
 
 # The first of these programs that is not there, if there is one.
