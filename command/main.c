@@ -22,7 +22,7 @@ static const struct subcommand {
     {"dot", "PLAN", "print the links and the tree for Graphviz", "", 1, 1, dot},
     {"svg", "PLAN", "print the links and the tree as a picture", "", 1, 1, svg},
     {"rehearse", "PLAN -o FILE [--seed N] [WAKE...]",
-     "wake modules (if none is named, 0 where there is one), run to rest, write the schedule", "os", 1, INT_MAX, rehearse},
+     "wake modules (0 if none is named and there is one), run to rest, write the schedule", "os", 1, INT_MAX, rehearse},
     {"cue", "PLAN MODULE", "print how each module hears a cue that this one sends", "", 2, 2, cue},
     {"preview", "PLAN [SCHEDULE...] wake|hand|serve NUMBER",
      "tell what a step would send behind the steps of schedules, without taking it", "", 3, INT_MAX, preview},

@@ -537,7 +537,8 @@ static inline size_t muruapy_report(const muruapy_field *field, uint16_t rounds,
  * sender  the number of the module that the cue starts from, any number
  * cue     the cue, any number
  *
- * Answers 0, or 31, 71, 72 or 73 (too few records); for the blank plan 72, since no module can send. */
+ * Answers 0, or 31, 71, 72 or 73 (too few records). A field of the blank plan that 31 lets pass meets 72, since no
+ * module can send. */
 static inline uint32_t muruapy_cue_start(const muruapy_field *field, const uint64_t *words, size_t room,
                                          muruapy_cue *cues, size_t count, uint16_t sender, uint16_t cue)
 {
@@ -556,7 +557,8 @@ static inline uint32_t muruapy_cue_start(const muruapy_field *field, const uint6
  * link                the directed link, any number: 2 * k from link k's lower module to the higher one, 2 * k + 1 back
  *
  * Answers with refusal 0, and heard 1 if a module heard, 0 if no copy waited there (then all records keep); or with
- * refusal 31, 71, 73 or 42, and heard 0; for the blank plan 73, since no cue can be under way. */
+ * refusal 31, 71, 73 or 42, and heard 0. A field of the blank plan that 31 lets pass meets 73, since no cue can be
+ * under way. */
 static inline muruapy_delivery muruapy_cue_deliver(const muruapy_field *field, const uint64_t *words, size_t room,
                                                    muruapy_cue *cues, size_t count, uint16_t link)
 {

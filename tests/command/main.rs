@@ -2,8 +2,8 @@
 //!
 //!   command COMMAND CHECKED REPORT WORK COUNT
 //!
-//! COMMAND is the command, CHECKED the same built with sanitizers, which gets some of the damaged inputs, REPORT the proved
-//! reporting program, WORK a folder for files, COUNT how many plans are drawn.
+//! COMMAND is the command, CHECKED the same built with sanitizers, which gets some of the damaged inputs and all calls on the
+//! blank plan, REPORT the proved reporting program, WORK a folder for files, COUNT how many plans are drawn.
 
 mod blank;
 mod cues;
@@ -28,7 +28,8 @@ struct Tools {
 }
 
 impl Tools {
-    /// For the damaged inputs; the checked one takes longer to start, so it gets every third: of each kind of plan some.
+    /// For the damaged inputs; the checked one takes longer to start, so it gets every third: as the kinds of plans are
+    /// no multiple of 3, of each kind some.
     fn any(&self, i: usize) -> &Tool {
         if i % 3 == 0 {
             &self.checked

@@ -46,7 +46,7 @@ impl Tally {
     /// A delivery, by the records before it.
     pub fn delivery(&mut self, field: &Field, tree: &[u8], cues: &[Cue], link: u16, outcome: Result<Delivery, u32>) {
         let how = match outcome {
-            Err(refusal) if field.plan == plans::blank() => return self.count(format!("blank plan: delivery {refusal}")),
+            Err(number) if field.plan == plans::blank() => return self.count(format!("blank plan: delivery {number}")),
             Err(73) if cues.len() < field.plan.modules as usize => "ends with 73, too few".to_string(),
             Err(refusal) => format!("ends with {refusal}"),
             Ok(Delivery::Heard) => "ends with heard".to_string(),

@@ -3,26 +3,19 @@
 use crate::muruapy::{waiting, Record};
 use crate::tally::Tally;
 use crate::{compare_run, compare_step, Run};
-use oracle::field::{HAND_OVER, SERVE, WAKE};
-use oracle::fields::drawn;
+use oracle::fields::{drawn, BLANK_NUMBERS, BLANK_STEPS};
 use oracle::plans;
 use oracle::rng::Rng;
 use oracle::schedule::{encode, Step};
 
 pub const FIELDS: usize = 200;
 
-/// The number of a step, of which there is nothing.
-const NUMBERS: [u16; 5] = [0, 1, 192, 1199, 65535];
-
-/// What a step of each kind is refused by.
-const STEPS: [(u8, u32); 5] = [(WAKE, 41), (HAND_OVER, 42), (SERVE, 41), (0, 54), (4, 54)];
-
 /// Drawn ones, with words and without: steps, as schedules too, and runs of nothing, which are taken.
 pub fn fields(rng: &mut Rng, tally: &mut Tally) {
     for _ in 0..FIELDS {
         let (mut field, mut words) = drawn(rng, &plans::blank());
-        for (kind, refusal) in STEPS {
-            let step = Step { kind, number: rng.pick(&NUMBERS) };
+        for (kind, refusal) in BLANK_STEPS {
+            let step = Step { kind, number: rng.pick(&BLANK_NUMBERS) };
             assert_eq!(compare_step(rng, tally, &mut field, &mut words, step), refusal, "{step:?}");
             let schedule = Run::Schedule(encode(&[step]));
             assert_eq!(compare_run(rng, tally, &field, &words, schedule), refusal, "{step:?} as a schedule");
@@ -42,8 +35,8 @@ pub fn zeros() -> usize {
     for room in [0, 1, 8, 7920] {
         let (mut record, mut words) = (Record::ZEROS, vec![0; room]);
         assert_eq!((record.check(&words), waiting(&words)), (0, 0), "{room} words of zeros");
-        for (kind, refusal) in STEPS {
-            for number in NUMBERS {
+        for (kind, refusal) in BLANK_STEPS {
+            for number in BLANK_NUMBERS {
                 assert_eq!(record.step(&mut words, kind, number), refusal, "step {kind} {number} of zeros");
                 calls += 1;
             }

@@ -143,7 +143,7 @@ fn spoilt_fields(rng: &mut Rng, tally: &mut Tally) -> usize {
 }
 
 /// Each way to break an item of 31: records in which this item alone is broken, each with a step that the sound field
-/// took, given alone and as a schedule, and with a round. All are refused by 31 and left as they were.
+/// took where it takes any, given alone and as a schedule, and with a round. All are refused by 31 and left as they were.
 fn items_alone(rng: &mut Rng, tally: &mut Tally) -> BTreeMap<&'static str, usize> {
     let mut counts = BTreeMap::new();
     for (item, way, damage) in WAYS {

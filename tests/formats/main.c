@@ -49,7 +49,7 @@ static const struct least {
     {SCHEDULE, 51, 54, 1}, {STEP, 0, 0, 20},  {STEP, 41, 45, 1}, {STEP, 54, 54, 1}, {CALL, 0, 0, 8},
     {CALL, 41, 41, 2}, {CALL, 54, 54, 1},     {CEILING, 0, 0, 8}, {HEADER, 0, 0, 6}, {WORD, 0, 0, 4},
     {ORDER, 0, 0, 5},   {REPORT, 0, 0, 3},    {START, 0, 0, 2},  {START, 71, 73, 1}, {DELIVERY, 0, 0, 5},
-    {DELIVERY, 73, 73, 5}, {DELIVERY, 42, 42, 1}, {PREVIEW, 0, 0, 8}, {PREVIEW, 41, 45, 1}, {PREVIEW, 54, 54, 1},
+    {DELIVERY, 42, 42, 1}, {PREVIEW, 0, 0, 8}, {PREVIEW, 41, 45, 1}, {PREVIEW, 54, 54, 1},
     {PREVIEW, 75, 75, 4},
     /* those of the blank plan among them */
     {PLAN, 15, 15, 2}, {PLAN, 16, 16, 3},     {STEP, 41, 41, 4}, {STEP, 42, 42, 2}, {PREVIEW, 41, 41, 3},

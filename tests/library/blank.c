@@ -128,20 +128,6 @@ static void ceilings(void)
 static const size_t rooms[] = {0, 1, 5, MURUAPY_WORDS + 2};
 enum { ROOMS = sizeof rooms / sizeof *rooms };
 
-/* Into memory that holds anything. */
-static void setup_gives(const muruapy_plan *value, size_t room, uint32_t number)
-{
-    struct site s;
-    memset(&state, FILL, sizeof state);
-    state.room = room;
-    s = lend_site(&state, as_whole, NEW);
-    answered("setup", do_setup(&s, show(value, sizeof *value)), number, NULL);
-    fetch(&s, &state);
-    take_back();
-    if (number == 0)
-        is_fresh(&state, value);
-}
-
 /* Nobody is woken, so the job leaves what setup leaves. */
 static void job_gives(const muruapy_plan *value, size_t room, uint32_t number)
 {
@@ -173,7 +159,7 @@ static void values(void)
             if (some[i].number == 0)
                 no_cost(&value);
             for (room = 0; room < ROOMS; room++) {
-                setup_gives(&value, rooms[room], some[i].number);
+                setup_gives(&state, as_whole, &value, rooms[room], some[i].number);
                 job_gives(&value, rooms[room], some[i].number);
             }
         }
@@ -188,13 +174,6 @@ static void keeps(const struct site *s)
     now = state;
     fetch(s, &now);
     must(memcmp(&now, &state, sizeof now) == 0, "a field of nobody did not keep");
-}
-
-static void check_gives(uint32_t number)
-{
-    struct site s = lend_site(&state, as_whole, READ);
-    answered("field_check", do_check(&s), number, NULL);
-    take_back();
 }
 
 static void step_gives(uint8_t kind, uint16_t number, uint32_t refusal)
@@ -326,7 +305,7 @@ static void cues(uint32_t number)
 
 static void every_call(uint32_t number)
 {
-    check_gives(number);
+    check_gives(&state, as_whole, number);
     steps(number);
     runs(number);
     cues(number);
@@ -334,29 +313,15 @@ static void every_call(uint32_t number)
 
 /* ---- the report ---- */
 
-/* In so many bytes it is the front of the text, all of it where there is room; the bytes behind keep. */
-static void report_is(uint16_t rounds, size_t room, const char *text)
-{
-    struct site s = lend_site(&state, as_whole, READ);
-    uint8_t *to = lend(NULL, room);
-    size_t put = do_report(&s, rounds, to, room), i, length = strlen(text);
-    must(put <= room && put <= length, "more is put than there is, or room for it");
-    gave("report", put, room < length ? room : length, false);
-    must(put == 0 || memcmp(to, text, put) == 0, "another text is put");
-    for (i = put; i < room; i++)
-        must(to[i] == FILL, "a byte behind the text is written");
-    take_back();
-}
-
 static void report(void)
 {
     static const char text[] = "modules 0\nlinks 0\ntotal 0\ncore none\nmessages 0 of 0\nrounds 0\n";
+    static const char many[] = "modules 0\nlinks 0\ntotal 0\ncore none\nmessages 0 of 0\nrounds 65535\n";
     size_t room;
     for (room = 0; room <= sizeof text; room++)
-        report_is(0, room, text);
-    report_is(0, MURUAPY_REPORT_BYTES, text);
-    report_is(65535, MURUAPY_REPORT_BYTES,
-              "modules 0\nlinks 0\ntotal 0\ncore none\nmessages 0 of 0\nrounds 65535\n");
+        report_gives(&state, as_whole, 0, room, text, sizeof text - 1);
+    report_gives(&state, as_whole, 0, MURUAPY_REPORT_BYTES, text, sizeof text - 1);
+    report_gives(&state, as_whole, 65535, MURUAPY_REPORT_BYTES, many, sizeof many - 1);
 }
 
 /* ---- fields of the blank plan ---- */
@@ -367,7 +332,7 @@ enum made { SET_UP, ZEROS, ANYTHING, MADE };
 static void make(enum made how, size_t room)
 {
     if (how == SET_UP) {
-        setup_gives(&zeros, room, 0);
+        setup_gives(&state, as_whole, &zeros, room, 0);
         return;
     }
     memset(&state, how == ZEROS ? 0 : FILL, sizeof state);
@@ -397,11 +362,7 @@ static void taken(void)
         }
 }
 
-#define SPOIL(member, number) {offsetof(struct state, member), sizeof ((struct state *)0)->member, number}
-static const struct spoil {
-    size_t at, size;
-    uint64_t number;
-} spoils[] = {
+static const struct spoil spoils[] = {
     SPOIL(field.sent, 1),         SPOIL(field.sent, 0xffffffffu),     SPOIL(field.plan.modules, 193),
     SPOIL(field.plan.links, 1),   SPOIL(field.plan.links, 600),       SPOIL(field.plan.links, 601),
     SPOIL(words[0], 1),           SPOIL(words[0], 0x20000ffff01u),    SPOIL(words[0], UINT64_MAX),
@@ -418,7 +379,7 @@ static void spoilt(void)
             for (room = 0; room <= 5; room += 5) {
                 bool word = spoils[i].at >= offsetof(struct state, words);
                 make((enum made)how, room);
-                memcpy((uint8_t *)&state + spoils[i].at, &spoils[i].number, spoils[i].size);
+                put_number(&state, &spoils[i]);
                 every_call(word && room == 0 ? 0 : 31); /* a word that is not lent is none of the field's */
                 if (word && room > 0) {
                     state.field.sent = 1;

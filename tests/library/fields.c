@@ -17,20 +17,6 @@ static void words_are(const uint64_t *want, size_t count)
 
 /* ---- setup ---- */
 
-/* Into memory that holds anything. */
-static void setup_gives(const muruapy_plan *value, size_t room, uint32_t number)
-{
-    struct site s;
-    memset(&state, FILL, sizeof state);
-    state.room = room;
-    s = lend_site(&state, as_whole, NEW);
-    answered("setup", do_setup(&s, show(value, sizeof *value)), number, NULL);
-    fetch(&s, &state);
-    take_back();
-    if (number == 0)
-        is_fresh(&state, value);
-}
-
 static void setups(void)
 {
     static const char *const names[] = {"single.plan", "two-modules.plan", "ring-12.plan", "full-192.plan"};
@@ -40,15 +26,15 @@ static void setups(void)
     size_t i, room;
     for (i = 0; i < 4; i++) {
         sample(names[i], &value);
-        setup_gives(&value, ceilings[i], 0);
-        setup_gives(&value, ceilings[i] + 1, 0);
+        setup_gives(&state, as_whole, &value, ceilings[i], 0);
+        setup_gives(&state, as_whole, &value, ceilings[i] + 1, 0);
         for (room = 0; room < ceilings[i]; room += room == 1 ? ceilings[i] - 2 : 1)
-            setup_gives(&value, room, 21);
+            setup_gives(&state, as_whole, &value, room, 21);
     }
     for (from = refused_plans; from->number; from++) {
         refused_value(from, &value);
         for (room = 0; room <= 12; room += room == 1 ? 11 : 1)
-            setup_gives(&value, room, from->number);
+            setup_gives(&state, as_whole, &value, room, from->number);
     }
 }
 
@@ -56,17 +42,10 @@ static void two(size_t room)
 {
     muruapy_plan value;
     sample("two-modules.plan", &value);
-    setup_gives(&value, room, 0);
+    setup_gives(&state, as_whole, &value, room, 0);
 }
 
 /* ---- the calls, on `state` ---- */
-
-static void check_gives(uint32_t number)
-{
-    struct site s = lend_site(&state, as_whole, READ);
-    answered("field_check", do_check(&s), number, NULL);
-    take_back();
-}
 
 static void step_gives(uint8_t kind, uint16_t number, uint32_t refusal)
 {
@@ -104,11 +83,7 @@ static void rounds_give(uint16_t limit, uint32_t refusal, uint16_t done)
 
 /* ---- 31 ---- */
 
-#define SPOIL(member, number) {offsetof(struct state, member), sizeof ((struct state *)0)->member, number}
-static const struct spoil {
-    size_t at, size;
-    uint64_t number;
-} spoils[] = {
+static const struct spoil spoils[] = {
     SPOIL(field.plan.modules, 0),         SPOIL(field.plan.modules, 3),         SPOIL(field.plan.links, 601),
     SPOIL(field.plan.link[0].lower, 1),   SPOIL(field.plan.link[0].far, 2001),  SPOIL(field.modules[0].status, 3),
     SPOIL(field.modules[1].level, 2),     SPOIL(field.modules[1].identity, 0),  SPOIL(field.modules[0].best_weight, 1),
@@ -127,7 +102,7 @@ static const struct spoil free_ones[] = {
 static void spoil(const struct spoil *s)
 {
     two(12);
-    memcpy((uint8_t *)&state + s->at, &s->number, s->size);
+    put_number(&state, s);
 }
 
 static void spoilt(void)
@@ -136,7 +111,7 @@ static void spoilt(void)
     size_t i;
     for (i = 0; i < sizeof spoils / sizeof *spoils; i++) {
         spoil(&spoils[i]);
-        check_gives(31);
+        check_gives(&state, as_whole, 31);
         step_gives(MURUAPY_WAKE, 0, 31);
         step_gives(9, 65535, 31);
         run_gives(schedule, 6, 31, 0);
@@ -145,7 +120,7 @@ static void spoilt(void)
     }
     for (i = 0; i < sizeof free_ones / sizeof *free_ones; i++) {
         spoil(&free_ones[i]);
-        check_gives(0);
+        check_gives(&state, as_whole, 0);
         rounds_give(65535, 0, 0);
     }
 }
@@ -197,7 +172,7 @@ static void steps(void)
             step_gives(told[i].kind, told[i].number, told[i].refusal);
             words_are(told[i].words, 2);
         }
-        check_gives(0);
+        check_gives(&state, as_whole, 0);
         must(state.field.sent == 6, "two modules send not 6 messages");
         must(state.field.modules[0].halted == 1 && state.field.modules[1].halted == 1, "a module has not halted");
         must(state.field.marks[0][0] == 1 && state.field.marks[0][1] == 1, "the link is no branch");
@@ -216,7 +191,7 @@ static void no_field_of_setup(void)
     two(12);
     state.words[0] = accept[0];
     state.field.sent = 1;
-    check_gives(0);
+    check_gives(&state, as_whole, 0);
     step_gives(MURUAPY_SERVE, 1, 32);
     rounds_give(65535, 32, 0);
     words_are(accept, 1);

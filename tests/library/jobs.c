@@ -84,27 +84,13 @@ static void marks_are_the_tree(const muruapy_plan *value)
     }
 }
 
-/* The report of `state` in so many bytes is the front of `want`, and the bytes behind keep. */
-static void report_is(uint16_t rounds, size_t room, const uint8_t *want, size_t length)
-{
-    struct site s = lend_site(&state, as_whole, READ);
-    uint8_t *text = lend(NULL, room);
-    size_t put = do_report(&s, rounds, text, room), i;
-    must(put <= room && put <= length, "more is put than there is, or room for it");
-    gave("report", put, room < length ? room : length, false);
-    must(put == 0 || memcmp(text, want, put) == 0, "another text is put");
-    for (i = put; i < room; i++)
-        must(text[i] == FILL, "a byte behind the text is written");
-    take_back();
-}
-
 static void reports(uint16_t rounds, const struct file *want)
 {
     size_t room;
-    report_is(rounds, MURUAPY_REPORT_BYTES, want->bytes, want->length);
+    report_gives(&state, as_whole, rounds, MURUAPY_REPORT_BYTES, want->bytes, want->length);
     for (room = 0; room <= want->length + 1; room++)
         if (room < 20 || room + 20 > want->length)
-            report_is(rounds, room, want->bytes, want->length);
+            report_gives(&state, as_whole, rounds, room, want->bytes, want->length);
 }
 
 /* A field of any numbers has a report that the room holds. */
@@ -117,9 +103,9 @@ static void report_of_anything(uint8_t byte)
     length = muruapy_report(&state.field, 65535, once, sizeof once);
     must(length > 0 && length <= MURUAPY_REPORT_BYTES, "MURUAPY_REPORT_BYTES are not enough");
     state.room = 0;
-    report_is(65535, MURUAPY_REPORT_BYTES, once, length);
-    report_is(65535, length, once, length);
-    report_is(65535, length - 1, once, length);
+    report_gives(&state, as_whole, 65535, MURUAPY_REPORT_BYTES, once, length);
+    report_gives(&state, as_whole, 65535, length, once, length);
+    report_gives(&state, as_whole, 65535, length - 1, once, length);
 }
 
 static void job_of(const char *name, const char *reports_folder, uint16_t rounds, uint32_t sent)

@@ -108,3 +108,41 @@ size_t do_report(const struct site *s, uint16_t rounds, uint8_t *text, size_t ro
                     : muruapy_report_parts(s->plan, s->modules, (const uint8_t(*)[2])s->marks, *s->sent, rounds, text,
                                            room);
 }
+
+void setup_gives(struct state *state, bool whole, const muruapy_plan *plan, size_t room, uint32_t number)
+{
+    struct site s;
+    memset(state, FILL, sizeof *state);
+    state->room = room;
+    s = lend_site(state, whole, NEW);
+    answered("setup", do_setup(&s, show(plan, sizeof *plan)), number, NULL);
+    fetch(&s, state);
+    take_back();
+    if (number == 0)
+        is_fresh(state, plan);
+}
+
+void check_gives(const struct state *state, bool whole, uint32_t number)
+{
+    struct site s = lend_site(state, whole, READ);
+    answered("field_check", do_check(&s), number, NULL);
+    take_back();
+}
+
+void report_gives(const struct state *state, bool whole, uint16_t rounds, size_t room, const void *text, size_t length)
+{
+    struct site s = lend_site(state, whole, READ);
+    uint8_t *to = lend(NULL, room);
+    size_t put = do_report(&s, rounds, to, room), i;
+    must(put <= room && put <= length, "more is put than there is, or room for it");
+    gave("report", put, room < length ? room : length, false);
+    must(put == 0 || memcmp(to, text, put) == 0, "another text is put");
+    for (i = put; i < room; i++)
+        must(to[i] == FILL, "a byte behind the text is written");
+    take_back();
+}
+
+void put_number(struct state *state, const struct spoil *from)
+{
+    memcpy((uint8_t *)state + from->at, &from->number, from->size);
+}

@@ -40,4 +40,18 @@ uint32_t do_rounds(const struct site *s, uint16_t limit, uint16_t *rounds);
 uint32_t do_job(const struct site *s, const muruapy_plan *plan, uint16_t *rounds);
 size_t do_report(const struct site *s, uint16_t rounds, uint8_t *text, size_t room);
 
+/* Setup, into memory that holds anything: it is refused by the number, or leaves what `is_fresh` asks for. */
+void setup_gives(struct state *state, bool whole, const muruapy_plan *plan, size_t room, uint32_t number);
+void check_gives(const struct state *state, bool whole, uint32_t number);
+/* The report in so many bytes is the front of the text, all of it where there is room; the bytes behind keep. */
+void report_gives(const struct state *state, bool whole, uint16_t rounds, size_t room, const void *text, size_t length);
+
+/* A number at a place of a state. */
+struct spoil {
+    size_t at, size;
+    uint64_t number;
+};
+#define SPOIL(member, number) {offsetof(struct state, member), sizeof ((struct state *)0)->member, number}
+void put_number(struct state *state, const struct spoil *from);
+
 #endif

@@ -10,6 +10,12 @@ use crate::rng::Rng;
 use crate::rules::{Module, BASIC, BRANCH, REJECTED};
 use crate::schedule::Step;
 
+/// What a step of each kind meets on a field of the blank plan, and kinds that there are not.
+pub const BLANK_STEPS: [(u8, u32); 6] = [(WAKE, 41), (HAND_OVER, 42), (SERVE, 41), (0, 54), (4, 54), (255, 54)];
+
+/// Numbers of steps, of which there is nothing in the blank plan: the first, the next, about the bounds, the last.
+pub const BLANK_NUMBERS: [u16; 5] = [0, 1, 192, 1199, 65535];
+
 /// One of the numbers, or none.
 fn or_none(rng: &mut Rng, numbers: &[u16]) -> u16 {
     if numbers.is_empty() || rng.once_in(3) {

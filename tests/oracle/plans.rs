@@ -103,7 +103,8 @@ pub fn plan(rng: &mut Rng, n: u16, mut pairs: Pairs, readings: Readings) -> Plan
     Plan { modules: n, links: links.collect() }
 }
 
-pub const KINDS: [&str; 10] = ["blank", "single", "path", "star", "ring", "complete", "tree", "small", "medium", "full"];
+pub const KINDS: [&str; 10] =
+    ["blank", "single", "path", "star", "ring", "complete", "tree", "small", "medium", "full"];
 
 pub fn kinds_without(left_out: &[&str]) -> Vec<&'static str> {
     KINDS.into_iter().filter(|kind| !left_out.contains(kind)).collect()

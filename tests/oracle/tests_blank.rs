@@ -2,7 +2,8 @@
 //! field is at rest, its tree is empty."
 
 use crate::cue::{deliver, start, Cue};
-use crate::field::{setup, setup_value, waiting, Field, Word, HAND_OVER, SERVE, WAKE};
+use crate::field::{setup, setup_value, waiting, Field, Word, HAND_OVER, WAKE};
+use crate::fields::{BLANK_NUMBERS, BLANK_STEPS};
 use crate::frame::Message;
 use crate::kruskal;
 use crate::plan::{self, ceiling, floor_log2, Link, Plan};
@@ -15,16 +16,10 @@ use crate::trace;
 
 const BYTES: [u8; 7] = [1, 0, 4, 0, 0, 0, 0];
 
-/// Numbers that nothing here has: the first, the next, a bound, the last.
-const NUMBERS: [u16; 4] = [0, 1, 192, 65535];
-
 /// The field at setup, without a word.
 fn field() -> Field {
     setup(&BYTES, &mut []).unwrap()
 }
-
-/// What a step of each kind is refused by, and kinds that there are not.
-const STEPS: [(u8, u32); 6] = [(WAKE, 41), (HAND_OVER, 42), (SERVE, 41), (0, 54), (4, 54), (255, 54)];
 
 #[test]
 fn read_and_written() {
@@ -89,8 +84,8 @@ fn spoilt_fields() {
 /// as its step is, whatever the buffer.
 #[test]
 fn steps_and_previews() {
-    for (kind, refusal) in STEPS {
-        for number in NUMBERS {
+    for (kind, refusal) in BLANK_STEPS {
+        for number in BLANK_NUMBERS {
             for count in [0, 3] {
                 let (mut blank, mut words) = (field(), vec![0; count]);
                 assert_eq!(blank.step(&mut words, kind, number), Err(refusal));
@@ -114,7 +109,7 @@ fn runs_and_rounds() {
     for limit in [0, 1, 65535] {
         assert_eq!(rounds::run(&mut blank, &mut [0; 2], limit), nothing);
     }
-    for (kind, refusal) in STEPS {
+    for (kind, refusal) in BLANK_STEPS {
         let steps = [Step { kind, number: 0 }, Step { kind: WAKE, number: 0 }];
         assert_eq!(schedule::run(&mut blank, &mut [], &schedule::encode(&steps)), Answer::refused(refusal));
     }
@@ -133,7 +128,7 @@ fn cues() {
     for before in [vec![], vec![Cue::UNHEARD], vec![Cue::of_sender(7); 3]] {
         let mut cues = before.clone();
         let spoilt = Field { sent: 1, ..field() };
-        for number in NUMBERS {
+        for number in BLANK_NUMBERS {
             assert_eq!(start(&field(), &[], &mut cues, number, 7), Err(72));
             assert_eq!(deliver(&field(), &[], &mut cues, number), Err(73));
             assert_eq!(start(&spoilt, &[], &mut cues, number, 7), Err(31));

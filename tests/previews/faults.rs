@@ -12,7 +12,8 @@ pub const ALONE: usize = 12;
 pub const CEILINGS: usize = 300;
 pub const ORDERS: usize = 4;
 
-/// Each way to break an item of 31: fields in which this item alone is broken, each with a step that the sound field took.
+/// Each way to break an item of 31: fields in which this item alone is broken, each with a step that the sound field took
+/// where it takes any.
 pub fn items_alone(rng: &mut Rng, tally: &mut Tally) {
     for (item, way, damage) in WAYS {
         let (mut cases, mut tries) = (0, 0);

@@ -18,8 +18,8 @@ mod tally;
 use calls::{compare, Site};
 use faults::{ceilings, items_alone, orders, ALONE, CEILINGS};
 use muruapy::{Previewed, Record};
-use oracle::field::{setup_value, waiting, Word, HAND_OVER, SERVE, WAKE};
-use oracle::fields::{drawn, good_step, some_field, some_step, spoil};
+use oracle::field::{setup_value, waiting, Word, SERVE};
+use oracle::fields::{drawn, good_step, some_field, some_step, spoil, BLANK_NUMBERS, BLANK_STEPS};
 use oracle::frame::Message;
 use oracle::plans::{self, Readings};
 use oracle::rng::Rng;
@@ -119,15 +119,12 @@ fn hubs(rng: &mut Rng, tally: &mut Tally) {
     }
 }
 
-/// What a step of each kind is refused by in a blank plan.
-const NOBODY: [(u8, u32); 5] = [(WAKE, 41), (HAND_OVER, 42), (SERVE, 41), (0, 54), (4, 54)];
-
 /// Fields of the blank plan, with words and without, and memory that is all zeros, which is one. No step is taken.
 fn blank_fields(rng: &mut Rng, tally: &mut Tally) {
     for _ in 0..BLANK {
         let mut site = Site::of(drawn(rng, &plans::blank()));
-        for (kind, refusal) in NOBODY {
-            let step = Step { kind, number: rng.pick(&[0, 1, 192, 1199, 65535]) };
+        for (kind, refusal) in BLANK_STEPS {
+            let step = Step { kind, number: rng.pick(&BLANK_NUMBERS) };
             assert_eq!(compare(rng, tally, &mut site, step), refusal, "{step:?}");
             let shown = Record::ZEROS.preview(&site.words, kind, step.number, &mut []);
             assert_eq!(shown, Previewed { refusal, count: 0 }, "{step:?} of zeros");
@@ -151,7 +148,7 @@ fn main() {
     let faulty = orders(&mut rng, &mut tally);
     hubs(&mut rng, &mut tally);
     blank_fields(&mut rng, &mut tally);
-    let blank = BLANK * (NOBODY.len() + 1);
+    let blank = BLANK * (BLANK_STEPS.len() + 1);
     let made_up = VALID * STEPS + SPOILT + ALONE * items::WAYS.len() + 3 * CEILINGS + faulty + HUBS + blank;
     println!("previews: {} steps agree, {from_setup} of them in {RUNS} runs from setup", from_setup + made_up);
     tally.report();

@@ -38,7 +38,8 @@ const CHECKS: &Least = &[(0, 550), (51, 150), (52, 200), (53, 470), (54, 95)];
 /// The same of plans with N = 0.
 const SETUPS_OF_NOBODY: &Wanted =
     &[("N = 0:", &[("taken, no words", 270), ("taken, some words", 180), ("15", 100), ("16", 640)])];
-const JOBS_OF_NOBODY: &Wanted = &[("N = 0:", &[("taken, no words", 13), ("taken, some words", 23), ("15", 3), ("16", 26)])];
+const JOBS_OF_NOBODY: &Wanted =
+    &[("N = 0:", &[("taken, no words", 13), ("taken, some words", 23), ("15", 3), ("16", 26)])];
 
 /// How often each answer came, and what came of plans with N = 0.
 #[derive(Default)]

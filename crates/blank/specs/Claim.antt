@@ -1,10 +1,10 @@
 -- Document 02's request 04, "A plan with nobody in it", as one type (`BlankClaim`).
-use Prim.Native.Nat.{ℕ, _≤_, _<_}
+use Prim.Native.Nat.{ℕ, _+_, _*_, _≤_, _<_}
 use mathlib.Core.Path.{_≡_}
-use mathlib.Core.Logic.{_↔_}
+use mathlib.Core.Logic.{_≢_, _↔_, _⊎_}
 use mathlib.Core.Bool.{true, cond}
 use mathlib.Core.List.{List, [], _∷_, _++_}
-use lib.ListN.{length, drop, replicate}
+use lib.ListN.{length, getD, drop, replicate}
 use lib.Dec.{eqb}
 use Rattle.base.specs.Limits.{maxModules, maxLinks, AllBytes}
 use Rattle.base.specs.Loop.{takenTo, refusedBy}
@@ -13,13 +13,14 @@ use Rattle.format_text.specs.Ascii.{ascii}
 use Rattle.plan.specs.Links.{Plan, modulesOf, linksOf}
 use Rattle.plan.specs.Refusal.{planRefusal}
 use Rattle.plan_file.specs.Layout.{numberAt}
-use Rattle.plan_file.specs.Reading.{headRefusal, readPlan}
+use Rattle.plan_file.specs.Reading.{headVerdict, headRefusal, readRefusal, readPlan}
 use Rattle.plan_file.specs.Writing.{writePlan}
 use Rattle.plan_tree.specs.Tree.{centralTree}
 use Rattle.field.specs.Edges.{limitOf, ceilingOf}
 use Rattle.field.specs.Step.{WAKE, HAND, SERVE}
-use Rattle.field.specs.Held.{Held, fresh, valid, setUp, stepAlone}
+use Rattle.field.specs.Held.{Held, fresh, stateOf, valid, setUp, stepAlone}
 use Rattle.field_calls.specs.Schedule.{scheduleRefusal, stepsIn, kindOf}
+use Rattle.field_calls.specs.Rounds.{atRest}
 use Rattle.field_calls.specs.Call.{Call, after, refusedRun, runBytes, runRounds}
 use Rattle.field_calls.specs.Trail.{trail}
 use Rattle.preview.specs.Preview.{preview, notShown}
@@ -61,7 +62,8 @@ pub record OnBlankField (h : Held) : Type 0 where
   pub previews : (kind number : ℕ) (buffer : List ℕ) → preview kind number h buffer ≡ notShown (blankStep kind) buffer
   -- no step is done, whatever the schedule
   pub runs : (bytes : List ℕ) → runBytes bytes h ≡ refusedRun (blankRun bytes) h
-  -- "its field is at rest"
+  -- "its field is at rest", so no round is needed
+  pub rest : atRest (stateOf h) ≡ true
   pub rounds : (limit : ℕ) → runRounds limit h ≡ record { done = 0; refusal = 0; state = h }
   -- no list of calls takes a step, so nobody is ever woken, and field and words are as they were
   -- ("What is claimed about finished fields still begins with a woken module.")
@@ -80,7 +82,7 @@ pub record BlankPlan (p : Plan) : Type 0 where
   pub ceiling : ceilingOf p ≡ 0
   pub limit : limitOf p ≡ 0
   pub set : (lent : List ℕ) → setUp p lent ≡ takenTo (record { field = fresh p; words = zeroWords (length lent) })
-  -- "its field is at rest": 31 lets pass whatever has nothing sent and nothing waiting
+  -- 31 lets pass whatever has nothing sent and nothing waiting
   pub field : (h : Held) → h .field .plan ≡ p → (valid h ≡ true) ↔ ((h .field .sent ≡ 0) × (h .words ≡ zeroWords (length (h .words))))
   pub calls : (h : Held) → h .field .plan ≡ p → valid h ≡ true → OnBlankField h
   -- "its tree is empty"
@@ -91,8 +93,9 @@ pub record BlankPlan (p : Plan) : Type 0 where
 
 pub record BlankClaim : Type 0 where
   pub blank : (p : Plan) → Blank p → BlankPlan p
-  -- of all bytes these are read as such a plan
+  -- of all bytes these are read as such a plan; the check answers what the reader does
   pub read : (s : List ℕ) → AllBytes s → ((readPlan s .refusal ≡ 0) × Blank (readPlan s .plan)) ↔ (s ≡ blankBytes)
+  pub check : (s : List ℕ) → readRefusal s ≡ readPlan s .refusal
   -- "The program .. prints"
   pub prints : reported blankBytes ≡ blankReport
   -- "Refusal 14 is now only for N above 192": of plan values, and of bytes
@@ -101,3 +104,7 @@ pub record BlankClaim : Type 0 where
   -- "a link in such a plan meets 16": of plan values, and of bytes that meet none of 11 to 15
   pub link : (p : Plan) → modulesOf p ≡ 0 → 0 < linksOf p → linksOf p ≤ maxLinks → planRefusal p ≡ 16
   pub bytesLink : (s : List ℕ) → headRefusal s ≡ 0 → numberAt s 1 ≡ 0 → 0 < numberAt s 2 → readPlan s .refusal ≡ 16
+  -- and before it 15, "L above 600 or not fitting the length": of plan values, and of bytes that meet none of 11 to 13
+  pub links : (p : Plan) → modulesOf p ≡ 0 → maxLinks < linksOf p → planRefusal p ≡ 15
+  pub bytesLinks : (s : List ℕ) → headVerdict (length s) (getD s 0 0) (numberAt s 0) 0 ≡ 0 → numberAt s 1 ≡ 0
+      → (maxLinks < numberAt s 2) ⊎ (numberAt s 0 ≢ 4 + 8 * numberAt s 2) → readPlan s .refusal ≡ 15

@@ -53,7 +53,7 @@ module _ (f : Field) (lent : List ℕ) (c : Checked) (full : Full f) (e : c ≡ 
     whole = full .plan;
     laid = record {
       within = within lent (c .waiting) (ap (λ (x : Checked). x .waiting) e);
-      zeros = sym (ap (layout (length lent)) (words-waiting f lent c e) ∙ ap (λ (x : Held). x .words) (held-same h live));
+      zeros = sym (ap (layout (length lent)) (words-waiting f lent c e) ∙ ap (λ (x : Held). x .words) (held-same h (live .valid)));
     };
     room = enough-words;
     sound = subst (Sound (f .plan)) (sym (starts f lent c e)) (live-sound h live);

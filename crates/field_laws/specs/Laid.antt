@@ -116,6 +116,10 @@ valid-parts h e =
     let c = and-eq-true-iff (eqb (planRefusal p) 0) (leb (ceilingOf p) (length (h .words))) .0 (b .0) in
     (eqb-true _ _ (c .0), c .1, b .1, a .1)
 
+-- nothing changed, nothing altered
+pub held-same : (h : Held) → valid h ≡ true → heldOf h (stateOf h) ≡ h
+held-same h v = ap (λ w. record { field = h .field; words = w }) (layout-back (h .words) (valid-parts h v .2))
+
 module _ (kind number : ℕ) (h : Held) where
   abbrev stepHere : After State
   stepHere = step (h .field .plan) kind number (stateOf h)
@@ -163,10 +167,6 @@ module _ (h : Held) (i : Live h) where
     fits = fits-facts plan (stateOf h) (checks .3);
   }
 
-  -- nothing changed, nothing altered
-  pub held-same : heldOf h (stateOf h) ≡ h
-  held-same = ap (λ w. record { field = h .field; words = w }) (layout-back (h .words) (checks .2))
-
   -- a sound state put back is read again, and is valid
   module _ (s : State) (sound : Sound plan s) (alike : SameLengths (stateOf h) s) where
     nonzero : All (λ x. x ≢ 0) (s .words)
@@ -198,7 +198,7 @@ module _ (h : Held) (i : Live h) where
       (λ b. cond (not b) (refusedRun (scheduleRefusal bytes) h) (laidBack h (scheduleRun plan bytes (stateOf h)))
       ≡ laidBack h (cond b (scheduleRun plan bytes (stateOf h)) (record { done = 0; refusal = scheduleRefusal bytes; state = stateOf h })))
       (λ e. refl)
-      (λ n. ap (refusedRun (scheduleRefusal bytes)) (sym held-same)))
+      (λ n. ap (refusedRun (scheduleRefusal bytes)) (sym (held-same h (i .valid)))))
   does-state (rounds limit) = rw (i .valid) refl
 
   left : (c : Call) → Sound plan (onState plan c (stateOf h) .state) × SameLengths (stateOf h) (onState plan c (stateOf h) .state)
@@ -229,7 +229,7 @@ module _ (h : Held) (i : Live h) where
     where
       go : {a : After State} → StepOutcome (stateOf h) (FieldStep plan (stateOf h) kind number) a → a .refusal ≢ 0 → heldOf h (a .state) ≡ h
       go (took t) n = absurd (n refl)
-      go (kept r t) n = held-same
+      go (kept r t) n = held-same h (i .valid)
 
 -- the same of a field that 31 refuses, whatever its arrays
 pub invalid-alters-nothing : (h : Held) (c : Call) → valid h ≡ false → does c h ≡ refusedRun 31 h

@@ -16,7 +16,7 @@ use Rattle.base.specs.laws.Loop.{Ok, loop-ok}
 use Rattle.base.specs.Pool.{All, nil, con}
 use Rattle.base.specs.laws.Pool.{All-here, Out, here, there}
 use Rattle.base.specs.Keep.{keep}
-use Rattle.base.specs.laws.Keep.{keep-yes, keep-app, keep-none, keep-no, first-out, first-passes, head-of, others}
+use Rattle.base.specs.laws.Keep.{no-length, keep-yes, keep-app, keep-none, keep-no, first-out, first-passes, head-of, others}
 use Rattle.format_word.specs.Word.{headerIn, carriedIn, linkIn, handedIn, shaped, handOver}
 use Rattle.format_word.specs.laws.Word.{Unpacked, over}
 use Rattle.plan.specs.laws.Accepted.{Accepted}
@@ -123,10 +123,6 @@ module _ (p : Plan) (a : Accepted p) (Good : State → Type 0) (calm : Calm p Go
     pub empty : (e : ℕ) → e < k → keep (inAir e) (z .words) ≡ []
     pub long : length (z .words) ≡ length (f .words)
     pub back : All B (z .words) → All B (f .words)
-
-  no-length : (l : List ℕ) → length l ≡ 0 → l ≡ []
-  no-length [] e = refl
-  no-length (x ∷ l) e = absurd (omega arith)
 
   phase-on : (f : State) (k : ℕ) (y : State) → k < 2 * linksOf p → Handing f k y → Ok (Handing f (suc k)) (handTurn p k y)
   phase-on f k y l t =

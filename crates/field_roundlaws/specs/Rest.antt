@@ -14,7 +14,7 @@ use Rattle.base.specs.laws.Loop.{Ok, then-on}
 use Rattle.base.specs.Pool.{All, nil, con}
 use Rattle.base.specs.laws.Pool.{All-map}
 use Rattle.base.specs.Keep.{keep}
-use Rattle.base.specs.laws.Keep.{keep-yes, keep-no}
+use Rattle.base.specs.laws.Keep.{no-length, keep-yes, keep-no}
 use Rattle.format_message.specs.Header.{kindAt, levelAt, findAt, msgOf}
 use Rattle.format_word.specs.Word.{headerIn, carriedIn, linkIn, handedIn, shaped, handOver}
 use Rattle.format_word.specs.laws.Word.{Unpacked, over}
@@ -107,15 +107,11 @@ module _ (p : Plan) (a : Accepted p) (Good : State → Type 0) (calm : Calm p Go
     risen : r .done + progress p f ≤ progress p (r .state)
     ended : (r .done ≡ n) ⊎ (r .state .words ≡ [])
 
-  no-words : (l : List ℕ) → length l ≡ 0 → l ≡ []
-  no-words [] e = refl
-  no-words (x ∷ l) e = absurd (omega arith)
-
   going-on : (f : State) (n : ℕ) (r : Ran State) → Going f n r
       → Going f (suc n) (cond (eqb (r .refusal) 0 && not (atRest (r .state))) (countedTurn (r .done) (round p (r .state))) r)
   going-on f n r k = rw (eq-eqb (r .refusal) 0 (k .refusal)) (eqb-cases (length (r .state .words)) 0
       (λ b. Going f (suc n) (cond (not b) (countedTurn (r .done) (round p (r .state))) r))
-      (λ e. record { refusal = k .refusal; sound = k .sound; good = k .good; risen = k .risen; ended = inr (no-words _ e) })
+      (λ e. record { refusal = k .refusal; sound = k .sound; good = k .good; risen = k .risen; ended = inr (no-length _ e) })
       (λ z. let o = rounded (r .state) (k .sound) (k .good) in
       rw (o .fine)
       (record {
@@ -134,7 +130,7 @@ module _ (p : Plan) (a : Accepted p) (Good : State → Type 0) (calm : Calm p Go
   -- all that could be sent was consumed
   full : (f : State) (limit : ℕ) (r : Ran State) → Going f limit r → r .done ≡ limit → ceilingOf p + modulesOf p ≤ limit → r .state .words ≡ []
   unfolding progress
-  full f limit r k e l = no-words (r .state .words)
+  full f limit r k e l = no-length (r .state .words)
       (omega (arith, k .risen, k .sound .fits .waiting, k .sound .fits .ceiling, awake-le p (r .state)))
 
   -- THE LAW of a run of rounds: never refused; at rest within M + N rounds, if its limit lets it

@@ -13,7 +13,7 @@ use Rattle.base.specs.laws.Loop.{Ok, loop-ok}
 use Rattle.base.specs.Pool.{All, nil, con}
 use Rattle.base.specs.laws.Pool.{All-app, All-one, All-map, All-here}
 use Rattle.base.specs.Keep.{keep}
-use Rattle.base.specs.laws.Keep.{keep-nil, keep-app, keep-none, keep-no, first-out, first-passes, head-of, others}
+use Rattle.base.specs.laws.Keep.{no-length, keep-nil, keep-app, keep-none, keep-no, first-out, first-passes, head-of, others}
 use Rattle.format_word.specs.Word.{linkIn, handedIn}
 use Rattle.plan.specs.laws.Accepted.{Accepted}
 use Rattle.plan.specs.Links.{Plan, modulesOf}
@@ -169,11 +169,7 @@ module _ (p : Plan) (a : Accepted p) (Good : State → Type 0) (calm : Calm p Go
 
   -- all that waited at the turn's start is done
   served-all : (v : ℕ) (y z : State) (t : Serving v y (length (keep (inQueue p v) (y .words))) z) → keep (inQueue p v) (y .words) ≡ t .done
-  served-all v y z t = t .split ∙ ap (λ m. t .done ++ m) (no-more (t .left) (omega (arith, ap length (t .split), length-append (t .done) (t .left), t .many))) ∙ append-nil (t .done)
-    where
-      no-more : (m : List ℕ) → length m ≡ 0 → m ≡ []
-      no-more [] e = refl
-      no-more (x ∷ m) e = absurd (omega arith)
+  served-all v y z t = t .split ∙ ap (λ m. t .done ++ m) (no-length (t .left) (omega (arith, ap length (t .split), length-append (t .done) (t .left), t .many))) ∙ append-nil (t .done)
 
   -- ---- the phase, which began at m
 

@@ -12,6 +12,10 @@ use Rattle.base.specs.laws.Pool.{Out, here, there}
 use Rattle.base.specs.Keep.{keep, place}
 
 module _ {A : Type 0} where
+  pub no-length : (l : List A) → length l ≡ 0 → l ≡ []
+  no-length [] e = refl
+  no-length (x ∷ l) e = absurd (omega arith)
+
   pub keep-yes : (q : A → Bool) (x : A) (l : List A) → q x ≡ true → keep q (x ∷ l) ≡ x ∷ keep q l
   unfolding keep
   keep-yes q x l e = rw e

@@ -1,8 +1,9 @@
 -- REQUEST 04 HOLDS (`blank-claim`).
 use mathlib.Core.Path.{subst, sym}
 use Rattle.plan.specs.Links.{Plan}
+use Rattle.plan_file.specs.laws.RoundTrip.{read-refusal}
 use Rattle.blank.specs.Claim.{Blank, BlankPlan, BlankClaim}
-use Rattle.blank.specs.laws.Plans.{blank-taken, blank-ceiling, blank-limit, blank-written, blank-short, blank-tree, blank-tree-20, read-blank, above-192, bytes-above-192, link-meets-16, bytes-meet-16}
+use Rattle.blank.specs.laws.Plans.{blank-taken, blank-ceiling, blank-limit, blank-written, blank-short, blank-tree, blank-tree-20, read-blank, above-192, bytes-above-192, link-meets-16, bytes-meet-16, links-meet-15, bytes-meet-15}
 use Rattle.blank.specs.laws.Fields.{blank-set, blank-valid, blank-field}
 use Rattle.blank.specs.laws.Program.{blank-job, blank-prints}
 
@@ -25,9 +26,12 @@ pub blank-claim : BlankClaim
 blank-claim = record {
   blank = blank-plan;
   read = read-blank;
+  check = λ s. sym (read-refusal s);
   prints = blank-prints;
   above = above-192;
   bytesAbove = bytes-above-192;
   link = link-meets-16;
   bytesLink = bytes-meet-16;
+  links = links-meet-15;
+  bytesLinks = bytes-meet-15;
 }

@@ -1,6 +1,6 @@
 -- A field of a plan with nobody in it: what 31 asks of it (`blank-valid`); no step is taken, by no list of calls (`blank-step`, `blank-rounds`, `blank-trail`,
 -- `blank-after`); no cue is started or delivered (`blank-start`, `blank-deliver`).
-use Prim.Native.Nat.{ℕ, zero, suc, _-_, _≤_}
+use Prim.Native.Nat.{ℕ, zero, suc, _-_}
 use native.Mathlib.Omega.{arith}
 use mathlib.Core.Path.{_≡_, refl, sym, ap, ap₂, _∙_}
 use mathlib.Core.Logic.{_≢_, _↔_}
@@ -11,6 +11,7 @@ use lib.Dec.{eqb, ltb}
 use borrow.Author.Tests.{eq-eqb, ne-eqb, le-ltb, le-leb}
 use Rattle.base.specs.laws.Cond.{bool-cases, by-eq}
 use Rattle.base.specs.Pool.{nil}
+use Rattle.base.specs.laws.Keep.{no-length}
 use Rattle.base.specs.laws.Sum.{sum-zero}
 use Rattle.base.specs.Cond.{bit}
 use Rattle.base.specs.Test.{every}
@@ -21,13 +22,13 @@ use Rattle.field.specs.Edges.{ceilingOf}
 use Rattle.field.specs.State.{State}
 use Rattle.field.specs.Step.{WAKE, HAND, SERVE, wake, hand, serve, step}
 use Rattle.field.specs.Valid.{waitingIn, zeroAfter, fits}
-use Rattle.field.specs.Held.{Held, fresh, stateOf, heldOf, valid, setUp, stepAlone}
+use Rattle.field.specs.Held.{Held, fresh, stateOf, valid, setUp, stepAlone}
 use Rattle.field_calls.specs.Schedule.{scheduleRefusal, stepsIn, kindOf, numberOf, stepAt, never, scheduleRun}
 use Rattle.field_calls.specs.Rounds.{round, atRest}
 use Rattle.field_calls.specs.Call.{Call, one, run, rounds, refusedRun, runBytes, runRounds, does, after}
 use Rattle.field_calls.specs.Trail.{ifTaken, roundSteps, stepsOf, trail}
 use Rattle.field_laws.specs.Fits.{FieldFits, fits-facts, facts-fits}
-use Rattle.field_laws.specs.Laid.{waiting-zeros, zeros-all, layout-back, valid-parts}
+use Rattle.field_laws.specs.Laid.{waiting-zeros, zeros-all, layout-back, valid-parts, held-same}
 use Rattle.preview.specs.Preview.{preview, notShown}
 use Rattle.preview.specs.laws.Outcomes.{preview-refused}
 use Rattle.cue.specs.declared.Cue.{Cue}
@@ -45,10 +46,6 @@ blank-set p b lent = rw (blank-taken p b, blank-ceiling p b, le-ltb (length lent
 
 -- 31
 
-empty : (l : List ℕ) → length l ≤ 0 → l ≡ []
-empty [] e = refl
-empty (x ∷ l) e = absurd (omega arith)
-
 module _ (h : Held) (b : Blank (h .field .plan)) where
   abbrev p : Plan
   p = h .field .plan
@@ -64,7 +61,7 @@ module _ (h : Held) (b : Blank (h .field .plan)) where
     nothing-sent = omega (arith, facts .ceiling, blank-ceiling p b)
 
     nothing-waits : s .words ≡ []
-    nothing-waits = empty (s .words) (omega (arith, facts .waiting, nothing-sent))
+    nothing-waits = no-length (s .words) (omega (arith, facts .waiting, nothing-sent))
 
     zeros : h .words ≡ zeroWords (length (h .words))
     zeros = sym (layout-back (h .words) (valid-parts h v .2)) ∙ rw nothing-waits (let e : length (h .words) - 0 ≡ length (h .words) = omega arith in ap zeroWords e)
@@ -131,12 +128,9 @@ module _ {S : Type 0} (rest : S → Bool) (g : ℕ → S → After S) (x : S) (k
 -- CALLS
 
 module _ (h : Held) (b : Blank (h .field .plan)) (v : valid h ≡ true) where
-  laid-same : heldOf h (stateOf h) ≡ h
-  laid-same = ap (λ w. record { field = h .field; words = w }) (layout-back (h .words) (valid-parts h v .2))
-
   pub blank-step : (kind number : ℕ) → stepAlone kind number h ≡ refusedBy (blankStep kind) h
   unfolding stepAlone
-  blank-step kind number = rw (v, step-refused (h .field .plan) b (stateOf h) kind number) (ap (refusedBy (blankStep kind)) laid-same)
+  blank-step kind number = rw (v, step-refused (h .field .plan) b (stateOf h) kind number) (ap (refusedBy (blankStep kind)) (held-same h v))
 
   pub blank-preview : (kind number : ℕ) (buffer : List ℕ) → preview kind number h buffer ≡ notShown (blankStep kind) buffer
   blank-preview kind number buffer =
@@ -157,15 +151,17 @@ module _ (h : Held) (b : Blank (h .field .plan)) (v : valid h ≡ true) where
   pub blank-run : (bytes : List ℕ) → runBytes bytes h ≡ refusedRun (blankRun bytes) h
   unfolding runBytes
   blank-run bytes = rw v (by-eq (scheduleRefusal bytes) 0
-      (λ e. rw (e, run-ends-at-once bytes) (ap (refusedRun (cond (eqb (stepsIn bytes) 0) 0 (blankStep (kindOf bytes 0)))) laid-same))
+      (λ e. rw (e, run-ends-at-once bytes) (ap (refusedRun (cond (eqb (stepsIn bytes) 0) 0 (blankStep (kindOf bytes 0)))) (held-same h v)))
       (λ n. rw (ne-eqb (scheduleRefusal bytes) 0 n) refl))
+
+  pub blank-rest : atRest (stateOf h) ≡ true
+  blank-rest = rw (nothing-waits h b v) refl
 
   pub blank-rounds : (limit : ℕ) → runRounds limit h ≡ record { done = 0; refusal = 0; state = h }
   unfolding runRounds runs
   blank-rounds limit =
       let p = h .field .plan in
-      let still : atRest (stateOf h) ≡ true = rw (nothing-waits h b v) refl in
-      rw (v, runs-rest atRest (λ i. round p) 0 (stateOf h) (stateOf h) refl limit (omega arith) still) (ap (λ (k : Held). record { done = 0; refusal = 0; state = k }) laid-same)
+      rw (v, runs-rest atRest (λ i. round p) 0 (stateOf h) (stateOf h) refl limit (omega arith) blank-rest) (ap (λ (k : Held). record { done = 0; refusal = 0; state = k }) (held-same h v))
 
   call-same : (c : Call) → does c h .state ≡ h
   unfolding does
@@ -218,6 +214,7 @@ module _ (h : Held) (b : Blank (h .field .plan)) (v : valid h ≡ true) where
     steps = blank-step;
     previews = blank-preview;
     runs = blank-run;
+    rest = blank-rest;
     rounds = blank-rounds;
     still = blank-trail;
     same = blank-after;

@@ -1,9 +1,10 @@
 -- A plan with nobody in it: taken, its ceiling, its bytes, its tree (`blank-taken`, `blank-ceiling`, `blank-written`, `blank-tree`); only its own seven bytes mean it
--- (`read-blank`). 14 is for more than 192 modules alone (`above-192`, `bytes-above-192`), and a link of nobody meets 16 (`link-meets-16`, `bytes-meet-16`).
+-- (`read-blank`). 14 is for more than 192 modules alone (`above-192`, `bytes-above-192`), and a link of nobody meets 16 (`link-meets-16`, `bytes-meet-16`), or 15
+-- before it (`links-meet-15`, `bytes-meet-15`).
 use Prim.Native.Nat.{ℕ, zero, suc, _+_, _*_, _-_, _≤_, _<_}
 use native.Mathlib.Omega.{arith}
 use mathlib.Core.Path.{_≡_, refl, sym, ap, ap₂, subst, _∙_}
-use mathlib.Core.Logic.{_≢_, _↔_}
+use mathlib.Core.Logic.{_≢_, _↔_, _⊎_, inl, inr}
 use mathlib.Core.Bool.{Bool, true, false, not, cond, _||_, or-true}
 use mathlib.Core.List.{List, [], _∷_, _++_}
 use lib.ListN.{length, getD, drop}
@@ -14,9 +15,10 @@ use Rattle.base.specs.Limits.{maxModules, maxLinks, maxReading, AllBytes}
 use Rattle.base.specs.Log.{log2-to, log2}
 use Rattle.base.specs.Loop.{takenTo, refusedBy}
 use Rattle.base.specs.Refuse.{orElse, firstRefusal}
+use Rattle.base.specs.laws.Refuse.{orElse-zero}
 use Rattle.base.specs.Table.{tabulate}
 use Rattle.graph.specs.Decide.{connected}
-use Rattle.plan.specs.Links.{Plan, planNumbers, modulesOf, linksOf, lowerOf, higherOf, nearOf, farOf, graphOf}
+use Rattle.plan.specs.Links.{Plan, modulesOf, linksOf, lowerOf, higherOf, nearOf, farOf, graphOf}
 use Rattle.plan.specs.Refusal.{countsRefusal, inOrder, linkVerdict, linkRefusal, linksRefusal, planRefusal}
 use Rattle.plan.specs.laws.Accepted.{counted-back, accepted-back}
 use Rattle.plan_file.specs.declared.Outcome.{Outcome}
@@ -24,8 +26,7 @@ use Rattle.plan_file.specs.Layout.{bytesOf, encode, numberAt, decode, trimmed, 
 use Rattle.plan_file.specs.Reading.{headVerdict, headRefusal, readRefusal, readPlan}
 use Rattle.plan_file.specs.Writing.{writeRefusal, writePlan}
 use Rattle.plan_file.specs.laws.Head.{head-ok}
-use Rattle.plan_file.specs.laws.Numbers.{padded-at}
-use Rattle.plan_file.specs.laws.RoundTrip.{trimmed-same, written-read, read-written}
+use Rattle.plan_file.specs.laws.RoundTrip.{trimmed-same, written-read, number-decode, read-written, read-refusal, read-plan}
 use Rattle.plan_tree.specs.Tree.{treeBytes, treeRefusal, centralTree}
 use Rattle.field.specs.Edges.{limitOf, ceilingOf}
 use Rattle.blank.specs.Claim.{Blank, blankBytes}
@@ -69,17 +70,6 @@ module _ (p : Plan) (b : Blank p) where
 
 -- THE BYTES
 
-read-refusal : (s : List ℕ) → readPlan s .refusal ≡ readRefusal s
-unfolding readPlan
-read-refusal s = eqb-cases (readRefusal s) 0 (λ c. outcome c .refusal ≡ readRefusal s) (λ e. sym e) (λ n. refl)
-  where
-    outcome : Bool → Outcome
-    outcome c = cond c (record { refusal = 0; plan = decode s }) (record { refusal = readRefusal s; plan = blank })
-
-read-plan : (s : List ℕ) → readRefusal s ≡ 0 → readPlan s .plan ≡ decode s
-unfolding readPlan
-read-plan s z = rw z refl
-
 -- the plan of zeros
 zeros-blank : Blank blank
 zeros-blank = record { nobody = refl; unlinked = refl }
@@ -110,6 +100,9 @@ not-orElse false n a z = z
 
 not-first : (r : ℕ) {s m : ℕ} → r ≢ m → s ≢ m → firstRefusal r s ≢ m
 not-first r {s} {m} a z = eqb-cases r 0 (λ c. cond c s r ≢ m) (λ e. z) (λ d. a)
+
+nobody-15 : (n l : ℕ) (fits : Bool) → n ≡ 0 → (ltb maxLinks l || not fits) ≡ true → countsRefusal n l fits ≡ 15
+nobody-15 n l fits z e = rw (z, e) refl
 
 counts-not : (n l : ℕ) (fits : Bool) → ltb maxModules n ≡ false → countsRefusal n l fits ≢ 14
 counts-not n l fits f = rw f (not-orElse (ltb maxLinks l || not fits) 15 (λ e. omega arith) (λ e. omega arith))
@@ -148,14 +141,16 @@ module _ (p : Plan) where
       let c : countsRefusal (modulesOf p) (linksOf p) true ≡ 0 = counted-back (modulesOf p) (linksOf p) (record { modulesOk = omega arith; linksOk = l }) in
       rw (c, links) refl
 
+  pub links-meet-15 : modulesOf p ≡ 0 → maxLinks < linksOf p → planRefusal p ≡ 15
+  unfolding planRefusal
+  links-meet-15 z l = rw (nobody-15 (modulesOf p) (linksOf p) true z (ap (λ b. b || false) (lt-ltb maxLinks (linksOf p) l))) refl
+
 -- of bytes
 decode-modules : (s : List ℕ) → modulesOf (decode s) ≡ numberAt s 1
-unfolding decode
-decode-modules s = padded-at (planNumbers (numberAt s 2)) (λ i. numberAt s (suc i)) 0 (omega arith)
+decode-modules s = number-decode s 0 (omega arith)
 
 decode-links : (s : List ℕ) → linksOf (decode s) ≡ numberAt s 2
-unfolding decode
-decode-links s = padded-at (planNumbers (numberAt s 2)) (λ i. numberAt s (suc i)) 1 (omega arith)
+decode-links s = number-decode s 1 (omega arith)
 
 pub bytes-meet-16 : (s : List ℕ) → headRefusal s ≡ 0 → numberAt s 1 ≡ 0 → 0 < numberAt s 2 → readPlan s .refusal ≡ 16
 unfolding readRefusal
@@ -175,3 +170,25 @@ bytes-above-192 s e = bool-cases (ltb maxModules (numberAt s 1)) (λ t. ltb-true
         (not-orElse (not (eqb (numberAt s 0) (length s - 3)) || ltb (numberAt s 0) 4) 13 (λ e. omega arith)
         (counts-not (numberAt s 1) (numberAt s 2) (eqb (numberAt s 0) (4 + 8 * numberAt s 2)) f))))
         (λ e. let l = above-192 (decode s) .0 e in let k = ltb-false maxModules (numberAt s 1) f in omega (arith, l, k, decode-modules s))
+
+-- where none of 11 to 13 applies the counts decide
+head-counts : (size version len counts : ℕ) → headVerdict size version len 0 ≡ 0 → headVerdict size version len counts ≡ counts
+unfolding headVerdict
+head-counts size version len counts h =
+    let f11 = orElse-zero (ltb size 3) 10 h in
+    let f12 = orElse-zero (not (eqb version 1)) 11 (f11 .1) in
+    let f13 = orElse-zero (not (eqb len (size - 3)) || ltb len 4) 12 (f12 .1) in
+    rw (f11 .0, f12 .0, f13 .0) refl
+
+pub bytes-meet-15 : (s : List ℕ) → headVerdict (length s) (getD s 0 0) (numberAt s 0) 0 ≡ 0 → numberAt s 1 ≡ 0
+    → (maxLinks < numberAt s 2) ⊎ (numberAt s 0 ≢ 4 + 8 * numberAt s 2) → readPlan s .refusal ≡ 15
+unfolding readRefusal
+bytes-meet-15 s h z t =
+    let fits = eqb (numberAt s 0) (4 + 8 * numberAt s 2) in
+    let c : countsRefusal (numberAt s 1) (numberAt s 2) fits ≡ 15 = nobody-15 (numberAt s 1) (numberAt s 2) fits z (unfit t) in
+    let e : headRefusal s ≡ 15 = head-counts (length s) (getD s 0 0) (numberAt s 0) _ h ∙ c in
+    read-refusal s ∙ rw e refl
+  where
+    unfit : (maxLinks < numberAt s 2) ⊎ (numberAt s 0 ≢ 4 + 8 * numberAt s 2) → (ltb maxLinks (numberAt s 2) || not (eqb (numberAt s 0) (4 + 8 * numberAt s 2))) ≡ true
+    unfit (inl l) = rw (lt-ltb maxLinks (numberAt s 2) l) refl
+    unfit (inr n) = rw (ne-eqb (numberAt s 0) (4 + 8 * numberAt s 2) n) (or-true (ltb maxLinks (numberAt s 2)))

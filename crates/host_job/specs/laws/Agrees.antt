@@ -59,7 +59,7 @@ wakes-one : (p : Plan) (h : Held) → valid h ≡ true → modulesOf p ≢ 0 →
 unfolding runBytes scheduleRefusal runs every
 wakes-one p h i n = rw (i, ne-eqb _ 0 n) refl
 
--- what demand 3 leaves of these
+-- of 0, 32 and 33 demand 3 leaves 0
 unrefused : (r : ℕ) (bytes : List ℕ) → CarriedAs r → Allowed (run bytes) r → r ≡ 0
 unrefused r b (inl e) a = e
 unrefused r b (inr (inl e)) (inl z) = z
@@ -130,6 +130,8 @@ module _ (p : Plan) (lent : List ℕ) (ok : setUp p lent .refusal ≡ 0) where
   -- AT THE END: "comes to rest unrefused within N more rounds than the ceiling"; the sent count is exact and within the ceiling; all modules
   -- agree on the tree, and exactly the ends of one tree link have halted
   pub record JobOutcome : Type 0 where
+    -- it runs the wakes, then rounds
+    pub is : jobRun p lent ≡ runRounds maxRounds (runBytes (jobWakes p) start .state)
     -- "wakes module 0"; request 04: "skips the wake" where there is nobody
     pub wakes : trail (run (jobWakes p) ∷ []) start ≡ cond (eqb (modulesOf p) 0) [] (stepTaken WAKE 0 (stateOf start) ∷ [])
     pub rests : ComesToRest p (jobRun p lent)
@@ -144,6 +146,7 @@ module _ (p : Plan) (lent : List ℕ) (ok : setUp p lent .refusal ≡ 0) where
   pub job-outcome : JobOutcome
   unfolding after does
   job-outcome = record {
+    is = job-is;
     wakes = waking;
     rests = rw job-is (first .rests maxRounds room);
     exact = rw job-is (whole .exact);

@@ -112,6 +112,10 @@ module _ (p : Plan) where
 
 -- READ, THEN WRITTEN
 
+pub number-decode : (s : List ℕ) (i : ℕ) → i < planNumbers (numberAt s 2) → getD (decode s) i 0 ≡ numberAt s (suc i)
+unfolding decode
+number-decode s i l = padded-at (planNumbers (numberAt s 2)) (λ j. numberAt s (suc j)) i l
+
 module _ (s : List ℕ) (z : readRefusal s ≡ 0) where
   read-head : HeadOk s
   unfolding readRefusal
@@ -121,14 +125,10 @@ module _ (s : List ℕ) (z : readRefusal s ≡ 0) where
   unfolding readRefusal
   read-accepted = firstRefusal-zero (headRefusal s) z .1
 
-  number-decode : (i : ℕ) → i < planNumbers (numberAt s 2) → getD (decode s) i 0 ≡ numberAt s (suc i)
-  unfolding decode
-  number-decode i l = padded-at (planNumbers (numberAt s 2)) (λ j. numberAt s (suc j)) i l
-
   numbers-decode : (4 + 8 * linksOf (decode s)) ∷ tabulate (planNumbers (linksOf (decode s))) (λ i. getD (decode s) i 0) ≡ tabulate (suc (planNumbers (numberAt s 2))) (numberAt s)
   unfolding tabulate
-  numbers-decode = rw (number-decode 1 (omega arith))
-      (ap₂ (λ x xs. x ∷ xs) (sym (read-head .len)) (tabulate-ext (planNumbers (numberAt s 2)) (λ i. getD (decode s) i 0) (λ i. numberAt s (suc i)) number-decode))
+  numbers-decode = rw (number-decode s 1 (omega arith))
+      (ap₂ (λ x xs. x ∷ xs) (sym (read-head .len)) (tabulate-ext (planNumbers (numberAt s 2)) (λ i. getD (decode s) i 0) (λ i. numberAt s (suc i)) (number-decode s)))
 
   -- "bytes that are taken and written again are the same bytes"
   pub read-written : AllBytes s → encode (decode s) ≡ s
@@ -147,16 +147,22 @@ module _ (s : List ℕ) (z : readRefusal s ≡ 0) where
       let n : size (decode s) ≡ length s = sym (length-encode (decode s)) ∙ ap length e in
       rw (read-accepted, n, le-ltb (length t) (length s) l, e)
 
--- what the reader takes is accepted
-pub read-taken : (s : List ℕ) (r : Outcome) → r ≡ readPlan s → r .refusal ≡ 0 → planRefusal (r .plan) ≡ 0
+-- the reader answers as the check does; what it takes is accepted
+pub read-refusal : (s : List ℕ) → readPlan s .refusal ≡ readRefusal s
 unfolding readPlan
-read-taken s r e z = rw e (eqb-cases (readRefusal s) 0 (λ b. refusal b .refusal ≡ 0 → planRefusal (refusal b .plan) ≡ 0)
-    (λ h y. read-accepted s h)
-    (λ n y. absurd (n y))
-    (rw e at z))
+read-refusal s = eqb-cases (readRefusal s) 0 (λ b. outcome b .refusal ≡ readRefusal s) (λ e. sym e) (λ n. refl)
   where
-    refusal : Bool → Outcome
-    refusal b = cond b (record { refusal = 0; plan = decode s }) (record { refusal = readRefusal s; plan = blank })
+    outcome : Bool → Outcome
+    outcome b = cond b (record { refusal = 0; plan = decode s }) (record { refusal = readRefusal s; plan = blank })
+
+pub read-plan : (s : List ℕ) → readRefusal s ≡ 0 → readPlan s .plan ≡ decode s
+unfolding readPlan
+read-plan s z = rw z refl
+
+pub read-taken : (s : List ℕ) (r : Outcome) → r ≡ readPlan s → r .refusal ≡ 0 → planRefusal (r .plan) ≡ 0
+read-taken s r e z =
+    let y : readRefusal s ≡ 0 = sym (read-refusal s) ∙ sym (ap (λ (o : Outcome). o .refusal) e) ∙ z in
+    ap planRefusal (ap (λ (o : Outcome). o .plan) e ∙ read-plan s y) ∙ read-accepted s y
 
 -- THE READER TAKES EXACTLY THE WRITTEN PLANS
 

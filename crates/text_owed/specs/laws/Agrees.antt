@@ -110,7 +110,7 @@ module _ (s : List ℕ) (z : readPlan s .refusal ≡ 0) where
     pub says : reported s
         ≡ sizesText (modulesOf p) (linksOf p) ++ treeLines p (linksOf p) ++ line "total " (totalCost (graphOf p) (cost p) (treeLink p)) ++ core
         ++ tailText (ran .state .field .sent) (ceilingOf p) (ran .done)
-    pub alone : modulesOf p < 2 → core ≡ ascii "core none\n"
+    pub coreless : modulesOf p < 2 → core ≡ ascii "core none\n"
     pub others : 2 ≤ modulesOf p → CoreNamed core
     pub within : ran .state .field .sent ≤ ceilingOf p
     pub soon : ran .done ≤ ceilingOf p + modulesOf p
@@ -122,7 +122,7 @@ module _ (s : List ℕ) (z : readPlan s .refusal ≡ 0) where
     says = never-refused
         ∙ report-of (ran .state .field) (ran .done) p own-plan (accepted p (read-taken s (readPlan s) refl z) .linksOk)
         (lines-tree p _ (linksOf p) marked) (total-tree p _ (linksOf p) marked) refl;
-    alone = λ l. core-none (modulesOf p) _ l;
+    coreless = λ l. core-none (modulesOf p) _ l;
     others = core-named;
     within = job-outcome p lent set .ceiling;
     soon = job-outcome p lent set .rests .within;
