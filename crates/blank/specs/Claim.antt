@@ -6,14 +6,14 @@ use mathlib.Core.Bool.{true, cond}
 use mathlib.Core.List.{List, [], _∷_, _++_}
 use lib.ListN.{length, getD, drop, replicate}
 use lib.Dec.{eqb}
-use Rattle.base.specs.Limits.{maxModules, maxLinks, AllBytes}
+use Rattle.base.specs.Limits.{AllBytes}
 use Rattle.base.specs.Loop.{takenTo, refusedBy}
 use Rattle.base.specs.Refuse.{firstRefusal}
 use Rattle.format_text.specs.Ascii.{ascii}
 use Rattle.plan.specs.Links.{Plan, modulesOf, linksOf}
 use Rattle.plan.specs.Refusal.{planRefusal}
 use Rattle.plan_file.specs.Layout.{numberAt}
-use Rattle.plan_file.specs.Reading.{headVerdict, headRefusal, readRefusal, readPlan}
+use Rattle.plan_file.specs.Reading.{headVerdict, readRefusal, readPlan}
 use Rattle.plan_file.specs.Writing.{writePlan}
 use Rattle.plan_tree.specs.Tree.{centralTree}
 use Rattle.field.specs.Edges.{limitOf, ceilingOf}
@@ -28,7 +28,9 @@ use Rattle.cue.specs.declared.Cue.{Cue}
 use Rattle.cue.specs.declared.Delivery.the-variants.{Refused}
 use Rattle.cue.specs.Calls.{startCue, deliverCue}
 use Rattle.host_job.specs.Job.{jobRun}
+use Rattle.text_trace.specs.Text.{summaryText}
 use Rattle.text_owed.specs.Reported.{reported}
+use Rattle.text_owed.specs.Traced.{traced}
 
 -- "A plan with N = 0 and L = 0": whatever stands behind these two numbers
 pub record Blank (p : Plan) : Type 0 where
@@ -54,6 +56,13 @@ blankStep kind = cond (eqb kind WAKE) 41 (cond (eqb kind HAND) 42 (cond (eqb kin
 -- what a run of a schedule meets: its own refusals, then that of its first step, where it has one
 abbrev pub blankRun : List ℕ → ℕ
 blankRun bytes = firstRefusal (scheduleRefusal bytes) (cond (eqb (stepsIn bytes) 0) 0 (blankStep (kindOf bytes 0)))
+
+-- bytes that meet none of 11 to 13, and the length that so many links take
+abbrev pub HeadTaken : List ℕ → Type 0
+HeadTaken s = headVerdict (length s) (getD s 0 0) (numberAt s 0) 0 ≡ 0
+
+abbrev pub linksLength : ℕ → ℕ
+linksLength links = 4 + 8 * links
 
 -- a field of such a plan, however made, that 31 lets pass
 pub record OnBlankField (h : Held) : Type 0 where
@@ -96,15 +105,17 @@ pub record BlankClaim : Type 0 where
   -- of all bytes these are read as such a plan; the check answers what the reader does
   pub read : (s : List ℕ) → AllBytes s → ((readPlan s .refusal ≡ 0) × Blank (readPlan s .plan)) ↔ (s ≡ blankBytes)
   pub check : (s : List ℕ) → readRefusal s ≡ readPlan s .refusal
-  -- "The program .. prints"
+  -- "The program .. prints"; that which traces takes it too, and does no step, whatever bytes follow
   pub prints : reported blankBytes ≡ blankReport
+  pub traces : (s : List ℕ) → traced (blankBytes ++ s) ≡ summaryText 0 (blankRun s) 0 0
   -- "Refusal 14 is now only for N above 192": of plan values, and of bytes
-  pub above : (p : Plan) → (planRefusal p ≡ 14) ↔ (maxModules < modulesOf p)
-  pub bytesAbove : (s : List ℕ) → readPlan s .refusal ≡ 14 → maxModules < numberAt s 1
-  -- "a link in such a plan meets 16": of plan values, and of bytes that meet none of 11 to 15
-  pub link : (p : Plan) → modulesOf p ≡ 0 → 0 < linksOf p → linksOf p ≤ maxLinks → planRefusal p ≡ 16
-  pub bytesLink : (s : List ℕ) → headRefusal s ≡ 0 → numberAt s 1 ≡ 0 → 0 < numberAt s 2 → readPlan s .refusal ≡ 16
-  -- and before it 15, "L above 600 or not fitting the length": of plan values, and of bytes that meet none of 11 to 13
-  pub links : (p : Plan) → modulesOf p ≡ 0 → maxLinks < linksOf p → planRefusal p ≡ 15
-  pub bytesLinks : (s : List ℕ) → headVerdict (length s) (getD s 0 0) (numberAt s 0) 0 ≡ 0 → numberAt s 1 ≡ 0
-      → (maxLinks < numberAt s 2) ⊎ (numberAt s 0 ≢ 4 + 8 * numberAt s 2) → readPlan s .refusal ≡ 15
+  pub above : (p : Plan) → (planRefusal p ≡ 14) ↔ (192 < modulesOf p)
+  pub bytesAbove : (s : List ℕ) → readPlan s .refusal ≡ 14 → 192 < numberAt s 1
+  -- "a link in such a plan meets 16": of plan values, and of bytes
+  pub link : (p : Plan) → modulesOf p ≡ 0 → 0 < linksOf p → linksOf p ≤ 600 → planRefusal p ≡ 16
+  pub bytesLink : (s : List ℕ) → HeadTaken s → numberAt s 1 ≡ 0 → 0 < numberAt s 2 → numberAt s 2 ≤ 600 → numberAt s 0 ≡ linksLength (numberAt s 2)
+      → readPlan s .refusal ≡ 16
+  -- and before it 15, "L above 600 or not fitting the length"
+  pub links : (p : Plan) → modulesOf p ≡ 0 → 600 < linksOf p → planRefusal p ≡ 15
+  pub bytesLinks : (s : List ℕ) → HeadTaken s → numberAt s 1 ≡ 0 → (600 < numberAt s 2) ⊎ (numberAt s 0 ≢ linksLength (numberAt s 2))
+      → readPlan s .refusal ≡ 15

@@ -1,11 +1,17 @@
--- REQUEST 04 HOLDS (`blank-claim`).
-use mathlib.Core.Path.{subst, sym}
+-- REQUEST 04 HOLDS (`blank-claim`); so no list of calls from the blank plan's setup wakes a module (`nobody-woken`).
+use Prim.Native.Nat.{ℕ}
+use mathlib.Core.Path.{_≡_, refl, sym, ap, subst, _∙_}
+use mathlib.Core.List.{List, []}
+use Rattle.base.specs.Loop.{After}
 use Rattle.plan.specs.Links.{Plan}
 use Rattle.plan_file.specs.laws.RoundTrip.{read-refusal}
+use Rattle.field.specs.Held.{Held, setUp}
+use Rattle.field_calls.specs.Call.{Call}
+use Rattle.field_calls.specs.Trail.{trail, wokenIn}
 use Rattle.blank.specs.Claim.{Blank, BlankPlan, BlankClaim}
 use Rattle.blank.specs.laws.Plans.{blank-taken, blank-ceiling, blank-limit, blank-written, blank-short, blank-tree, blank-tree-20, read-blank, above-192, bytes-above-192, link-meets-16, bytes-meet-16, links-meet-15, bytes-meet-15}
 use Rattle.blank.specs.laws.Fields.{blank-set, blank-valid, blank-field}
-use Rattle.blank.specs.laws.Program.{blank-job, blank-prints}
+use Rattle.blank.specs.laws.Program.{blankBegun, blank-begun, blank-job, blank-prints, blank-traces}
 
 blank-plan : (p : Plan) → Blank p → BlankPlan p
 blank-plan p b = record {
@@ -28,6 +34,7 @@ blank-claim = record {
   read = read-blank;
   check = λ s. sym (read-refusal s);
   prints = blank-prints;
+  traces = blank-traces;
   above = above-192;
   bytesAbove = bytes-above-192;
   link = link-meets-16;
@@ -35,3 +42,11 @@ blank-claim = record {
   links = links-meet-15;
   bytesLinks = bytes-meet-15;
 }
+
+-- "What is claimed about finished fields still begins with a woken module", and here there is none
+module _ (p : Plan) (b : Blank p) (lent : List ℕ) where
+  pub nobody-woken : (calls : List Call) → wokenIn p (trail calls (setUp p lent .state)) ≡ []
+  unfolding wokenIn
+  nobody-woken calls =
+      let c = blank-claim .blank p b in
+      ap (λ (a : After Held). wokenIn p (trail calls (a .state))) (c .set lent) ∙ ap (wokenIn p) (c .calls (blankBegun p b lent) refl (blank-begun p b lent) .still calls)

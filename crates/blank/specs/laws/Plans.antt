@@ -9,7 +9,7 @@ use mathlib.Core.Bool.{Bool, true, false, not, cond, _||_, or-true}
 use mathlib.Core.List.{List, [], _∷_, _++_}
 use lib.ListN.{length, getD, drop}
 use lib.Dec.{eqb, ltb, leb}
-use borrow.Author.Tests.{lt-ltb, le-ltb, le-leb, ne-eqb, ltb-true, ltb-false}
+use borrow.Author.Tests.{lt-ltb, le-ltb, le-leb, eq-eqb, ne-eqb, ltb-true, ltb-false}
 use Rattle.base.specs.laws.Cond.{eqb-cases, bool-cases}
 use Rattle.base.specs.Limits.{maxModules, maxLinks, maxReading, AllBytes}
 use Rattle.base.specs.Log.{log2-to, log2}
@@ -25,11 +25,10 @@ use Rattle.plan_file.specs.declared.Outcome.{Outcome}
 use Rattle.plan_file.specs.Layout.{bytesOf, encode, numberAt, decode, trimmed, blank}
 use Rattle.plan_file.specs.Reading.{headVerdict, headRefusal, readRefusal, readPlan}
 use Rattle.plan_file.specs.Writing.{writeRefusal, writePlan}
-use Rattle.plan_file.specs.laws.Head.{head-ok}
 use Rattle.plan_file.specs.laws.RoundTrip.{trimmed-same, written-read, number-decode, read-written, read-refusal, read-plan}
 use Rattle.plan_tree.specs.Tree.{treeBytes, treeRefusal, centralTree}
 use Rattle.field.specs.Edges.{limitOf, ceilingOf}
-use Rattle.blank.specs.Claim.{Blank, blankBytes}
+use Rattle.blank.specs.Claim.{Blank, blankBytes, HeadTaken, linksLength}
 
 module _ (p : Plan) (b : Blank p) where
   pub blank-taken : planRefusal p ≡ 0
@@ -152,10 +151,21 @@ decode-modules s = number-decode s 0 (omega arith)
 decode-links : (s : List ℕ) → linksOf (decode s) ≡ numberAt s 2
 decode-links s = number-decode s 1 (omega arith)
 
-pub bytes-meet-16 : (s : List ℕ) → headRefusal s ≡ 0 → numberAt s 1 ≡ 0 → 0 < numberAt s 2 → readPlan s .refusal ≡ 16
+-- where none of 11 to 13 applies the counts decide
+head-counts : (size version len counts : ℕ) → headVerdict size version len 0 ≡ 0 → headVerdict size version len counts ≡ counts
+unfolding headVerdict
+head-counts size version len counts h =
+    let f11 = orElse-zero (ltb size 3) 10 h in
+    let f12 = orElse-zero (not (eqb version 1)) 11 (f11 .1) in
+    let f13 = orElse-zero (not (eqb len (size - 3)) || ltb len 4) 12 (f12 .1) in
+    rw (f11 .0, f12 .0, f13 .0) refl
+
+pub bytes-meet-16 : (s : List ℕ) → HeadTaken s → numberAt s 1 ≡ 0 → 0 < numberAt s 2 → numberAt s 2 ≤ maxLinks → numberAt s 0 ≡ linksLength (numberAt s 2)
+    → readPlan s .refusal ≡ 16
 unfolding readRefusal
-bytes-meet-16 s h z m =
-    let l = head-ok s h .counts .linksOk in
+bytes-meet-16 s t z m l f =
+    let h : headRefusal s ≡ 0 = head-counts (length s) (getD s 0 0) (numberAt s 0) _ t
+    ∙ rw (eq-eqb (numberAt s 0) (linksLength (numberAt s 2)) f) (counted-back (numberAt s 1) (numberAt s 2) (record { modulesOk = omega (arith, z); linksOk = l })) in
     let e : planRefusal (decode s) ≡ 16 = link-meets-16 (decode s) (decode-modules s ∙ z) (omega (arith, decode-links s)) (omega (arith, decode-links s)) in
     read-refusal s ∙ rw (h, e) refl
 
@@ -171,24 +181,15 @@ bytes-above-192 s e = bool-cases (ltb maxModules (numberAt s 1)) (λ t. ltb-true
         (counts-not (numberAt s 1) (numberAt s 2) (eqb (numberAt s 0) (4 + 8 * numberAt s 2)) f))))
         (λ e. let l = above-192 (decode s) .0 e in let k = ltb-false maxModules (numberAt s 1) f in omega (arith, l, k, decode-modules s))
 
--- where none of 11 to 13 applies the counts decide
-head-counts : (size version len counts : ℕ) → headVerdict size version len 0 ≡ 0 → headVerdict size version len counts ≡ counts
-unfolding headVerdict
-head-counts size version len counts h =
-    let f11 = orElse-zero (ltb size 3) 10 h in
-    let f12 = orElse-zero (not (eqb version 1)) 11 (f11 .1) in
-    let f13 = orElse-zero (not (eqb len (size - 3)) || ltb len 4) 12 (f12 .1) in
-    rw (f11 .0, f12 .0, f13 .0) refl
-
-pub bytes-meet-15 : (s : List ℕ) → headVerdict (length s) (getD s 0 0) (numberAt s 0) 0 ≡ 0 → numberAt s 1 ≡ 0
-    → (maxLinks < numberAt s 2) ⊎ (numberAt s 0 ≢ 4 + 8 * numberAt s 2) → readPlan s .refusal ≡ 15
+pub bytes-meet-15 : (s : List ℕ) → HeadTaken s → numberAt s 1 ≡ 0 → (maxLinks < numberAt s 2) ⊎ (numberAt s 0 ≢ linksLength (numberAt s 2))
+    → readPlan s .refusal ≡ 15
 unfolding readRefusal
 bytes-meet-15 s h z t =
-    let fits = eqb (numberAt s 0) (4 + 8 * numberAt s 2) in
+    let fits = eqb (numberAt s 0) (linksLength (numberAt s 2)) in
     let c : countsRefusal (numberAt s 1) (numberAt s 2) fits ≡ 15 = nobody-15 (numberAt s 1) (numberAt s 2) fits z (unfit t) in
     let e : headRefusal s ≡ 15 = head-counts (length s) (getD s 0 0) (numberAt s 0) _ h ∙ c in
     read-refusal s ∙ rw e refl
   where
-    unfit : (maxLinks < numberAt s 2) ⊎ (numberAt s 0 ≢ 4 + 8 * numberAt s 2) → (ltb maxLinks (numberAt s 2) || not (eqb (numberAt s 0) (4 + 8 * numberAt s 2))) ≡ true
+    unfit : (maxLinks < numberAt s 2) ⊎ (numberAt s 0 ≢ linksLength (numberAt s 2)) → (ltb maxLinks (numberAt s 2) || not (eqb (numberAt s 0) (linksLength (numberAt s 2)))) ≡ true
     unfit (inl l) = rw (lt-ltb maxLinks (numberAt s 2) l) refl
-    unfit (inr n) = rw (ne-eqb (numberAt s 0) (4 + 8 * numberAt s 2) n) (or-true (ltb maxLinks (numberAt s 2)))
+    unfit (inr n) = rw (ne-eqb (numberAt s 0) (linksLength (numberAt s 2)) n) (or-true (ltb maxLinks (numberAt s 2)))

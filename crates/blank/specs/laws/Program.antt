@@ -1,8 +1,10 @@
--- The whole job on a plan with nobody in it leaves what setup leaves (`blank-job`), and the program prints six lines (`blank-prints`).
+-- The whole job on a plan with nobody in it leaves what setup leaves (`blank-job`), and the program prints six lines (`blank-prints`); that
+-- which traces tells that no step was done (`blank-traces`).
 use Prim.Native.Nat.{ℕ}
+use native.Mathlib.Omega.{arith}
 use mathlib.Core.Path.{_≡_, refl, sym, ap, _∙_}
 use mathlib.Core.Bool.{true}
-use mathlib.Core.List.{List, [], _∷_}
+use mathlib.Core.List.{List, [], _∷_, _++_, append-nil}
 use lib.ListN.{length, replicate, length-replicate}
 use Rattle.base.specs.Log.{log2-to, log2}
 use Rattle.base.specs.Loop.{After}
@@ -11,41 +13,44 @@ use Rattle.plan.specs.Links.{Plan}
 use Rattle.plan_file.specs.Layout.{blank, trimmed}
 use Rattle.plan_file.specs.Reading.{readPlan}
 use Rattle.field.specs.Edges.{ceilingOf}
+use Rattle.field.specs.Valid.{waitingIn}
 use Rattle.field.specs.Held.{Held, fresh, valid, setUp}
 use Rattle.field_calls.specs.Call.{run, runBytes, runRounds, does, after}
 use Rattle.host_job.specs.Job.{jobWakes, maxRounds, jobRun}
 use Rattle.host_job.specs.laws.Agrees.{job-is}
+use Rattle.text_trace.specs.Text.{modulesText, wordsText, summaryText, traceText}
 use Rattle.text_report.specs.Total.{total}
 use Rattle.text_report.specs.Text.{branchLines, coreText, reportText}
 use Rattle.text_owed.specs.Reported.{jobText, reported}
 use Rattle.text_owed.specs.laws.Reported.{plan-taken}
-use Rattle.blank.specs.Claim.{Blank, blankBytes, blankReport, zeroWords}
-use Rattle.blank.specs.laws.Plans.{blank-read, trimmed-blank}
-use Rattle.blank.specs.laws.Fields.{blank-set, blank-valid, blank-rounds, blank-after}
+use Rattle.text_owed.specs.Traced.{freshHeld, planPart, ranText, traced}
+use Rattle.blank.specs.Claim.{Blank, blankBytes, blankReport, blankRun, zeroWords}
+use Rattle.blank.specs.laws.Plans.{blank-read, trimmed-blank, blank-ceiling}
+use Rattle.blank.specs.laws.Fields.{blank-set, blank-valid, blank-run, blank-rounds, blank-after}
 
 module _ (p : Plan) (b : Blank p) (lent : List ℕ) where
-  abbrev begun : Held
-  begun = record { field = fresh p; words = zeroWords (length lent) }
+  abbrev pub blankBegun : Held
+  blankBegun = record { field = fresh p; words = zeroWords (length lent) }
 
-  begun-valid : valid begun ≡ true
-  begun-valid = blank-valid begun b .1 (refl, ap zeroWords (sym (length-replicate {A = ℕ} (length lent) 0)))
+  pub blank-begun : valid blankBegun ≡ true
+  blank-begun = blank-valid blankBegun b .1 (refl, ap zeroWords (sym (length-replicate {A = ℕ} (length lent) 0)))
 
-  begun-is : setUp p lent .state ≡ begun
+  begun-is : setUp p lent .state ≡ blankBegun
   begun-is = ap (λ (a : After Held). a .state) (blank-set p b lent)
 
-  woken-is : runBytes (jobWakes p) begun .state ≡ begun
+  woken-is : runBytes (jobWakes p) blankBegun .state ≡ blankBegun
   unfolding after does
-  woken-is = blank-after begun b begun-valid (run (jobWakes p) ∷ [])
+  woken-is = blank-after blankBegun b blank-begun (run (jobWakes p) ∷ [])
 
   pub blank-job : jobRun p lent ≡ record { done = 0; refusal = 0; state = setUp p lent .state }
   blank-job =
       job-is p lent (ap (λ (a : After Held). a .refusal) (blank-set p b lent))
       ∙ ap (λ h. runRounds maxRounds (runBytes (jobWakes p) h .state)) begun-is
       ∙ ap (runRounds maxRounds) woken-is
-      ∙ blank-rounds begun b begun-valid maxRounds
+      ∙ blank-rounds blankBegun b blank-begun maxRounds
       ∙ ap (λ (h : Held). record { done = 0; refusal = 0; state = h }) (sym begun-is)
 
-  blank-text : jobText (record { done = 0; refusal = 0; state = begun }) ≡ blankReport
+  blank-text : jobText (record { done = 0; refusal = 0; state = blankBegun }) ≡ blankReport
   unfolding jobText reportText branchLines total coreText decimal log2 log2-to
   blank-text = rw (b .nobody, b .unlinked) refl
 
@@ -56,3 +61,17 @@ blank-prints =
     plan-taken (record { refusal = 0; plan = p }) (readPlan blankBytes) (sym blank-read) refl lent refl
     ∙ ap jobText (blank-job p trimmed-blank lent ∙ ap (λ (h : Held). record { done = 0; refusal = 0; state = h }) (begun-is p trimmed-blank lent))
     ∙ blank-text p trimmed-blank lent
+
+blank-trace : (p : Plan) → Blank p → (s : List ℕ) → ranText p (runBytes s (freshHeld p)) ≡ summaryText 0 (blankRun s) 0 0
+unfolding ranText traceText modulesText wordsText waitingIn
+blank-trace p b s =
+    let h = freshHeld p in
+    let v : valid h ≡ true = blank-valid h b .1 (refl, ap zeroWords (sym (length-replicate {A = ℕ} (ceilingOf p) 0))) in
+    let t = summaryText 0 (blankRun s) 0 0 in
+    rw (blank-run h b v s) (rw (blank-ceiling p b, b .nobody) (append-nil (t ++ []) ∙ append-nil t))
+
+pub blank-traces : (s : List ℕ) → traced (blankBytes ++ s) ≡ summaryText 0 (blankRun s) 0 0
+unfolding traced
+blank-traces s =
+    let part : planPart (blankBytes ++ s) ≡ 7 = omega arith in
+    rw part (rw blank-read (blank-trace (trimmed blank) trimmed-blank s))

@@ -1,4 +1,4 @@
--- Bytes with nobody, read (`nobody-samples`): without a link; with one; with a length that does not fit; and more than 192 modules.
+-- Bytes with nobody, read (`nobody-samples`): without a link; with one; with a length that does not fit; and 192 modules, and more.
 use Prim.Native.Nat.{ℕ}
 use mathlib.Core.Path.{_≡_, refl}
 use mathlib.Core.List.{List, [], _∷_, map}
@@ -15,7 +15,7 @@ abbrev linked : ℕ → ℕ → ℕ → List ℕ
 linked len n l = 0x01 ∷ 0x00 ∷ len ∷ 0x00 ∷ n ∷ 0x00 ∷ l ∷ 0x00 ∷ 0x00 ∷ 0x00 ∷ 0x01 ∷ 0x00 ∷ 0x03 ∷ 0x00 ∷ 0x04 ∷ []
 
 pub nobody-samples :
-    map (λ s. readPlan s .refusal) (blankBytes ∷ linked 12 0 1 ∷ linked 12 0 2 ∷ linked 12 0 0 ∷ linked 11 0 1 ∷ linked 12 193 2 ∷ [])
-    ≡ 0 ∷ 16 ∷ 15 ∷ 15 ∷ 13 ∷ 14 ∷ []
+    map (λ s. readPlan s .refusal) (blankBytes ∷ linked 12 0 1 ∷ linked 12 0 2 ∷ linked 12 0 0 ∷ linked 11 0 1 ∷ linked 12 192 2 ∷ linked 12 193 2 ∷ [])
+    ≡ 0 ∷ 16 ∷ 15 ∷ 15 ∷ 13 ∷ 15 ∷ 14 ∷ []
 unfolding tabulate every label joinedOver connected ascends inOrder linkVerdict linksRefusal planRefusal padded decode headVerdict readRefusal readPlan
 nobody-samples = refl

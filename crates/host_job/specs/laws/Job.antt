@@ -1,9 +1,10 @@
--- The whole job stops at the first call that is refused (`not-set`, `not-woken`), or all of it runs (`all-run`).
+-- The whole job stops at the first call that is refused (`not-set`, `not-woken`), or all of it runs (`all-run`). Whom it wakes, in samples
+-- (`wakes-samples`).
 use Prim.Native.Nat.{ℕ, _+_, _*_, min}
 use native.Mathlib.Omega.{arith}
 use mathlib.Core.Path.{_≡_, refl, sym}
 use mathlib.Core.Logic.{_≢_}
-use mathlib.Core.List.{List, [], _∷_}
+use mathlib.Core.List.{List, [], _∷_, map}
 use lib.ListN.{take}
 use Rattle.base.specs.laws.Cond.{eqb-diff, by-eq}
 use Rattle.base.specs.Loop.{After, Ran}
@@ -21,6 +22,11 @@ wakes-bytes : (p : Plan) (k : ℕ) → k ≡ min (modulesOf p) 1 → wakeBytes k
 wakes-bytes p k e = by-eq (modulesOf p) 0
     (λ z. rw (z, let f : k ≡ 0 = omega arith in f) refl)
     (λ n. rw (eqb-diff (modulesOf p) 0 n, let f : k ≡ 1 = omega arith in f) refl)
+
+-- of plans with no module, with one, and with two
+pub wakes-samples : map jobWakes ((0 ∷ 0 ∷ []) ∷ (1 ∷ 0 ∷ []) ∷ (2 ∷ 1 ∷ 0 ∷ 1 ∷ 3 ∷ 4 ∷ []) ∷ [])
+    ≡ (1 ∷ 0 ∷ 0 ∷ []) ∷ (1 ∷ 0 ∷ 3 ∷ 1 ∷ 0 ∷ 0 ∷ []) ∷ (1 ∷ 0 ∷ 3 ∷ 1 ∷ 0 ∷ 0 ∷ []) ∷ []
+wakes-samples = refl
 
 -- it stops at the first call that is refused
 module _ (p : Plan) (lent : List ℕ) (s : After Held) (set : s ≡ setUp p lent) where
