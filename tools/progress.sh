@@ -61,8 +61,8 @@ closure() {
 }
 
 # A new folder for rt's temporary files: in memory, unless TMPDIR names another place, there is less than 2 GB, or no program
-# could run there. For each crate the prover lays out what it loads, some 7,000 files of 210 MB, and removes them again; on a
-# disk that takes about a third of all its time (docs/BENCHMARKS.md).
+# could run there. For each crate and each edit the prover lays out what it loads, some 7,000 files of 210 MB, and removes
+# them again; the making and removing alone takes long on a disk (docs/BENCHMARKS.md).
 scratch() {
     where=${TMPDIR:-/tmp} room=$(df -Pk /dev/shm 2>/dev/null | awk 'END { print $4 }')
     if [ -z "${TMPDIR:-}" ] && [ -w /dev/shm ] && [ "${room:-0}" -ge 2097152 ] &&
