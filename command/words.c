@@ -94,6 +94,7 @@ static void print_module(const muruapy_field *field, uint16_t v)
         print_link("test edge", module->test_edge);
         print_link("in-branch", module->in_branch);
         printf(", find-count %u%s", module->find_count, module->halted ? ", halted" : "");
+        print_link("waking link", module->waking);
     }
     const char *before = "; ";
     for (uint16_t k = 0; k < field->plan.links; k++)

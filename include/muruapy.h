@@ -39,11 +39,12 @@
 #include <stddef.h>
 #include <stdint.h>
 
-/* The major number rises when the same plan may come to another tree: 2 orders links by the larger reading. The minor
- * number rises when there is more to call, or when something is taken that was refused: 2.1 takes the blank plan. */
-#define MURUAPY_VERSION_MAJOR 2
-#define MURUAPY_VERSION_MINOR 1
-#define MURUAPY_VERSION "2.1"
+/* The major number rises when the same plan may come to another tree (2 orders links by the larger reading), or when a
+ * struct that a caller lends changes, so that a program must be compiled anew (3 has the waking link in muruapy_module).
+ * The minor number rises when there is more to call, or when something is taken that was refused. */
+#define MURUAPY_VERSION_MAJOR 3
+#define MURUAPY_VERSION_MINOR 0
+#define MURUAPY_VERSION "3.0"
 
 #ifdef __cplusplus
 extern "C" {
@@ -52,6 +53,7 @@ extern "C" {
 /* Limits. */
 #define MURUAPY_MODULES 192     /* modules of a plan, at most */
 #define MURUAPY_LINKS 600       /* links of a plan, at most */
+#define MURUAPY_WIDTH 10        /* numbers of a module's record, muruapy_module */
 #define MURUAPY_READING 2000    /* the largest reading, in tenths of a decibel */
 #define MURUAPY_NONE 65535      /* "none" where a link's number could stand */
 #define MURUAPY_WORDS 7920      /* words that are enough for every plan: the largest ceiling */
@@ -64,7 +66,7 @@ extern "C" {
 /* Bytes of stack that a call uses, at most. */
 #define MURUAPY_STACK_PLAN 12288  /* plans, frames, schedules, messages: 12 KB */
 #define MURUAPY_STACK_FIELD 36864 /* fields, their report, previews, cues: 36 KB */
-#define MURUAPY_STACK_JOB 73728   /* muruapy_job: 72 KB */
+#define MURUAPY_STACK_JOB 77824   /* muruapy_job: 76 KB */
 
 /* Why a call was refused; muruapy_refusal_text has a sentence for each. */
 enum muruapy_refusal {
@@ -299,7 +301,9 @@ uint32_t muruapy_frame_write(uint8_t header, uint16_t carried, uint8_t *bytes, s
 /* ---- Fields ---- */
 
 /* What a module knows. A link is told by its number, below the plan's links; none is MURUAPY_NONE; own links are those
- * that end at the module. */
+ * that end at the module. Other numbers than those told here are refused by 31. Who woke a module is at the other end of
+ * its waking link: from setup, going on like this from any awake module ends at one that a wake step woke, and comes to
+ * no module twice. (In a field that was made by hand the waking links may run in a circle.) */
 typedef struct muruapy_module {
     uint16_t status;      /* 0 asleep, 1 Find, 2 Found */
     uint16_t level;       /* 0 to the whole part of the binary logarithm of the number of modules */
@@ -310,6 +314,8 @@ typedef struct muruapy_module {
     uint16_t in_branch;   /* an own link or none */
     uint16_t find_count;  /* 0 to the number of own links */
     uint16_t halted;      /* 0 or 1 */
+    uint16_t waking;      /* the waking link, whose message woke it: an own link or none; none while asleep, and where a
+                             wake step woke it */
 } muruapy_module;
 
 /* A field. The messages that wait lie in words of the caller's, at least as many as the ceiling, beside the field: from

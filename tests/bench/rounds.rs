@@ -22,19 +22,31 @@ struct Module {
     in_branch: u16,
     find_count: u16,
     halted: u16,
+    waking: u16,
 }
 
 impl Module {
     fn load(cells: &Cells, v: u16) -> Module {
         let c: &[u16; WIDTH] = cells[WIDTH * v as usize..][..WIDTH].try_into().unwrap();
-        let [status, level, identity, best_weight, best_edge, test_edge, in_branch, find_count, halted] = *c;
-        Module { status, level, identity, best_weight, best_edge, test_edge, in_branch, find_count, halted }
+        let [status, level, identity, best_weight, best_edge, test_edge, in_branch, find_count, halted, waking] = *c;
+        Module { status, level, identity, best_weight, best_edge, test_edge, in_branch, find_count, halted, waking }
     }
 
     fn store(&self, cells: &mut Cells, v: u16) {
-        let Module { status, level, identity, best_weight, best_edge, test_edge, in_branch, find_count, halted } =
-            *self;
-        let values = [status, level, identity, best_weight, best_edge, test_edge, in_branch, find_count, halted];
+        let Module {
+            status,
+            level,
+            identity,
+            best_weight,
+            best_edge,
+            test_edge,
+            in_branch,
+            find_count,
+            halted,
+            waking,
+        } = *self;
+        let values: [u16; WIDTH] =
+            [status, level, identity, best_weight, best_edge, test_edge, in_branch, find_count, halted, waking];
         cells[WIDTH * v as usize..][..WIDTH].copy_from_slice(&values);
     }
 }
@@ -156,7 +168,8 @@ impl Response<'_> {
         self.record.own(self.v).count() as u16
     }
 
-    fn wakeup(&mut self) {
+    /// Woken by a message over this link.
+    fn wakeup(&mut self, by: u16) {
         self.module = Module {
             status: 2,
             level: 0,
@@ -167,6 +180,7 @@ impl Response<'_> {
             in_branch: NONE,
             find_count: 0,
             halted: self.module.halted,
+            waking: by,
         };
         let k = self.earliest(|_| true);
         if k == NONE {
@@ -185,7 +199,7 @@ impl Response<'_> {
             if kind != 1 && kind != 3 {
                 return Err(32);
             }
-            self.wakeup();
+            self.wakeup(j);
         }
         match kind {
             1 => self.on_connect(j, level),
@@ -509,5 +523,7 @@ fn module_ok(record: &Record, v: u16, degree: u16) -> bool {
         && own(m.in_branch)
         && m.find_count <= degree
         && m.halted <= 1
+        && own(m.waking)
+        && (m.status != 0 || m.waking == NONE)
         && (m.identity == NONE) == (m.level == 0)
 }

@@ -95,6 +95,7 @@ fn module(field: &Field, v: u16) -> String {
         line += &format!(", best edge {}, test edge {}", link(m.best_edge), link(m.test_edge));
         line += &format!(", in-branch {}, find-count {}", link(m.in_branch), m.find_count);
         line += if m.halted == 1 { ", halted" } else { "" };
+        line += &format!(", waking link {}", link(m.waking));
     }
     let other = |k: u16| {
         let link = field.plan.links[k as usize];

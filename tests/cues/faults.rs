@@ -115,10 +115,11 @@ impl Fault {
 
 fn break_field(rng: &mut Rng, site: &mut Site) {
     let v = rng.below(site.modules());
-    match rng.below(4) {
+    match rng.below(5) {
         0 => site.field.sent = site.field.plan.ceiling() + 1,
         1 => site.field.modules[v].status = 3,
         2 => site.field.modules[v].halted = 2,
+        3 => site.field.modules[v].waking = rng.pick(&[600, 65534]),
         _ => site.words.push(1),
     }
 }

@@ -6,13 +6,14 @@ use scan::{Target, Tree};
 use std::collections::{BTreeMap, BTreeSet};
 
 /// The claims: in words, its file, its name.
-const CLAIMS: [(&str, &str, &str); 6] = [
+const CLAIMS: [(&str, &str, &str); 7] = [
     ("What is claimed of the central tree", "crates/plan_tree/specs/Claim.antt", "TreeClaim"),
     ("Demand 3", "crates/field_calls/specs/Demand.antt", "Demand3"),
     ("What request 01 claims of a cue", "crates/cue/specs/Claims.antt", "CueClaim"),
     ("That 73 is exact", "crates/cue/specs/Claims.antt", "Exact73"),
     ("What request 02 claims of a preview", "crates/preview/specs/Claim.antt", "PreviewClaim"),
     ("What request 04 claims of a plan with nobody in it", "crates/blank/specs/Claim.antt", "BlankClaim"),
+    ("What request 05 claims of who woke whom", "crates/waking/specs/Claim.antt", "WhoWokeWhom"),
 ];
 
 /// The functions that a host or one of the two programs calls, by crate; no names: all public ones of the crate.

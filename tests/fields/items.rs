@@ -6,11 +6,11 @@ use oracle::frame::Message;
 use oracle::plan::{Link, Plan, NONE};
 use oracle::plans::{self, Readings};
 use oracle::rng::Rng;
-use oracle::rules::Module;
+use oracle::rules::{Module, ASLEEP};
 
 pub const PLAN: [&str; 6] = ["plan 14", "plan 15", "plan 16", "plan 17", "plan 18", "plan 19"];
 
-/// Every item that does not hold, each looked at by itself, in document 01's order.
+/// Every item that does not hold, each looked at by itself, in document 01's order, request 05's beside them.
 pub fn broken(field: &Field, words: &[u64]) -> Vec<&'static str> {
     let mut out = Vec::new();
     if let Err(number) = field.plan.check() {
@@ -67,11 +67,13 @@ fn of_modules(field: &Field, out: &mut Vec<&'static str>) {
     item("test edge", modules().all(|(v, m)| own(v, m.test_edge)));
     item("in-branch", modules().all(|(v, m)| own(v, m.in_branch)));
     item("halted", modules().all(|(_, m)| m.halted <= 1));
+    item("waking link", modules().all(|(v, m)| own(v, m.waking)));
     item("mark", field.marks.iter().flatten().all(|mark| *mark <= 2));
     item("level", modules().all(|(_, m)| m.level <= top));
     item("find-count", modules().all(|(v, m)| m.find_count as usize <= degree(v)));
     item("no identity above level 0", modules().all(|(_, m)| m.level == 0 || m.identity != NONE));
     item("identity at level 0", modules().all(|(_, m)| m.level > 0 || m.identity == NONE));
+    item("sleeper's waking link", modules().all(|(_, m)| m.status != ASLEEP || m.waking == NONE));
 }
 
 pub type Damage = fn(&mut Rng, &mut Field, &mut Vec<u64>);
@@ -79,7 +81,7 @@ pub type Damage = fn(&mut Rng, &mut Field, &mut Vec<u64>);
 /// Item, way to break it, damage (of a generator r, a field f and its words w). Some damages do nothing to some fields,
 /// or break more than their item: the caller looks at what is broken.
 #[rustfmt::skip]
-pub const WAYS: [(&str, &str, Damage); 47] = [
+pub const WAYS: [(&str, &str, Damage); 50] = [
     ("plan 14", "N above 192", |r, f, w| replanned(r, f, w, |r, p| p.modules = r.range(193, 255) as u16)),
     ("plan 15", "L above 600", many_links),
     ("plan 15", "L above 600, N is 0", many_of_nobody),
@@ -120,11 +122,14 @@ pub const WAYS: [(&str, &str, Damage); 47] = [
     ("in-branch", "not below L", |r, f, _| some_module(r, f, |r, p, m| m.in_branch = past_links(r, p))),
     ("in-branch", "another module's", |r, f, _| some_module(r, f, |r, p, m| m.in_branch = some_link(r, p))),
     ("halted", "above 1", |r, f, _| some_module(r, f, |r, _, m| m.halted = past(r, 2))),
+    ("waking link", "not below L", |r, f, _| some_module(r, f, |r, p, m| m.waking = past_links(r, p))),
+    ("waking link", "another module's", |r, f, _| some_module(r, f, |r, p, m| m.waking = some_link(r, p))),
     ("mark", "above 2", mark),
     ("level", "above log2 N", |r, f, _| some_module(r, f, |r, p, m| m.level = past(r, p.top_level() + 1))),
     ("find-count", "above the links", find_count),
     ("no identity above level 0", "none", |r, f, _| some_module(r, f, |_, _, m| m.identity = NONE)),
     ("identity at level 0", "a link", |r, f, _| some_module(r, f, |r, p, m| m.identity = some_link(r, p))),
+    ("sleeper's waking link", "a link", |r, f, _| some_module(r, f, |r, p, m| m.waking = some_link(r, p))),
     ("waiting above sent", "sent lowered", |r, f, w| f.sent = r.below(waiting(w).max(1)) as u32),
     ("sent above M", "sent raised", |r, f, _| f.sent = f.plan.ceiling() + r.pick(&[1, 1, 2, 65536, u32::MAX / 2])),
 ];

@@ -32,11 +32,13 @@ static void same(const char *what, unsigned long got, unsigned long said)
 
 /* ---- how many examples there are, by sort and number ---- */
 
-enum sort { PLAN, FRAME, SCHEDULE, STEP, CALL, PREVIEW, START, DELIVERY, CEILING, ORDER, HEADER, WORD, REPORT, SORTS };
+enum sort {
+    PLAN, FRAME, SCHEDULE, STEP, CALL, VALUES, PREVIEW, START, DELIVERY, CEILING, ORDER, HEADER, WORD, REPORT, SORTS
+};
 
 static const char *const names[SORTS] = {
-    "plan",     "frame",   "schedule",       "step",   "run or rounds", "preview", "start of a cue",
-    "delivery", "ceiling", "order of links", "header", "word",          "report",
+    "plan",           "frame",    "schedule", "step",           "run or rounds", "values", "preview",
+    "start of a cue", "delivery", "ceiling",  "order of links", "header",        "word",   "report",
 };
 static unsigned long seen[SORTS][100];
 
@@ -50,7 +52,7 @@ static const struct least {
     {CALL, 41, 41, 2}, {CALL, 54, 54, 1},     {CEILING, 0, 0, 8}, {HEADER, 0, 0, 6}, {WORD, 0, 0, 4},
     {ORDER, 0, 0, 5},   {REPORT, 0, 0, 3},    {START, 0, 0, 2},  {START, 71, 73, 1}, {DELIVERY, 0, 0, 5},
     {DELIVERY, 42, 42, 1}, {PREVIEW, 0, 0, 8}, {PREVIEW, 41, 45, 1}, {PREVIEW, 54, 54, 1},
-    {PREVIEW, 75, 75, 4},
+    {PREVIEW, 75, 75, 4}, {VALUES, 0, 0, 8},
     /* those of the blank plan among them */
     {PLAN, 15, 15, 2}, {PLAN, 16, 16, 3},     {STEP, 41, 41, 4}, {STEP, 42, 42, 2}, {PREVIEW, 41, 41, 3},
     {PREVIEW, 42, 42, 2}, {START, 72, 72, 5}, {DELIVERY, 73, 73, 9},
@@ -372,6 +374,31 @@ static void compare_words(char **line)
     same("the field's own check", muruapy_field_check(&field, words, room), 0);
 }
 
+/* A module's values are those of the line's rest, - for none. False for another line. */
+static int values_line(const char *call, char *line)
+{
+    uint16_t values[MURUAPY_WIDTH];
+    if (strcmp(call, "module") != 0)
+        return 0;
+    unsigned long v = (unsigned long)number(&line, 10);
+    if (v >= field.plan.modules)
+        fault("there is no module %lu", v);
+    memcpy(values, &field.modules[v], sizeof values);
+    for (int i = 0; i < MURUAPY_WIDTH; i++) {
+        char *text = word(&line);
+        unsigned long said = MURUAPY_NONE;
+        if (!text)
+            fault("a value is missing");
+        if (strcmp(text, "-") != 0)
+            said = (unsigned long)number(&text, 10);
+        if (values[i] != said)
+            fault("value %d of module %lu is %u", i, v, values[i]);
+    }
+    count(VALUES, 0);
+    no_more(&line);
+    return 1;
+}
+
 /* The buffer that is lent to each preview. */
 static uint64_t *lent_buffer;
 static size_t places;
@@ -544,7 +571,7 @@ static void calls_line(char *line)
         fault("a colon is missing");
     *colon = ' ';
     set_up();
-    if (!preview_line(call, line) && !cue_line(call, line))
+    if (!values_line(call, line) && !preview_line(call, line) && !cue_line(call, line))
         field_line(call, line);
 }
 
@@ -599,7 +626,7 @@ static const struct limit {
     unsigned long number;
 } limits[] = {
 #define LIMIT(name) {"| `" #name "` |", name}
-    LIMIT(MURUAPY_MODULES), LIMIT(MURUAPY_LINKS),       LIMIT(MURUAPY_READING),
+    LIMIT(MURUAPY_MODULES), LIMIT(MURUAPY_LINKS),       LIMIT(MURUAPY_WIDTH),      LIMIT(MURUAPY_READING),
     LIMIT(MURUAPY_NONE),    LIMIT(MURUAPY_WORDS),       LIMIT(MURUAPY_PLAN_BYTES),
     LIMIT(MURUAPY_FRAME_BYTES), LIMIT(MURUAPY_STEPS),   LIMIT(MURUAPY_SENDS),
     LIMIT(MURUAPY_REPORT_BYTES),

@@ -207,6 +207,18 @@ static void wrong_fields(void)
     state.field.plan.links = 65535;
     refused(31);
     triangle(3);
+    state.field.modules[0].waking = 2; /* another module's link */
+    refused(31);
+    triangle(3);
+    state.field.modules[2].waking = 3;
+    refused(31);
+    triangle(3);
+    state.field.modules[1].status = 0; /* a sleeper's waking link */
+    refused(31);
+    triangle(3);
+    state.field.modules[0].waking = 0; /* in a circle with module 1 */
+    start_gives(0, 7, 0);
+    triangle(3);
     state.field.marks[1][0] = 0; /* Basic will do where no tree link is */
     start_gives(0, 7, 0);
 }

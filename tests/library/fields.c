@@ -1,5 +1,5 @@
 /* The calls on a field: setup, 31 by itself, steps, runs and rounds, on the two modules of the sample, whose every step is
- * known, and on spoilt fields. */
+ * known, on spoilt fields, and on a triangle, for who woke whom. */
 #include "site.h"
 
 #include <string.h>
@@ -180,14 +180,20 @@ static void steps(void)
     kept = state;
 }
 
-/* 33: a wake when all messages were sent that may be. 32: a sleeper serves an Accept. */
+/* 33: a wake when all messages were sent that may be, by a step and by a Connect or a Test. 32: a sleeper serves an
+ * Accept. */
 static void no_field_of_setup(void)
 {
-    static const uint64_t accept[] = {0x0000030000ffff04u};
+    static const uint64_t accept[] = {0x0000030000ffff04u}, wakes[] = {0x0000030000ffff01u, 0x000003000000000bu};
     static const uint8_t both[] = {1, 0, 6, 1, 0, 0, 3, 0, 1};
+    size_t i;
     two(12);
     state.field.sent = 12;
     step_gives(MURUAPY_WAKE, 0, 33);
+    for (i = 0; i < 2; i++) {
+        state.words[0] = wakes[i];
+        step_gives(MURUAPY_SERVE, 1, 33);
+    }
     two(12);
     state.words[0] = accept[0];
     state.field.sent = 1;
@@ -197,6 +203,72 @@ static void no_field_of_setup(void)
     words_are(accept, 1);
     run_gives(both, 9, 32, 1);
     must(state.field.modules[0].status == 2 && state.field.sent == 2, "the step before the refused one does not stand");
+}
+
+/* ---- waking links ---- */
+
+static void triangle(void)
+{
+    muruapy_plan value;
+    sample("worse-reading.plan", &value);
+    setup_gives(&state, as_whole, &value, 21, 0);
+}
+
+enum { NONE = MURUAPY_NONE };
+
+/* The triangle's link 0 is 0-1, link 1 is 0-2, link 2 is 1-2: who is awake, by which links, and whether 31 takes it. */
+static const struct woken {
+    uint32_t number;
+    uint16_t status[3], waking[3];
+} woken[] = {
+    {0, {2, 0, 0}, {NONE, NONE, NONE}},
+    {0, {1, 0, 0}, {0, NONE, NONE}}, /* by a module that is asleep */
+    {0, {2, 1, 0}, {0, 0, NONE}},    /* each by the other */
+    {0, {2, 2, 2}, {0, 2, 1}},       /* in a circle */
+    {0, {2, 2, 1}, {1, 0, 2}},
+    {31, {2, 0, 0}, {2, NONE, NONE}}, /* another module's */
+    {31, {2, 2, 2}, {NONE, 1, NONE}},
+    {31, {2, 2, 1}, {NONE, 0, 0}},
+    {31, {2, 0, 0}, {3, NONE, NONE}}, /* not below L */
+    {31, {0, 0, 1}, {NONE, NONE, 256}},
+    {31, {0, 2, 0}, {NONE, 65534, NONE}},
+    {31, {0, 0, 0}, {0, NONE, NONE}}, /* a sleeper's */
+    {31, {2, 2, 0}, {NONE, 0, 1}},
+};
+
+static void wakings(void)
+{
+    static const uint8_t nothing[] = {1, 0, 0};
+    size_t i, v;
+    for (i = 0; i < sizeof woken / sizeof *woken; i++) {
+        triangle();
+        for (v = 0; v < 3; v++) {
+            state.field.modules[v].status = woken[i].status[v];
+            state.field.modules[v].waking = woken[i].waking[v];
+        }
+        check_gives(&state, as_whole, woken[i].number);
+        step_gives(MURUAPY_HAND_OVER, 0, woken[i].number ? 31 : 44);
+        run_gives(nothing, 3, woken[i].number, 0);
+        rounds_give(65535, woken[i].number, 0);
+    }
+}
+
+/* Module 0 woken by a step, then rounds to rest: module 1 was woken by a Connect over link 0, module 2 by a Test over link
+ * 1, which is not in the tree, and which it put back at first. */
+static void who_woke_whom(void)
+{
+    static const muruapy_module want[3] = {
+        {2, 1, 0, NONE, NONE, NONE, 0, 0, 1, NONE},
+        {2, 1, 0, NONE, NONE, NONE, 0, 0, 1, 0},
+        {2, 1, 0, NONE, NONE, NONE, 2, 0, 0, 1},
+    };
+    triangle();
+    step_gives(MURUAPY_WAKE, 0, 0);
+    must(state.field.modules[0].waking == NONE, "a wake step is told as a link");
+    rounds_give(1, 0, 1);
+    must(state.field.modules[1].waking == 0 && state.field.modules[2].waking == NONE, "another waking link");
+    rounds_give(65535, 0, 7);
+    must(memcmp(state.field.modules, want, sizeof want) == 0, "the triangle's modules have other values");
 }
 
 /* ---- runs and rounds ---- */
@@ -259,6 +331,8 @@ void field_calls(bool whole)
     spoilt();
     steps();
     no_field_of_setup();
+    wakings();
+    who_woke_whom();
     runs();
     rounds();
 }

@@ -48,6 +48,8 @@ int main()
                                                             field.get(), rounds, text.data(), text.size())));
     if (said != "modules 2\nlinks 1\nbranch 0 1 4\ntotal 4\ncore 0 1\nmessages 6 of 12\nrounds 4\n")
         return 1;
+    if (field->modules[0].waking != MURUAPY_NONE || field->modules[1].waking != 0)
+        return 1;
     std::vector<muruapy_cue> cues(plan->modules);
     if (muruapy_cue_start(field.get(), words.data(), words.size(), cues.data(), cues.size(), 1, 7) != MURUAPY_TAKEN)
         return 1;

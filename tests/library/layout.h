@@ -9,7 +9,7 @@ HOLDS(link_far, offsetof(muruapy_link, far) == 6);
 HOLDS(plan_size, sizeof(muruapy_plan) == 4804);
 HOLDS(plan_links, offsetof(muruapy_plan, links) == 2);
 HOLDS(plan_link, offsetof(muruapy_plan, link) == 4);
-HOLDS(module_size, sizeof(muruapy_module) == 18);
+HOLDS(module_size, sizeof(muruapy_module) == 2 * MURUAPY_WIDTH);
 HOLDS(module_level, offsetof(muruapy_module, level) == 2);
 HOLDS(module_identity, offsetof(muruapy_module, identity) == 4);
 HOLDS(module_best_weight, offsetof(muruapy_module, best_weight) == 6);
@@ -18,10 +18,11 @@ HOLDS(module_test_edge, offsetof(muruapy_module, test_edge) == 10);
 HOLDS(module_in_branch, offsetof(muruapy_module, in_branch) == 12);
 HOLDS(module_find_count, offsetof(muruapy_module, find_count) == 14);
 HOLDS(module_halted, offsetof(muruapy_module, halted) == 16);
-HOLDS(field_size, sizeof(muruapy_field) == 9464);
+HOLDS(module_waking, offsetof(muruapy_module, waking) == 2 * MURUAPY_WIDTH - 2); /* the last one */
+HOLDS(field_size, sizeof(muruapy_field) == 4804 + 192 * 2 * MURUAPY_WIDTH + 600 * 2 + 4);
 HOLDS(field_modules, offsetof(muruapy_field, modules) == 4804);
-HOLDS(field_marks, offsetof(muruapy_field, marks) == 4804 + 192 * 18);
-HOLDS(field_sent, offsetof(muruapy_field, sent) == 4804 + 192 * 18 + 600 * 2);
+HOLDS(field_marks, offsetof(muruapy_field, marks) == 4804 + 192 * 2 * MURUAPY_WIDTH);
+HOLDS(field_sent, offsetof(muruapy_field, sent) == 4804 + 192 * 2 * MURUAPY_WIDTH + 600 * 2);
 HOLDS(previewed_size, sizeof(muruapy_previewed) == 8);
 HOLDS(previewed_count, offsetof(muruapy_previewed, count) == 4);
 HOLDS(cue_size, sizeof(muruapy_cue) == 8);
@@ -31,8 +32,8 @@ HOLDS(cue_link, offsetof(muruapy_cue, link) == 4);
 HOLDS(cue_hops, offsetof(muruapy_cue, hops) == 6);
 HOLDS(delivery_size, sizeof(muruapy_delivery) == 8);
 HOLDS(delivery_heard, offsetof(muruapy_delivery, heard) == 4);
-HOLDS(version, MURUAPY_VERSION_MAJOR == 2);       /* since the larger reading counts */
-HOLDS(minor_version, MURUAPY_VERSION_MINOR == 1); /* since the blank plan is taken */
+HOLDS(version, MURUAPY_VERSION_MAJOR == 3); /* since a module's record has the waking link */
+HOLDS(minor_version, MURUAPY_VERSION_MINOR == 0);
 HOLDS(plan_bytes, MURUAPY_PLAN_BYTES == 7 + 8 * MURUAPY_LINKS);
 HOLDS(ceiling, MURUAPY_WORDS == 5 * MURUAPY_MODULES * 7 + 2 * MURUAPY_LINKS);
 HOLDS(steps, MURUAPY_STEPS == 65535 / 3);

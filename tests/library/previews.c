@@ -194,7 +194,7 @@ static void refusals(void)
 static void spoilt(void)
 {
     size_t i;
-    for (i = 0; i < 6; i++) {
+    for (i = 0; i < 8; i++) {
         two(0);
         if (i == 0)
             state.room--;
@@ -206,6 +206,10 @@ static void spoilt(void)
             state.field.plan.links = 65535;
         else if (i == 4)
             state.field.marks[0][1] = 3;
+        else if (i == 5)
+            state.field.modules[1].waking = 0; /* of a sleeper */
+        else if (i == 6)
+            state.field.modules[0].waking = 1;
         else
             state.words[11] = 0x20000ffff01u;
         refused(MURUAPY_WAKE, 0, 31);

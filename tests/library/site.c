@@ -43,7 +43,7 @@ void fetch(const struct site *s, struct state *to)
 
 void is_fresh(const struct state *state, const muruapy_plan *plan)
 {
-    static const muruapy_module asleep = {0, 0, 65535, 65535, 65535, 65535, 65535, 0, 0};
+    static const muruapy_module asleep = {0, 0, 65535, 65535, 65535, 65535, 65535, 0, 0, 65535};
     const muruapy_field *f = &state->field;
     size_t i;
     must(memcmp(&f->plan, plan, sizeof *plan) == 0, "the field has another plan");

@@ -159,6 +159,8 @@ impl Field {
             && own(m.in_branch)
             && m.find_count as usize <= marks.len()
             && m.halted <= 1
+            && own(m.waking)
+            && (m.status != ASLEEP || m.waking == NONE)
             && marks.iter().all(|o| o.1 <= 2)
             && (m.identity == NONE) == (m.level == 0)
     }
@@ -187,7 +189,7 @@ impl Field {
             return Err(43);
         }
         let mut response = Response::new(&self.plan, self.modules[v as usize], self.own_marks(v));
-        response.wakeup();
+        response.wakeup(NONE);
         let (module, marks, sends) = (response.module, response.marks, response.sends);
         self.count(sends.len())?;
         self.store(v, module, &marks);

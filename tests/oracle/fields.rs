@@ -7,7 +7,7 @@ use crate::kruskal;
 use crate::plan::{Link, Plan, NONE};
 use crate::plans;
 use crate::rng::Rng;
-use crate::rules::{Module, BASIC, BRANCH, REJECTED};
+use crate::rules::{Module, ASLEEP, BASIC, BRANCH, REJECTED};
 use crate::schedule::Step;
 
 /// What a step of each kind meets on a field of the blank plan, and kinds that there are not.
@@ -29,9 +29,9 @@ fn module(rng: &mut Rng, plan: &Plan, v: u16) -> Module {
     let links: Vec<u16> = (0..plan.links.len() as u16).collect();
     let own = plan.own_links(v);
     let some = rng.range(0, own.len());
-    let level = rng.range(0, plan.top_level() as usize) as u16;
+    let (status, level) = (rng.below(3) as u16, rng.range(0, plan.top_level() as usize) as u16);
     Module {
-        status: rng.below(3) as u16,
+        status,
         level,
         identity: if level == 0 { NONE } else { rng.pick(&links) },
         best_weight: or_none(rng, &links),
@@ -40,6 +40,7 @@ fn module(rng: &mut Rng, plan: &Plan, v: u16) -> Module {
         in_branch: or_none(rng, &own),
         find_count: rng.pick(&[0, some, own.len()]) as u16,
         halted: rng.below(2) as u16,
+        waking: if status == ASLEEP { NONE } else { or_none(rng, &own) },
     }
 }
 
@@ -150,7 +151,7 @@ pub fn spoil(rng: &mut Rng, field: &mut Field, words: &mut Vec<u64>) {
     let v = rng.below(field.modules.len());
     let odd = rng.pick(&[0, 1, 2, 3, 8, field.plan.links.len() as u16, 600, NONE]);
     let module = &mut field.modules[v];
-    match rng.below(15) {
+    match rng.below(16) {
         0 => module.status = odd,
         1 => module.level = odd,
         2 => module.identity = odd,
@@ -160,17 +161,18 @@ pub fn spoil(rng: &mut Rng, field: &mut Field, words: &mut Vec<u64>) {
         6 => module.in_branch = odd,
         7 => module.find_count = odd,
         8 => module.halted = odd,
-        9 if !field.marks.is_empty() => {
+        9 => module.waking = odd,
+        10 if !field.marks.is_empty() => {
             let k = rng.below(field.marks.len());
             field.marks[k][rng.below(2)] = odd as u8;
         }
-        10 => field.sent = odd as u32 + rng.pick(&[0, field.plan.ceiling()]),
-        11 => words.truncate(words.len().saturating_sub(rng.range(1, 3))),
-        12 if !words.is_empty() => {
+        11 => field.sent = odd as u32 + rng.pick(&[0, field.plan.ceiling()]),
+        12 => words.truncate(words.len().saturating_sub(rng.range(1, 3))),
+        13 if !words.is_empty() => {
             let at = rng.below(words.len());
             words[at] ^= 1 << rng.below(64);
         }
-        13 if words.len() > 1 => {
+        14 if words.len() > 1 => {
             let (a, b) = (rng.below(words.len()), rng.below(words.len()));
             words.swap(a, b);
         }

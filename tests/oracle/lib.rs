@@ -1,4 +1,4 @@
-//! The oracle: a second implementation of document 01, and of requests 01 to 04 of document 02, in plain Rust, written
+//! The oracle: a second implementation of document 01, and of requests 01 to 05 of document 02, in plain Rust, written
 //! from the documents and the appendix of Gallager, Humblet and Spira alone. The tests compare the compiled Rattle code
 //! with it. Nothing here is proved and nothing here is fast: it is meant to be read beside the documents.
 //!
@@ -20,6 +20,7 @@ pub mod rounds;
 pub mod rules;
 pub mod schedule;
 pub mod trace;
+pub mod waking;
 
 #[cfg(test)]
 mod tests;
@@ -29,3 +30,5 @@ mod tests_blank;
 mod tests_cue;
 #[cfg(test)]
 mod tests_preview;
+#[cfg(test)]
+mod tests_waking;

@@ -1,5 +1,6 @@
-//! The module rules: the wakeup and the seven responses, by the parts of the appendix, with document 01's corners.
-//! A response works on a copy of the module's values, so a refused one (32) leaves nothing behind.
+//! The module rules: the wakeup and the seven responses, by the parts of the appendix, with document 01's corners and
+//! request 05's waking link. A response works on a copy of the module's values, so a refused one (32) leaves nothing
+//! behind.
 
 use crate::frame::*;
 use crate::plan::{Plan, NONE};
@@ -12,7 +13,7 @@ pub const BASIC: u8 = 0;
 pub const BRANCH: u8 = 1;
 pub const REJECTED: u8 = 2;
 
-/// A module's values, in document 01's order.
+/// A module's values, in document 01's order, and behind them request 05's.
 #[derive(Clone, Copy, Debug, PartialEq, Eq)]
 pub struct Module {
     pub status: u16,
@@ -24,10 +25,12 @@ pub struct Module {
     pub in_branch: u16,
     pub find_count: u16,
     pub halted: u16,
+    /// "The link whose message woke it: none for a sleeper or one woken by a wake step."
+    pub waking: u16,
 }
 
 /// How many values that are.
-pub const WIDTH: usize = 9;
+pub const WIDTH: usize = 10;
 
 impl Module {
     /// Setup gives zeros and nones.
@@ -41,6 +44,7 @@ impl Module {
         in_branch: NONE,
         find_count: 0,
         halted: 0,
+        waking: NONE,
     };
 
     pub fn values(&self) -> [u16; WIDTH] {
@@ -54,6 +58,7 @@ impl Module {
             self.in_branch,
             self.find_count,
             self.halted,
+            self.waking,
         ]
     }
 }
@@ -114,9 +119,10 @@ impl<'a> Response<'a> {
     }
 
     /// (2) Procedure wakeup. Waking also sets level, identity, best and test edges, best weight and in-branch to their
-    /// setup values. A module without links wakes Found and halted, and sends nothing.
-    pub fn wakeup(&mut self) {
-        self.module = Module { status: FOUND, halted: self.module.halted, ..Module::SETUP };
+    /// setup values. A module without links wakes Found and halted, and sends nothing. It keeps the link of the message
+    /// that wakes it, or none by a wake step.
+    pub fn wakeup(&mut self, by: u16) {
+        self.module = Module { status: FOUND, halted: self.module.halted, waking: by, ..Module::SETUP };
         let m = self.earliest(|_| true);
         if m == NONE {
             self.module.halted = 1;
@@ -130,7 +136,7 @@ impl<'a> Response<'a> {
     pub fn receive(&mut self, j: u16, message: Message) -> Result<Fate, u32> {
         if self.module.status == ASLEEP {
             match message.kind {
-                CONNECT | TEST => self.wakeup(),
+                CONNECT | TEST => self.wakeup(j),
                 _ => return Err(32),
             }
         }

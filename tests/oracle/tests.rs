@@ -328,7 +328,7 @@ fn trace_of_the_sample() {
     let mut input = two_modules();
     input.extend_from_slice(&[1, 0, 9, 1, 0, 0, 2, 0, 0, 3, 0, 1]);
     let lines = "steps 3\nrefusal none\nsent 3\nwaiting 2\n\
-        module 0 2 0 - - - - - 0 0 0:1\nmodule 1 2 0 - - - - - 0 0 0:1\n";
+        module 0 2 0 - - - - - 0 0 - 0:1\nmodule 1 2 0 - - - - - 0 0 0 0:1\n";
     let word = |message, directed| Word { message, directed, handed: false }.pack();
     let connect = word(Message::connect(0), 1);
     let initiate = word(Message::initiate(1, 0, true), 1);

@@ -3,7 +3,7 @@
 use crate::field::{waiting, Field, Word, HAND_OVER, SERVE, WAKE};
 use crate::fields::{good_step, some_field, some_step};
 use crate::frame::Message;
-use crate::plan::Plan;
+use crate::plan::{Plan, NONE};
 use crate::plans;
 use crate::preview::preview;
 use crate::rng::Rng;
@@ -124,7 +124,7 @@ fn by_response(field: &Field, words: &[u64], step: Step) -> (Vec<u64>, bool) {
     };
     let mut fate = Fate::Taken;
     if step.kind == WAKE {
-        response.wakeup();
+        response.wakeup(NONE);
     } else {
         let word = field.next_in_queue(words, v).expect("a service that is taken");
         fate = response.receive(word.directed / 2, word.message).expect("a service that is taken");

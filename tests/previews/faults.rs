@@ -83,9 +83,10 @@ const OWN: [(&str, fn(Result<usize, u32>) -> bool); 6] = [
 /// Breaks the field and nothing that its plan or the step looks at.
 fn break_field(rng: &mut Rng, site: &mut Site) {
     let v = rng.below(site.field.modules.len());
-    match rng.below(3) {
+    match rng.below(4) {
         0 => site.field.modules[v].halted = 2,
         1 => site.field.modules[v].find_count = 65535,
+        2 => site.field.modules[v].waking = rng.pick(&[600, 65534]),
         _ => site.words.push(1),
     }
 }

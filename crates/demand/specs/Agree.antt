@@ -11,7 +11,7 @@ use Rattle.plan.specs.Links.{Plan, modulesOf, linksOf, lowerOf, higherOf}
 use Rattle.node.specs.Work.{BRANCH, REJECTED}
 use Rattle.field.specs.State.{State, nodeAt, markAt}
 use Rattle.field_calls.specs.Demand.{TreeLink, BothSay, Core, Agreed}
-use Rattle.field_roundlaws.specs.Awake.{Awake}
+use Rattle.field_calls.specs.Trail.{Awake}
 use Rattle.protocol.specs.Network.{Edge}
 use Rattle.protocol_stuck.specs.Parts.{SamePart, PartCore, PartFinished}
 use Rattle.protocol_bridge.specs.Fin.{st-is, halt-is}

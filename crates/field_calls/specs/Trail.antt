@@ -1,5 +1,6 @@
 -- The steps that a list of calls takes, each with the state it was taken in; the messages sent and consumed and the modules woken in them.
-use Prim.Native.Nat.{ℕ, _*_}
+use Prim.Native.Nat.{ℕ, _*_, _<_}
+use mathlib.Core.Logic.{_≢_}
 use mathlib.Core.Bool.{Bool, cond, not, _&&_, _||_}
 use mathlib.Core.List.{List, [], _∷_, _++_, map, flatMap}
 use lib.ListN.{length, getD}
@@ -115,6 +116,11 @@ unfoldable pub wakesOne : Plan → Taken → Bool
 wakesOne p t =
     let kind = kindAt (headerIn (servedWord p (t .number) (t .at))) in
     eqb (t .kind) WAKE || (eqb (t .kind) SERVE && eqb (nodeAt (t .at) (t .number) .status) ASLEEP && (eqb kind 1 || eqb kind 3))
+
+-- module v of the plan is awake
+pub record Awake (p : Plan) (s : State) (v : ℕ) : Type 0 where
+  pub within : v < modulesOf p
+  pub awake : nodeAt s v .status ≢ ASLEEP
 
 -- the modules woken, in order
 unfoldable pub wokenIn : Plan → List Taken → List ℕ

@@ -29,6 +29,7 @@ pub fn fresh_node() -> Node
         branch: NONE,
         count: 0,
         halted: 0,
+        waking: NONE,
     }
 }
 
@@ -48,6 +49,7 @@ pub fn load(cells: &Cells, v: u16) -> Node
         branch: cells[c + 6],
         count: cells[c + 7],
         halted: cells[c + 8],
+        waking: cells[c + 9],
     }
 }
 
@@ -67,6 +69,7 @@ pub fn put_node(cells: &mut Cells, v: u16, n: Node)
         n.branch,
         n.count,
         n.halted,
+        n.waking,
     ];
     let mut j: usize = 0;
     while j < WIDTH {

@@ -1,12 +1,13 @@
 // The items of refusal 31: one word, one module.
 use base::NONE;
+use node::ASLEEP;
 use node::FOUND;
 use node::Node;
 use plan::Plan;
 ghost use Prim.Native.Nat.{_≤_};
 ghost use mathlib.Core.Path.{_≡_};
 ghost use Rattle.node.specs.Work.{degree};
-ghost use Rattle.field.specs.Valid.{linkOrNone, ownOrNone, wordFits, valuesListed, identityFits, nodeFits};
+ghost use Rattle.field.specs.Valid.{linkOrNone, ownOrNone, wordFits, valuesListed, identityFits, wakingFits, nodeFits};
 ghost use Rattle.base.specs.Limits.{maxLinks};
 ghost use Rattle.plan.specs.Links.{linksOf};
 ghost use Rattle.field.specs.Edges.{ownOf};
@@ -55,6 +56,7 @@ fn values_listed<'a>(plan: &'a Plan, v: u16, n: Node) -> bool
         & own_or_none(plan, v, n.test)
         & own_or_none(plan, v, n.branch)
         & (n.halted <= 1)
+        & own_or_none(plan, v, n.waking)
 }
 
 // Whether the identity is none exactly at level 0.
@@ -67,6 +69,13 @@ fn identity_fits(n: Node) -> bool
     n.identity != NONE
 }
 
+// Whether a sleeper's waking link is none.
+fn waking_fits(n: Node) -> bool
+    ensures { λ r. ⌜ r ≡ wakingFits n ⌝ }
+{
+    (n.status != ASLEEP) | (n.waking == NONE)
+}
+
 // Whether module v's values fit, where it has `ends` links.
 pub fn node_fits<'a>(plan: &'a Plan, ends: u16, v: u16, n: Node) -> bool
     requires { ⌜ (linksOf (now plan) ≤ maxLinks) × (ends ≡ degree (ownOf (now plan) v)) ⌝ }
@@ -76,4 +85,5 @@ pub fn node_fits<'a>(plan: &'a Plan, ends: u16, v: u16, n: Node) -> bool
         & (n.level <= plan::level_limit(plan))
         & (n.count <= ends)
         & identity_fits(n)
+        & waking_fits(n)
 }

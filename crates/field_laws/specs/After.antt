@@ -6,6 +6,7 @@ use native.Mathlib.Nat.{not-suc-le-zero}
 use mathlib.Core.Path.{_≡_, refl, sym, ap, ap₂, subst, _∙_}
 use mathlib.Core.Bool.{Bool, true, not, cond, _&&_}
 use mathlib.Core.List.{List, [], _∷_, _++_}
+use mathlib.Core.Logic.{inl}
 use lib.ListN.{length, getD, replicate, List·getD-append, length-replicate, getD-replicate}
 use lib.Seq.{getD-append-add}
 use lib.Dec.{ltb}
@@ -76,7 +77,7 @@ module _ (p : Plan) (lent : List ℕ) (a : planRefusal p ≡ 0) (room : ceilingO
   fresh-fits : FieldFits p (stateOf begun)
   fresh-fits = record {
     words = rw (waiting-zeros (length lent)) nil;
-    nodes = λ v l. subst (NodeOk (ownOf p v) (limitOf p)) (sym (fresh-node v (omega (arith, accepted p a .modulesOk)))) (ok-fresh (ownOf p v) (limitOf p) ASLEEP 0 (omega arith) (omega arith));
+    nodes = λ v l. subst (NodeOk (ownOf p v) (limitOf p)) (sym (fresh-node v (omega (arith, accepted p a .modulesOk)))) (ok-fresh (ownOf p v) (limitOf p) ASLEEP 0 (setup .waking) (omega arith) (omega arith) (inl refl) (λ e. refl));
     marks = λ d l. rw (getD-replicate {A = ℕ} maxEnds d 0 0 (omega (arith, accepted p a .linksOk))) (omega arith);
     waiting = rw (waiting-zeros (length lent)) (omega arith);
     ceiling = omega arith;

@@ -23,10 +23,10 @@ use Rattle.format_message.specs.laws.Means.{Means, means, in-bits}
 use Rattle.format_word.specs.Word.{headerIn, carriedIn, linkIn, laidOut, shaped, handOver}
 use Rattle.format_word.specs.laws.Word.{over, over-laid-out, packs-laid-out}
 use Rattle.node.specs.declared.Node.{Node}
-use Rattle.node.specs.Work.{Own, Send, FOUND, REJECTED, degree}
+use Rattle.node.specs.Work.{Own, Send, ASLEEP, FOUND, REJECTED, degree}
 use Rattle.field.specs.Edges.{isOwn, ownOf, limitOf, ceilingOf, endOf}
 use Rattle.field.specs.State.{State, nodeAt, msgIn, wordOf, posted}
-use Rattle.field.specs.Valid.{allOf, linkOrNone, ownOrNone, wordFits, valuesListed, identityFits, nodeFits, fits}
+use Rattle.field.specs.Valid.{allOf, linkOrNone, ownOrNone, wordFits, valuesListed, identityFits, wakingFits, nodeFits, fits}
 use Rattle.plan.specs.laws.Accepted.{Accepted}
 use Rattle.plan.specs.laws.Ceiling.{level-small}
 use Rattle.plan.specs.Links.{Plan, modulesOf, linksOf}
@@ -106,11 +106,19 @@ module _ (p : Plan) (v : ℕ) (n : Node) where
       (λ q. eq-eqb _ _ (a q))
       (λ q. ap not (ne-eqb _ _ (b q)))
 
+  waking-facts : wakingFits n ≡ true → n .status ≡ ASLEEP → n .waking ≡ none
+  waking-facts e z = eqb-true (n .waking) none (rw (eq-eqb _ _ z) at e)
+
+  facts-waking : (n .status ≡ ASLEEP → n .waking ≡ none) → wakingFits n ≡ true
+  facts-waking h = eqb-cases (n .status) ASLEEP (λ b. (not b || eqb (n .waking) none) ≡ true) (λ z. eq-eqb _ _ (h z)) (λ z. refl)
+
   pub node-facts : nodeFits p v n ≡ true → NodeOk (ownOf p v) (limitOf p) n
   unfolding nodeFits
   node-facts e =
-      let a = four (valuesListed p v n) (leb (n .level) (limitOf p)) (leb (n .count) (degree (ownOf p v))) (identityFits n) e in
-      let b = four (leb (n .status) FOUND && linkOrNone p (n .identity) && linkOrNone p (n .weight) && ownOrNone p v (n .best)) (ownOrNone p v (n .test)) (ownOrNone p v (n .branch)) (leb (n .halted) 1) (a .0) in
+      let g = two (valuesListed p v n && leb (n .level) (limitOf p) && leb (n .count) (degree (ownOf p v)) && identityFits n) (wakingFits n) e in
+      let a = four (valuesListed p v n) (leb (n .level) (limitOf p)) (leb (n .count) (degree (ownOf p v))) (identityFits n) (g .0) in
+      let h = two (leb (n .status) FOUND && linkOrNone p (n .identity) && linkOrNone p (n .weight) && ownOrNone p v (n .best) && ownOrNone p v (n .test) && ownOrNone p v (n .branch) && leb (n .halted) 1) (ownOrNone p v (n .waking)) (a .0) in
+      let b = four (leb (n .status) FOUND && linkOrNone p (n .identity) && linkOrNone p (n .weight) && ownOrNone p v (n .best)) (ownOrNone p v (n .test)) (ownOrNone p v (n .branch)) (leb (n .halted) 1) (h .0) in
       let c = four (leb (n .status) FOUND) (linkOrNone p (n .identity)) (linkOrNone p (n .weight)) (ownOrNone p v (n .best)) (b .0) in
       let d = identity-facts (a .3) in
       record {
@@ -123,18 +131,24 @@ module _ (p : Plan) (v : ℕ) (n : Node) where
         branch = own-none p v _ (b .2);
         count = leb-true _ _ (a .2);
         halted = leb-true _ _ (b .3);
+        waking = own-none p v _ (h .1);
         unnamed = d .0;
         named = d .1;
+        unwoken = waking-facts (g .1);
       }
 
   pub facts-node : NodeOk (ownOf p v) (limitOf p) n → nodeFits p v n ≡ true
   unfolding nodeFits
   facts-node h =
-      all-four _ _ _ _
+      pair _ _
+      (all-four _ _ _ _
+      (pair _ _
       (all-four _ _ _ _
       (all-four _ _ _ _ (le-leb _ _ (h .status)) (none-link p v _ (h .identity)) (none-link p v _ (h .weight)) (none-own p v _ (h .best)))
       (none-own p v _ (h .test)) (none-own p v _ (h .branch)) (le-leb _ _ (h .halted)))
-      (le-leb _ _ (h .level)) (le-leb _ _ (h .count)) (facts-identity (h .unnamed) (h .named))
+      (none-own p v _ (h .waking)))
+      (le-leb _ _ (h .level)) (le-leb _ _ (h .count)) (facts-identity (h .unnamed) (h .named)))
+      (facts-waking (h .unwoken))
 
 -- ---- a word
 

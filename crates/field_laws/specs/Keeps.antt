@@ -3,12 +3,13 @@
 use Prim.Native.Nat.{ℕ, suc, _+_, _*_, _≤_, _<_}
 use native.Mathlib.Omega.{arith}
 use mathlib.Core.Path.{_≡_, refl, sym, ap, subst, _∙_}
-use mathlib.Core.Logic.{_≢_}
+use mathlib.Core.Logic.{_≢_, inl}
 use mathlib.Core.Bool.{true, cond, _&&_}
 use mathlib.Core.List.{List, [], _∷_, _++_}
 use lib.ListN.{length, getD, length-append}
 use lib.Dec.{eqb, ltb}
 use borrow.Author.Tests.{eq-eqb, ne-eqb}
+use Rattle.base.specs.None.{none}
 use Rattle.base.specs.laws.Cond.{bool-cases, by-eq}
 use Rattle.base.specs.Loop.{After}
 use Rattle.base.specs.laws.Loop.{by-test}
@@ -67,7 +68,7 @@ module _ (p : Plan) (a : Accepted p) (s : State) (i : Sound p s) where
       (λ o. rw (mark-not p v k (s .marks) o) (omega arith))
 
   pub wake-ok : (v : ℕ) → v < modulesOf p → WorkOk (ownOf p v) (limitOf p) (wakeWork p v s)
-  wake-ok v l = ok-wakeup (ownOf p v) (limitOf p) _ (record { node = i .fits .nodes v l; marks = start-ok v l; sends = nil })
+  wake-ok v l = ok-wakeup (ownOf p v) (limitOf p) none _ (inl refl) (record { node = i .fits .nodes v l; marks = start-ok v l; sends = nil })
 
   -- the link of a word in v's queue is v's own
   pub served-own : (v x : ℕ) → wordFits p x ≡ true → inQueue p v x ≡ true → isOwn p v (linkOf (linkIn x)) ≡ true

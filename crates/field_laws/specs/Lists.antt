@@ -34,9 +34,12 @@ pub record NodeOk (o : Own) (limit : ℕ) (n : Node) : Type 0 where
   pub branch : OwnOrNone o (n .branch)
   pub count : n .count ≤ degree o
   pub halted : n .halted ≤ 1
+  pub waking : OwnOrNone o (n .waking)
   -- identity none exactly at level 0
   pub unnamed : n .level ≡ 0 → n .identity ≡ none
   pub named : n .level ≢ 0 → n .identity ≢ none
+  -- a sleeper's waking link is none
+  pub unwoken : n .status ≡ ASLEEP → n .waking ≡ none
 
 abbrev pub MsgOk : Own → ℕ → Msg → Type 0
 MsgOk o limit (connect l) = l ≤ limit
@@ -79,8 +82,9 @@ module _ (o : Own) (limit : ℕ) where
 
   -- a node with other values
   ok-values : (n : Node) (st be te we co ha : ℕ) → NodeOk o limit n → st ≤ FOUND → OwnOrNone o be → OwnOrNone o te → LinkOrNone o we → co ≤ degree o → ha ≤ 1
-      → NodeOk o limit (record { status = st; level = n .level; identity = n .identity; weight = we; best = be; test = te; branch = n .branch; count = co; halted = ha })
-  ok-values n st be te we co ha i a b c d e f = record {
+      → (st ≡ ASLEEP → n .waking ≡ none)
+      → NodeOk o limit (record { status = st; level = n .level; identity = n .identity; weight = we; best = be; test = te; branch = n .branch; count = co; halted = ha; waking = n .waking })
+  ok-values n st be te we co ha i a b c d e f g = record {
     status = a;
     level = i .level;
     identity = i .identity;
@@ -90,24 +94,26 @@ module _ (o : Own) (limit : ℕ) where
     branch = i .branch;
     count = e;
     halted = f;
+    waking = i .waking;
     unnamed = i .unnamed;
     named = i .named;
+    unwoken = g;
   }
 
-  ok-status : (x : ℕ) (n : Node) → x ≤ FOUND → NodeOk o limit n → NodeOk o limit (setStatus x n)
-  ok-status x n h i = ok-values n x (n .best) (n .test) (n .weight) (n .count) (n .halted) i h (i .best) (i .test) (i .weight) (i .count) (i .halted)
+  ok-found : (n : Node) → NodeOk o limit n → NodeOk o limit (setStatus FOUND n)
+  ok-found n i = ok-values n FOUND (n .best) (n .test) (n .weight) (n .count) (n .halted) i (omega arith) (i .best) (i .test) (i .weight) (i .count) (i .halted) (λ e. absurd (omega arith))
 
   ok-test : (x : ℕ) (n : Node) → OwnOrNone o x → NodeOk o limit n → NodeOk o limit (setTest x n)
-  ok-test x n h i = ok-values n (n .status) (n .best) x (n .weight) (n .count) (n .halted) i (i .status) (i .best) h (i .weight) (i .count) (i .halted)
+  ok-test x n h i = ok-values n (n .status) (n .best) x (n .weight) (n .count) (n .halted) i (i .status) (i .best) h (i .weight) (i .count) (i .halted) (i .unwoken)
 
   ok-count : (x : ℕ) (n : Node) → x ≤ degree o → NodeOk o limit n → NodeOk o limit (setCount x n)
-  ok-count x n h i = ok-values n (n .status) (n .best) (n .test) (n .weight) x (n .halted) i (i .status) (i .best) (i .test) (i .weight) h (i .halted)
+  ok-count x n h i = ok-values n (n .status) (n .best) (n .test) (n .weight) x (n .halted) i (i .status) (i .best) (i .test) (i .weight) h (i .halted) (i .unwoken)
 
   ok-halted : (n : Node) → NodeOk o limit n → NodeOk o limit (setHalted 1 n)
-  ok-halted n i = ok-values n (n .status) (n .best) (n .test) (n .weight) (n .count) 1 i (i .status) (i .best) (i .test) (i .weight) (i .count) (omega arith)
+  ok-halted n i = ok-values n (n .status) (n .best) (n .test) (n .weight) (n .count) 1 i (i .status) (i .best) (i .test) (i .weight) (i .count) (omega arith) (i .unwoken)
 
   ok-best : (e x : ℕ) (n : Node) → OwnOrNone o e → LinkOrNone o x → NodeOk o limit n → NodeOk o limit (setBest e x n)
-  ok-best e x n h k i = ok-values n (n .status) e (n .test) x (n .count) (n .halted) i (i .status) h (i .test) k (i .count) (i .halted)
+  ok-best e x n h k i = ok-values n (n .status) e (n .test) x (n .count) (n .halted) i (i .status) h (i .test) k (i .count) (i .halted) (i .unwoken)
 
   -- a choice between two works, or two values, that are fine
   ok-cond : (b : Bool) (w r : Work) → WorkOk o limit w → WorkOk o limit r → WorkOk o limit (cond b w r)
@@ -141,7 +147,7 @@ module _ (o : Own) (limit : ℕ) where
   ok-report w i = ok-cond (eqb (w .node .count) 0 && eqb (w .node .test) none) _ w
       (eqb-cases (w .node .branch) none (λ b. WorkOk o limit (cond b (refused w) (send (w .node .branch) (report (w .node .weight)) (withNode (setStatus FOUND (w .node)) w))))
       (λ e. ok-refused w i)
-      (λ n. ok-send _ _ _ (own-is _ (i .node .branch) n) (i .node .weight) (ok-node _ w (ok-status FOUND (w .node) (omega arith) (i .node)) i)))
+      (λ n. ok-send _ _ _ (own-is _ (i .node .branch) n) (i .node .weight) (ok-node _ w (ok-found (w .node) (i .node)) i)))
       i
 
   ok-test-on : (k : ℕ) (w : Work) → OwnOrNone o k → WorkOk o limit w → WorkOk o limit (testOn k w)
@@ -164,10 +170,10 @@ module _ (o : Own) (limit : ℕ) where
       (λ n. let k = own-is _ (i .node .best) n in
       ok-cond (eqb (w .mark (w .node .best)) BRANCH) _ _ (ok-send _ change w k tt i) (ok-mark _ BRANCH _ (omega arith) (ok-send _ (connect (w .node .level)) w k (i .node .level) i)))
 
-  -- setup values, but for status and halted
-  pub ok-fresh : (st ha : ℕ) → st ≤ FOUND → ha ≤ 1
-      → NodeOk o limit (record { status = st; level = 0; identity = none; weight = none; best = none; test = none; branch = none; count = 0; halted = ha })
-  ok-fresh st ha a b = record {
+  -- setup values, but for status, halted and the waking link
+  pub ok-fresh : (st ha j : ℕ) → st ≤ FOUND → ha ≤ 1 → OwnOrNone o j → (st ≡ ASLEEP → j ≡ none)
+      → NodeOk o limit (record { status = st; level = 0; identity = none; weight = none; best = none; test = none; branch = none; count = 0; halted = ha; waking = j })
+  ok-fresh st ha j a b c d = record {
     status = a;
     level = omega arith;
     identity = inl refl;
@@ -177,24 +183,26 @@ module _ (o : Own) (limit : ℕ) where
     branch = inl refl;
     count = omega arith;
     halted = b;
+    waking = c;
     unnamed = λ e. refl;
     named = λ e. absurd (e refl);
+    unwoken = d;
   }
 
-  ok-woken : (n : Node) → NodeOk o limit n → NodeOk o limit (woken n)
-  ok-woken n i = ok-fresh FOUND (n .halted) (omega arith) (i .halted)
+  ok-woken : (j : ℕ) (n : Node) → OwnOrNone o j → NodeOk o limit n → NodeOk o limit (woken j n)
+  ok-woken j n h i = ok-fresh FOUND (n .halted) j (omega arith) (i .halted) h (λ e. absurd (omega arith))
 
-  pub ok-wakeup : (w : Work) → WorkOk o limit w → WorkOk o limit (wakeup o w)
+  pub ok-wakeup : (j : ℕ) (w : Work) → OwnOrNone o j → WorkOk o limit w → WorkOk o limit (wakeup o j w)
   unfolding wakeOn
-  ok-wakeup w i =
+  ok-wakeup j w h i =
       let m = earliest o anyEdge (o.edges) in
-      eqb-cases m none (λ b. WorkOk o limit (cond b (withNode (setHalted 1 (woken (w .node))) w) (send m (connect 0) (setMark m BRANCH (withNode (woken (w .node)) w)))))
-      (λ e. ok-node _ w (ok-halted _ (ok-woken _ (i .node))) i)
-      (λ n. ok-send m (connect 0) _ (own-is m (earliest-own anyEdge (o.edges)) n) (omega arith) (ok-mark m BRANCH _ (omega arith) (ok-node _ w (ok-woken _ (i .node)) i)))
+      eqb-cases m none (λ b. WorkOk o limit (cond b (withNode (setHalted 1 (woken j (w .node))) w) (send m (connect 0) (setMark m BRANCH (withNode (woken j (w .node)) w)))))
+      (λ e. ok-node _ w (ok-halted _ (ok-woken j _ h (i .node))) i)
+      (λ n. ok-send m (connect 0) _ (own-is m (earliest-own anyEdge (o.edges)) n) (omega arith) (ok-mark m BRANCH _ (omega arith) (ok-node _ w (ok-woken j _ h (i .node)) i)))
 
-  ok-awake : (w : Work) → WorkOk o limit w → WorkOk o limit (awake o w)
+  ok-awake : (j : ℕ) (w : Work) → OwnOrNone o j → WorkOk o limit w → WorkOk o limit (awake o j w)
   unfolding awake
-  ok-awake w i = ok-cond (eqb (w .node .status) ASLEEP) _ w (ok-wakeup w i) i
+  ok-awake j w h i = ok-cond (eqb (w .node .status) ASLEEP) _ w (ok-wakeup j w h i) i
 
   -- ---- the responses, on an own edge j
 
@@ -229,8 +237,10 @@ module _ (o : Own) (limit : ℕ) where
           branch = inr mine;
           count = i .node .count;
           halted = i .node .halted;
+          waking = i .node .waking;
           unnamed = λ e. absurd (omega (arith, h .0));
           named = λ e. n;
+          unwoken = by-test (eqb find 1) (λ b. cond b FIND FOUND ≡ ASLEEP → w .node .waking ≡ none) (λ e. absurd (omega arith)) (λ e. absurd (omega arith));
         }) i)
 
     ok-initiate : (l f find : ℕ) (w : Work) → MsgOk o limit (initiate l f find) → f ≢ none → WorkOk o limit w → WorkOk o limit (onInitiate o l f find j w)
@@ -275,9 +285,9 @@ module _ (o : Own) (limit : ℕ) where
     -- EVERY RESPONSE
     pub ok-respond : (small : o.edges ≤ none) (m : Msg) (w : Work) → MsgOk o limit m → WorkOk o limit w → WorkOk o limit (respondTo o limit m j w)
     unfolding respondTo unlessAsleep
-    ok-respond small (connect l) w h i = ok-connect l _ (ok-awake w i)
+    ok-respond small (connect l) w h i = ok-connect l _ (ok-awake j w (inr mine) i)
     ok-respond small (initiate l f find) w h i = ok-cond (eqb (w .node .status) ASLEEP) _ _ (ok-refused w i) (ok-initiate l f find w h (λ e. omega (arith, h .2)) i)
-    ok-respond small (test l f) w h i = ok-tested l f _ (ok-awake w i)
+    ok-respond small (test l f) w h i = ok-tested l f _ (ok-awake j w (inr mine) i)
     ok-respond small accept w h i = ok-cond (eqb (w .node .status) ASLEEP) _ _ (ok-refused w i) (ok-accept w i)
     ok-respond small reject w h i = ok-cond (eqb (w .node .status) ASLEEP) _ _ (ok-refused w i) (ok-do-test _ (ok-strike w i))
     ok-respond small (report x) w h i = ok-cond (eqb (w .node .status) ASLEEP) _ _ (ok-refused w i) (ok-reported x w h i)

@@ -9,6 +9,7 @@ use mathlib.Core.List.{List, [], _∷_, _++_, List·Memᴰ, List·Memᴰ·head, 
 use lib.Dec.{eqb}
 use borrow.Author.Tests.{eq-eqb, ne-eqb}
 use Rattle.base.specs.laws.Cond.{by-eq, eqb-diff}
+use Rattle.base.specs.None.{none}
 use Rattle.base.specs.Loop.{After}
 use Rattle.base.specs.laws.Loop.{by-test}
 use Rattle.base.specs.Pool.{All, nil, con}
@@ -24,7 +25,7 @@ use Rattle.field.specs.State.{State, nodeAt, markAt}
 use Rattle.field.specs.Step.{wakeWork, SERVE, step}
 use Rattle.field.specs.Held.{Held, stateOf, setUp}
 use Rattle.field_calls.specs.Call.{Call, after}
-use Rattle.field_calls.specs.Trail.{Taken, ifTaken, trail, wakesOne, wokenIn}
+use Rattle.field_calls.specs.Trail.{Taken, ifTaken, trail, wakesOne, Awake, wokenIn}
 use Rattle.field_laws.specs.Cases.{Woke, Served, refusal-not-0, StepOutcome, took, kept, FieldStep, wake-step, hand-step, serve-step, step-outcome}
 use Rattle.field_laws.specs.Places.{node-same, node-other}
 use Rattle.field_laws.specs.Keeps.{Sound, step-keeps}
@@ -33,33 +34,29 @@ use Rattle.field_laws.specs.After.{fresh-node, started, begun-live, list-tells}
 use Rattle.field_roundlaws.specs.Steady.{steady-wake, refused-asleep}
 use Rattle.field_roundlaws.specs.Progress.{awake-now, other-after}
 
-pub record Awake (p : Plan) (s : State) (v : ℕ) : Type 0 where
-  pub within : v < modulesOf p
-  pub awake : nodeAt s v .status ≢ ASLEEP
-
 -- v responded: it is awake, and the others are as they were
 pub record Responded (p : Plan) (v : ℕ) (s s′ : State) : Type 0 where
   pub now : Awake p s′ v
   pub other : (u : ℕ) → u ≢ v → nodeAt s′ u ≡ nodeAt s u
 
 module _ (p : Plan) (a : Accepted p) (s s′ : State) (i : Sound p s) where
-  woke-responds : (v : ℕ) → Woke p v s s′ → Responded p v s s′
+  pub woke-responds : (v : ℕ) → Woke p v s s′ → Responded p v s s′
   woke-responds v h =
       let w = wakeWork p v s in
       let here = ap (λ t. nodeAt t v) (h .responds .is) ∙ node-same (s .cells) v (w .node) (omega (arith, i .sized .cells, h .within)) in
       record {
         now = record {
           within = h .within;
-          awake = λ e. steady-wake (ownOf p v) (start (nodeAt s v) (markAt p s v)) (λ q. omega arith) .awake (sym (ap (λ (n : Node). n .status) here) ∙ e);
+          awake = λ e. steady-wake (ownOf p v) none (start (nodeAt s v) (markAt p s v)) (λ q. omega arith) .awake (sym (ap (λ (n : Node). n .status) here) ∙ e);
         };
         other = λ u n. ap (λ t. nodeAt t u) (h .responds .is) ∙ node-other (s .cells) v (w .node) u n;
       }
 
-  served-responds : (v : ℕ) → Served p v s s′ → Responded p v s s′
+  pub served-responds : (v : ℕ) → Served p v s s′ → Responded p v s s′
   served-responds v h = record { now = record { within = h .within; awake = awake-now p a s s′ v i h }; other = other-after p a s s′ v i h }
 
-  stays : (v : ℕ) → Responded p v s s′ → (u : ℕ) → Awake p s u → Awake p s′ u
-  stays v r u k = by-eq u v
+  pub awake-stays : (v : ℕ) → Responded p v s s′ → (u : ℕ) → Awake p s u → Awake p s′ u
+  awake-stays v r u k = by-eq u v
       (λ e. subst (Awake p s′) (sym e) (r .now))
       (λ n. record { within = k .within; awake = λ e. k .awake (sym (ap (λ (m : Node). m .status) (r .other u n)) ∙ e) })
 
@@ -68,7 +65,7 @@ module _ (p : Plan) (a : Accepted p) (s s′ : State) (i : Sound p s) where
   before v r u n k = record { within = k .within; awake = λ e. k .awake (ap (λ (m : Node). m .status) (r .other u n) ∙ e) }
 
 -- a sleeper whose service is taken is woken by it: a message of another kind would be refused
-serve-wakes : (p : Plan) (s s′ : State) (v : ℕ) → Served p v s s′ → nodeAt s v .status ≡ ASLEEP → wakesOne p (record { kind = SERVE; number = v; at = s }) ≡ true
+pub serve-wakes : (p : Plan) (s s′ : State) (v : ℕ) → Served p v s s′ → nodeAt s v .status ≡ ASLEEP → wakesOne p (record { kind = SERVE; number = v; at = s }) ≡ true
 unfolding wakesOne
 serve-wakes p s s′ v h e = rw (eq-eqb _ ASLEEP e) (subst (λ x. (eqb (kindAt (headerIn x)) 1 || eqb (kindAt (headerIn x)) 3) ≡ true) (h .at) listed)
   where
@@ -88,7 +85,7 @@ pub record Wakes (p : Plan) (x : State) (l : List Taken) (y : State) : Type 0 wh
   -- nobody else is awake
   pub only : (v : ℕ) → Awake p y v → Awake p x v ⊎ List·Memᴰ v (wokenIn p l)
 
-woken-app : (p : Plan) (l m : List Taken) → wokenIn p (l ++ m) ≡ wokenIn p l ++ wokenIn p m
+pub woken-app : (p : Plan) (l m : List Taken) → wokenIn p (l ++ m) ≡ wokenIn p l ++ wokenIn p m
 unfolding wokenIn
 woken-app p [] m = refl
 woken-app p (t ∷ l) m = by-test (wakesOne p t) (λ b. cond b (t .number ∷ wokenIn p (l ++ m)) (wokenIn p (l ++ m)) ≡ cond b (t .number ∷ wokenIn p l) (wokenIn p l) ++ wokenIn p m)
@@ -115,7 +112,7 @@ module _ (p : Plan) (a : Accepted p) where
   unfolding wokenIn wakesOne
   took-wakes s _ _ s′ i j (wake-step {v} h) =
       let r = woke-responds p a s s′ i v h in
-      record { sound = j; woken = All-one (r .now); stays = stays p a s s′ i v r; only = λ u k. by-eq u v (λ e. inr (List·Memᴰ·head e)) (λ n. inl (before p a s s′ i v r u n k)) }
+      record { sound = j; woken = All-one (r .now); stays = awake-stays p a s s′ i v r; only = λ u k. by-eq u v (λ e. inr (List·Memᴰ·head e)) (λ n. inl (before p a s s′ i v r u n k)) }
   took-wakes s _ _ s′ i j (hand-step h) =
       let same : (v : ℕ) → nodeAt s′ v .status ≡ nodeAt s v .status = λ v. ap (λ t. nodeAt t v .status) (h .is) in
       record {
@@ -130,7 +127,7 @@ module _ (p : Plan) (a : Accepted p) where
       record {
         sound = j;
         woken = by-test (wakesOne p t) (λ b. All (Awake p s′) (cond b (v ∷ []) [])) (All-one (r .now)) nil;
-        stays = stays p a s s′ i v r;
+        stays = awake-stays p a s s′ i v r;
         only = λ u k. by-eq u v
             (λ e. by-eq (nodeAt s v .status) ASLEEP
             (λ q. inr (rw (serve-wakes p s s′ v h q) (List·Memᴰ·head e)))

@@ -70,7 +70,7 @@ module _ (p : Plan) (a : Accepted p) (s s′ : State) (v : ℕ) (i : Sound p s) 
   in-range : v * WIDTH + WIDTH ≤ length (s .cells)
   in-range = omega (arith, i .sized .cells, h .within)
 
-  node-after : nodeAt s′ v ≡ w .node
+  pub node-after : nodeAt s′ v ≡ w .node
   node-after = ap (λ t. nodeAt t v) (h .responds .is) ∙ node-same (s .cells) v (w .node) in-range
 
   pub other-after : (u : ℕ) → u ≢ v → nodeAt s′ u ≡ nodeAt s u

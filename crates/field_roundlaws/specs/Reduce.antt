@@ -23,6 +23,7 @@ use Rattle.field_calls.specs.Schedule.{scheduleRefusal, scheduleRun, lengthFits
 use Rattle.field_calls.specs.Rounds.{roundsRun}
 use Rattle.field_calls.specs.Call.{Call, one, run, rounds, does, runRounds, after, answers}
 use Rattle.field_calls.specs.Demand.{TreeLink, Allowed, Agreed, ComesToRest, Claim, Demand3}
+use Rattle.field_calls.specs.Trail.{Awake}
 use Rattle.field_laws.specs.Cases.{StepOutcome, took, kept, step-outcome}
 use Rattle.field_laws.specs.Keeps.{Sound, step-keeps}
 use Rattle.field_laws.specs.Trace.{onState, call-keeps}
@@ -32,7 +33,7 @@ use Rattle.field_laws.specs.Messages.{times-conserved, number-conserved}
 use Rattle.field_roundlaws.specs.Progress.{BlockedWord}
 use Rattle.field_roundlaws.specs.Calm.{Calm}
 use Rattle.field_roundlaws.specs.Rest.{rested}
-use Rattle.field_roundlaws.specs.Awake.{Awake, list-wakes}
+use Rattle.field_roundlaws.specs.Awake.{list-wakes}
 
 -- What the protocol has to show: an invariant Good of the states of accepted plan p, with these facts.
 pub record Protocol (p : Plan) (Good : State → Type 0) : Type 0 where

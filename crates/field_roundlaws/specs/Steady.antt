@@ -48,9 +48,9 @@ steady-root w h = either (eqb (w .node .best) none) _ _ (stopped w h)
     (either (eqb (w .mark (w .node .best)) BRANCH) _ _ (record { unblocked = h .unblocked; awake = h .awake }) (record { unblocked = h .unblocked; awake = h .awake }))
 
 -- waking: Found
-pub steady-wake : (o : Own) (w : Work) → w .answer ≢ BACK → Steady (wakeup o w)
+pub steady-wake : (o : Own) (j : ℕ) (w : Work) → w .answer ≢ BACK → Steady (wakeup o j w)
 unfolding wakeOn
-steady-wake o w h = either (eqb (earliest o anyEdge (o.edges)) none) _ _ (record { unblocked = h; awake = λ e. omega arith }) (record { unblocked = h; awake = λ e. omega arith })
+steady-wake o j w h = either (eqb (earliest o anyEdge (o.edges)) none) _ _ (record { unblocked = h; awake = λ e. omega arith }) (record { unblocked = h; awake = λ e. omega arith })
 
 -- an awake node that is as in w puts m back if it comes over j
 abbrev pub PutsBack : ℕ → Work → Msg → Type 0
@@ -109,9 +109,9 @@ module _ (o : Own) (limit j : ℕ) (w : Work) (h : Steady w) where
 -- THE LAW for a node that is awake ..
 pub ends-awake : (o : Own) (limit j : ℕ) (m : Msg) (w : Work) → Steady w → SteadyOr w (PutsBack j w m) (respondTo o limit m j w)
 unfolding respondTo
-ends-awake o limit j (connect l) w h = rw (awake-is o w (h .awake)) (ends-connect o limit j w h l)
+ends-awake o limit j (connect l) w h = rw (awake-is o j w (h .awake)) (ends-connect o limit j w h l)
 ends-awake o limit j (initiate l f find) w h = inl (rw (asleep-not w _ (h .awake)) (steady-initiate o limit j w h l f find))
-ends-awake o limit j (test l f) w h = rw (awake-is o w (h .awake)) (ends-test o limit j w h l f)
+ends-awake o limit j (test l f) w h = rw (awake-is o j w (h .awake)) (ends-test o limit j w h l f)
 ends-awake o limit j accept w h = inl (rw (asleep-not w _ (h .awake)) (steady-report _ (record { unblocked = h .unblocked; awake = h .awake })))
 ends-awake o limit j reject w h = inl (rw (asleep-not w _ (h .awake)) (steady-test _ _ (record { unblocked = h .unblocked; awake = h .awake })))
 ends-awake o limit j (report x) w h = rw (asleep-not w _ (h .awake)) (ends-report o limit j w h x)
@@ -125,9 +125,9 @@ stays-up w r h (inr t) = subst (λ x. x .node .status ≢ ASLEEP) (sym (t .1)) (
 pub ends-asleep : (o : Own) (limit j : ℕ) (m : Msg) (w : Work) → w .answer ≢ BACK → w .node .status ≡ ASLEEP
     → (respondTo o limit m j w .answer ≡ REFUSED) ⊎ (respondTo o limit m j w .node .status ≢ ASLEEP)
 unfolding respondTo
-ends-asleep o limit j (connect l) w a e = let k = steady-wake o w a in inr (rw (awake-wakes o w e) (stays-up (wakeup o w) _ k (ends-connect o limit j (wakeup o w) k l)))
+ends-asleep o limit j (connect l) w a e = let k = steady-wake o j w a in inr (rw (awake-wakes o j w e) (stays-up (wakeup o j w) _ k (ends-connect o limit j (wakeup o j w) k l)))
 ends-asleep o limit j (initiate l f find) w a e = inl (rw (asleep-refused w _ e) refl)
-ends-asleep o limit j (test l f) w a e = let k = steady-wake o w a in inr (rw (awake-wakes o w e) (stays-up (wakeup o w) _ k (ends-test o limit j (wakeup o w) k l f)))
+ends-asleep o limit j (test l f) w a e = let k = steady-wake o j w a in inr (rw (awake-wakes o j w e) (stays-up (wakeup o j w) _ k (ends-test o limit j (wakeup o j w) k l f)))
 ends-asleep o limit j accept w a e = inl (rw (asleep-refused w _ e) refl)
 ends-asleep o limit j reject w a e = inl (rw (asleep-refused w _ e) refl)
 ends-asleep o limit j (report x) w a e = inl (rw (asleep-refused w _ e) refl)

@@ -10,25 +10,26 @@ use Rattle.node.specs.Work.{Own, Work, Send, ASLEEP, FIND, FOUND, BASIC,
 -- (2) procedure wakeup
 --       LN ← 0; SN ← Found; Find-count ← 0;
 -- "Waking also sets level, identity, best and test edges, best weight and in-branch to their setup values."
-abbrev pub woken : Node → Node
-woken n =
-    record { status = FOUND; level = 0; identity = none; weight = none; best = none; test = none; branch = none; count = 0; halted = n .halted }
+-- "Each module's record gains the link whose message woke it: none for .. one woken by a wake step" (request 05): j is that edge, or none
+abbrev pub woken : ℕ → Node → Node
+woken j n =
+    record { status = FOUND; level = 0; identity = none; weight = none; best = none; test = none; branch = none; count = 0; halted = n .halted; waking = j }
 
 --       begin let m be adjacent edge of minimum weight; SE(m) ← Branch; .. send Connect(0) on edge m end
 -- Slip: the copy has SE(m) ← Branch before part 1, and the line with `let m` after part 3.
 -- "A module without links wakes Found and halted, and sends nothing."
-unfoldable pub wakeOn : ℕ → Work → Work
-wakeOn m w =
+unfoldable pub wakeOn : ℕ → ℕ → Work → Work
+wakeOn j m w =
     cond (eqb m none)
-    (withNode (setHalted 1 (woken (w .node))) w)
-    (send m (connect 0) (setMark m BRANCH (withNode (woken (w .node)) w)))
+    (withNode (setHalted 1 (woken j (w .node))) w)
+    (send m (connect 0) (setMark m BRANCH (withNode (woken j (w .node)) w)))
 
-abbrev pub wakeup : Own → Work → Work
-wakeup o w = wakeOn (earliest o anyEdge (o.edges)) w
+abbrev pub wakeup : Own → ℕ → Work → Work
+wakeup o j w = wakeOn j (earliest o anyEdge (o.edges)) w
 
 -- (3) and (6): if SN = Sleeping then execute procedure wakeup
-unfoldable pub awake : Own → Work → Work
-awake o w = cond (eqb (w .node .status) ASLEEP) (wakeup o w) w
+unfoldable pub awake : Own → ℕ → Work → Work
+awake o j w = cond (eqb (w .node .status) ASLEEP) (wakeup o j w) w
 
 -- (9) procedure report
 --       if find-count = 0 and test-edge = nil then begin SN ← Found; send Report(best-wt) on in-branch end
@@ -94,7 +95,7 @@ onConnect o limit l j w =
 -- Slip: the copy has in-branch ← i.
 abbrev pub informed : ℕ → ℕ → ℕ → ℕ → Node → Node
 informed l f find j n =
-    record { status = cond (eqb find 1) FIND FOUND; level = l; identity = f; weight = none; best = none; test = n .test; branch = j; count = n .count; halted = n .halted }
+    record { status = cond (eqb find 1) FIND FOUND; level = l; identity = f; weight = none; best = none; test = n .test; branch = j; count = n .count; halted = n .halted; waking = n .waking }
 
 --       for all i ≠ j such that SE(i) = Branch do begin send Initiate(L, F, S) on edge i; .. end
 -- Slip: the copy lacks this end, which closes the loop before procedure test.
@@ -184,9 +185,9 @@ unlessAsleep w r = cond (eqb (w .node .status) ASLEEP) (refused w) r
 -- "Connect and Test wake a sleeper first; a put-back after that keeps the wake."
 -- (12) Response to receipt of Change-root: execute procedure change-root
 unfoldable pub respondTo : Own → ℕ → Msg → ℕ → Work → Work
-respondTo o limit (connect l) j w = onConnect o limit l j (awake o w)
+respondTo o limit (connect l) j w = onConnect o limit l j (awake o j w)
 respondTo o limit (initiate l f find) j w = unlessAsleep w (onInitiate o l f find j w)
-respondTo o limit (test l f) j w = onTest o l f j (awake o w)
+respondTo o limit (test l f) j w = onTest o l f j (awake o j w)
 respondTo o limit accept j w = unlessAsleep w (onAccept o j w)
 respondTo o limit reject j w = unlessAsleep w (onReject o j w)
 respondTo o limit (report x) j w = unlessAsleep w (onReport o x j w)
@@ -197,4 +198,4 @@ respond o limit m j n mark = respondTo o limit m j (start n mark)
 
 -- (1) Response to spontaneous awakening (can occur only at a node in the sleeping state): execute procedure wakeup
 abbrev pub wakes : Own → Node → (ℕ → ℕ) → Work
-wakes o n mark = wakeup o (start n mark)
+wakes o n mark = wakeup o none (start n mark)

@@ -21,24 +21,24 @@ BACK = 1
 abbrev pub REFUSED : ℕ
 REFUSED = 32
 
--- "Setup gives zeros and nones."
+-- "Setup gives zeros and nones."; "Each module's record gains the link whose message woke it: none for a sleeper .." (request 05)
 abbrev pub setup : Node
 setup =
-    record { status = ASLEEP; level = 0; identity = none; weight = none; best = none; test = none; branch = none; count = 0; halted = 0 }
+    record { status = ASLEEP; level = 0; identity = none; weight = none; best = none; test = none; branch = none; count = 0; halted = 0; waking = none }
 
 -- how many numbers they are
 abbrev pub WIDTH : ℕ
-WIDTH = 9
+WIDTH = 10
 
--- the numbers, in document 01's order
+-- the numbers, in document 01's order, "the waking link after halted"
 abbrev pub values : Node → List ℕ
 values n =
-    n .status ∷ n .level ∷ n .identity ∷ n .weight ∷ n .best ∷ n .test ∷ n .branch ∷ n .count ∷ n .halted ∷ []
+    n .status ∷ n .level ∷ n .identity ∷ n .weight ∷ n .best ∷ n .test ∷ n .branch ∷ n .count ∷ n .halted ∷ n .waking ∷ []
 
 -- the node of which f j is the value number j
 abbrev pub nodeBy : (ℕ → ℕ) → Node
 nodeBy f =
-    record { status = f 0; level = f 1; identity = f 2; weight = f 3; best = f 4; test = f 5; branch = f 6; count = f 7; halted = f 8 }
+    record { status = f 0; level = f 1; identity = f 2; weight = f 3; best = f 4; test = f 5; branch = f 6; count = f 7; halted = f 8; waking = f 9 }
 
 -- The edges as one node sees them: edge numbers are below `edges`, `own` tells those that end here, `earlier` is the order of weights.
 pub record Own : Type 0 where

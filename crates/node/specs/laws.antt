@@ -5,3 +5,4 @@ pub mod Rules
 pub mod First
 pub mod Count
 pub mod Sends
+pub mod Waking

@@ -1,5 +1,5 @@
-// The rules of one node (specs/), and its record: document 01's module values, WIDTH numbers. Edges, weights and identity are edge numbers, 65535 for none.
-pub const WIDTH: usize = 9;
+// The rules of one node (specs/), and its record: document 01's module values and the waking edge, WIDTH numbers. Edges, weights and identity are edge numbers, 65535 for none.
+pub const WIDTH: usize = 10;
 
 // A node's status.
 pub const ASLEEP: u16 = 0;
@@ -41,4 +41,6 @@ pub struct Node {
     pub count: u16,
     // 1 once the procedure ended here
     pub halted: u16,
+    // the edge whose message woke it (its parent edge in the wake-up flood): none for a sleeper, and for one woken by a wake step
+    pub waking: u16,
 }

@@ -1,4 +1,5 @@
 // A node's response to a message, or to a wakeup: the dispatch by the message's kind.
+use base::NONE;
 use field::Marks;
 use node::ASLEEP;
 use node::Node;
@@ -41,9 +42,21 @@ fn by_kind<'a>(plan: &'a Plan, marks: &'a Marks, v: u16, x: Packet, a: Response)
         return node_response::refuse(a);
     }
     match kind {
-        1 => node_joining::on_connect(plan, marks, v, x, node_procedures::awake(plan, marks, v, a)),
+        1 => node_joining::on_connect(
+            plan,
+            marks,
+            v,
+            x,
+            node_procedures::awake(plan, marks, v, j, a),
+        ),
         2 => node_joining::on_initiate(plan, marks, v, x, a),
-        3 => node_searching::on_test(plan, marks, v, x, node_procedures::awake(plan, marks, v, a)),
+        3 => node_searching::on_test(
+            plan,
+            marks,
+            v,
+            x,
+            node_procedures::awake(plan, marks, v, j, a),
+        ),
         4 => node_searching::on_accept(plan, j, a),
         5 => node_searching::on_reject(plan, marks, v, j, a),
         6 => node_searching::on_report(plan, marks, v, x, a),
@@ -62,11 +75,11 @@ pub fn respond<'a>(plan: &'a Plan, marks: &'a Marks, v: u16, x: Packet, n: Node)
     by_kind(plan, marks, v, x, node_response::begin(n))
 }
 
-// The response of node n, which is v, to a wakeup.
+// The response of node n, which is v, to a wakeup: no message woke it.
 pub fn wakes<'a>(plan: &'a Plan, marks: &'a Marks, v: u16, n: Node) -> Response
     requires { ⌜ linksOf (now plan) ≤ maxLinks ⌝ }
     ensures { λ r. ⌜ ((cs : List Send) → workOf (marksIn (now (plan .entry)) (now (marks .entry)) v) cs r
         ≡ wakes (ownOf (now (plan .entry)) v) n (marksIn (now (plan .entry)) (now (marks .entry)) v)) × Formed r ⌝ }
 {
-    node_procedures::wakeup(plan, marks, v, node_response::begin(n))
+    node_procedures::wakeup(plan, marks, v, NONE, node_response::begin(n))
 }

@@ -105,6 +105,7 @@ pub fn on_initiate<'a>(plan: &'a Plan, marks: &'a Marks, v: u16, x: Packet, a: R
         branch: x.edge,
         count: a.node.count,
         halted: a.node.halted,
+        waking: a.node.waking,
     };
     let mut b = a;
     b.copies = 1;

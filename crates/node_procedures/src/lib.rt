@@ -64,10 +64,10 @@ pub fn do_test<'a>(plan: &'a Plan, marks: &'a Marks, v: u16, a: Response) -> Res
     test_on(node_edges::earliest_basic(plan, marks, v, a.newmark), a)
 }
 
-// Procedure wakeup, for the earliest own edge k, or none. Nothing was done before it.
-fn wake_on(k: u16, a: Response) -> Response
+// Procedure wakeup by a message that came over j, or by none, for the earliest own edge k, or none. Nothing was done before it.
+fn wake_on(j: u16, k: u16, a: Response) -> Response
     requires { ⌜ (a .newmark .edge ≡ none) × (a .first .edge ≡ none) × (a .second .edge ≡ none) ⌝ }
-    ensures { λ r. ⌜ ((m : ℕ → ℕ) (cs : List Send) → Does m cs (wakeOn k) a r) × (r .second .edge ≡ none) × (r .node .level ≡ 0) ⌝ }
+    ensures { λ r. ⌜ ((m : ℕ → ℕ) (cs : List Send) → Does m cs (wakeOn j k) a r) × (r .second .edge ≡ none) × (r .node .level ≡ 0) ⌝ }
 {
     let mut n = Node {
         status: FOUND,
@@ -79,6 +79,7 @@ fn wake_on(k: u16, a: Response) -> Response
         branch: NONE,
         count: 0,
         halted: a.node.halted,
+        waking: j,
     };
     let mut b = a;
     if k == NONE {
@@ -92,23 +93,23 @@ fn wake_on(k: u16, a: Response) -> Response
     node_response::say(b, node_response::a_connect(k, 0))
 }
 
-// Procedure wakeup. Nothing was done before it.
-pub fn wakeup<'a>(plan: &'a Plan, marks: &'a Marks, v: u16, a: Response) -> Response
+// Procedure wakeup by a message that came over j, or by none. Nothing was done before it.
+pub fn wakeup<'a>(plan: &'a Plan, marks: &'a Marks, v: u16, j: u16, a: Response) -> Response
     requires { ⌜ (linksOf (now plan) ≤ maxLinks) × (a .newmark .edge ≡ none) × (a .first .edge ≡ none) × (a .second .edge ≡ none) ⌝ }
-    ensures { λ r. ⌜ ((m : ℕ → ℕ) (cs : List Send) → Does m cs (wakeup (ownOf (now (plan .entry)) v)) a r)
+    ensures { λ r. ⌜ ((m : ℕ → ℕ) (cs : List Send) → Does m cs (wakeup (ownOf (now (plan .entry)) v) j) a r)
         × (r .second .edge ≡ none) × (r .node .level ≡ 0) ⌝ }
 {
-    wake_on(node_edges::earliest_own(plan, marks, v), a)
+    wake_on(j, node_edges::earliest_own(plan, marks, v), a)
 }
 
-// A sleeper wakes.
-pub fn awake<'a>(plan: &'a Plan, marks: &'a Marks, v: u16, a: Response) -> Response
+// A sleeper wakes, by a message that came over j.
+pub fn awake<'a>(plan: &'a Plan, marks: &'a Marks, v: u16, j: u16, a: Response) -> Response
     requires { ⌜ (linksOf (now plan) ≤ maxLinks) × (a .newmark .edge ≡ none) × (a .first .edge ≡ none) × (a .second .edge ≡ none) ⌝ }
-    ensures { λ r. ⌜ ((m : ℕ → ℕ) (cs : List Send) → Does m cs (awake (ownOf (now (plan .entry)) v)) a r)
+    ensures { λ r. ⌜ ((m : ℕ → ℕ) (cs : List Send) → Does m cs (awake (ownOf (now (plan .entry)) v) j) a r)
         × (r .second .edge ≡ none) × ((r .newmark .edge ≡ none) ⊎ (r .node .level ≡ 0)) ⌝ }
 {
     if a.node.status == ASLEEP {
-        return wakeup(plan, marks, v, a);
+        return wakeup(plan, marks, v, j, a);
     }
     a
 }

@@ -39,30 +39,30 @@ onAwake o limit change j w = changeRoot w
 module _ (o : Own) (limit j : ℕ) (w : Work) where
   pub respond-awake : (m : Msg) → w .node .status ≢ 0 → respondTo o limit m j w ≡ onAwake o limit m j w
   unfolding respondTo
-  respond-awake (connect l) n = ap (onConnect o limit l j) (awake-is o w n)
+  respond-awake (connect l) n = ap (onConnect o limit l j) (awake-is o j w n)
   respond-awake (initiate l f x) n = asleep-not w (onInitiate o l f x j w) n
-  respond-awake (test l f) n = ap (onTest o l f j) (awake-is o w n)
+  respond-awake (test l f) n = ap (onTest o l f j) (awake-is o j w n)
   respond-awake accept n = asleep-not w (onAccept o j w) n
   respond-awake reject n = asleep-not w (onReject o j w) n
   respond-awake (report x) n = asleep-not w (onReport o x j w) n
   respond-awake change n = asleep-not w (changeRoot w) n
 
   -- a sleeper wakes first, for Connect and Test
-  pub respond-asleep : (m : Msg) → Rouse m → w .node .status ≡ 0 → respondTo o limit m j w ≡ onAwake o limit m j (wakeup o w)
+  pub respond-asleep : (m : Msg) → Rouse m → w .node .status ≡ 0 → respondTo o limit m j w ≡ onAwake o limit m j (wakeup o j w)
   unfolding respondTo
-  respond-asleep (connect l) h e = ap (onConnect o limit l j) (awake-wakes o w e)
+  respond-asleep (connect l) h e = ap (onConnect o limit l j) (awake-wakes o j w e)
   respond-asleep (initiate l f x) h e = absurd h
-  respond-asleep (test l f) h e = ap (onTest o l f j) (awake-wakes o w e)
+  respond-asleep (test l f) h e = ap (onTest o l f j) (awake-wakes o j w e)
   respond-asleep accept h e = absurd h
   respond-asleep reject h e = absurd h
   respond-asleep (report x) h e = absurd h
   respond-asleep change h e = absurd h
 
 -- who has woken is awake
-woken-awake : (o : Own) (w : Work) → wakeup o w .node .status ≢ 0
-woken-awake o w e = let m = earliest o anyEdge (o.edges) in by-eq m none
-    (λ q. let z = ap (λ (x : Work). x .node .status) (wake-alone m w q) in omega arith)
-    (λ n. let z = ap (λ (x : Work). x .node .status) (wake-edge m w n) in omega arith)
+woken-awake : (o : Own) (j : ℕ) (w : Work) → wakeup o j w .node .status ≢ 0
+woken-awake o j w e = let m = earliest o anyEdge (o.edges) in by-eq m none
+    (λ q. let z = ap (λ (x : Work). x .node .status) (wake-alone j m w q) in omega arith)
+    (λ n. let z = ap (λ (x : Work). x .node .status) (wake-edge j m w n) in omega arith)
 
 -- it is taken, by small steps, or put back, and then the small step `back` can be taken
 served : {p : Network} → Keeps p → {s : ProtocolState} {r : Real} {u v k : ℕ} (m : Msg) {rest : List Msg} {w : Work} → Serving p s r u v k m rest w
@@ -83,7 +83,7 @@ response p s n v k m = respond (ownP p v) (log2 p.N) m k n (s.mark v)
 
 -- (1) THE WAKE: a sleeper's response to a wake step is one small step. Its answer is 0: it is never refused.
 pub wakes-bridge : (p : Network) (s : ProtocolState) (n : Node) (v : ℕ) → Shows (real s) v n → Idle s → v < p.N → s.st v ≡ 0 → Fin p (real s) v 0 0 (wakes (ownP p v) n (s.mark v)) s
-wakes-bridge p s n v shows idle lt asleep = wake-fin p s shows refl idle lt asleep
+wakes-bridge p s n v shows idle lt asleep = wake-fin p s none shows refl idle lt asleep
 
 -- m, from u over k with `rest` behind it, is taken: small steps lead to the tables without m, with the response placed at v
 pub record TakenBySteps (p : Network) (s : ProtocolState) (n : Node) (u v k : ℕ) (m : Msg) (rest : List Msg) : Type 0 where
@@ -133,7 +133,7 @@ module _ {p : Network} (keeps : Keeps p) {s : ProtocolState} (i : Inv p s) {n : 
     asleep : s.st v ≡ 0 → TakenBySteps p s n u v k m rest ⊎ BackByStep p s n u v k m rest
     asleep z =
         let rouses = to-sleeper i k u v m ends (pop-head s.ch u k q) z in
-        outcome (wakes-bridge p s n v shows idle (end-lt p (flip ends)) z) (woken-awake (ownP p v) w₀) (respond-asleep (ownP p v) (log2 p.N) k w₀ m rouses (sym (st-is shows) ∙ z)) (λ y h. absurd (y z))
+        outcome (wake-fin p s k shows refl idle (end-lt p (flip ends)) z) (woken-awake (ownP p v) k w₀) (respond-asleep (ownP p v) (log2 p.N) k w₀ m rouses (sym (st-is shows) ∙ z)) (λ y h. absurd (y z))
 
     awake : s.st v ≢ 0 → TakenBySteps p s n u v k m rest ⊎ BackByStep p s n u v k m rest
     awake y =

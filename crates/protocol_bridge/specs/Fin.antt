@@ -88,8 +88,8 @@ module _ {r : Real} {v : ℕ} {w : Work} {x : Real} (a : At r v w x) where
   pub at-send : (k : ℕ) (m : Msg) → At r v (send k m w) (toSend v k m x)
   at-send k m = record { is = ap (toSend v k m) (a.is) ∙ place-send r v w k m }
 
-  pub at-woken : At r v (withNode (woken (w .node)) w) (toWoken v (woken (w .node)) x)
-  at-woken = record { is = ap (toWoken v (woken (w .node))) (a.is) ∙ place-woken r v w }
+  pub at-woken : (j : ℕ) → At r v (withNode (woken j (w .node)) w) (toWoken v (woken j (w .node)) x)
+  at-woken j = record { is = ap (toWoken v (woken j (w .node))) (a.is) ∙ place-woken r v w j }
 
   pub at-told : (l f b k : ℕ) → At r v (withNode (informed l f b k (w .node)) w) (toTold v (informed l f b k (w .node)) x)
   at-told l f b k = record { is = ap (toTold v (informed l f b k (w .node))) (a.is) ∙ place-told r v w l f b k }

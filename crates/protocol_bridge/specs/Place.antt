@@ -47,7 +47,7 @@ toPop u k l r = toChans (upd2 r.ch u k l) r
 abbrev pub toTold : ℕ → Node → Real → Real
 toTold v n r = record { st = upd r.st v (n .status); lev = upd r.lev v (n .level); id = upd r.id v (n .identity); bw = upd r.bw v (n .weight); be = upd r.be v (n .best); te = r.te; ib = upd r.ib v (n .branch); fc = r.fc; halt = r.halt; mark = r.mark; ch = r.ch }
 
--- the values of n but halted, which waking leaves alone
+-- the values of n but halted, which waking leaves alone (the tables have no waking edge)
 abbrev pub toWoken : ℕ → Node → Real → Real
 toWoken v n r = toCount v (n .count) (toTest v (n .test) (toTold v n r))
 
@@ -130,8 +130,8 @@ module _ (r : Real) (v : ℕ) (w : Work) where
   pub place-mark : (k c : ℕ) → toMark v k c (placeIn r v w) ≡ placeIn r v (setMark k c w)
   place-mark k c = simp row-upd
 
-  pub place-woken : toWoken v (woken (w .node)) (placeIn r v w) ≡ placeIn r v (withNode (woken (w .node)) w)
-  place-woken = simp upd-upd
+  pub place-woken : (j : ℕ) → toWoken v (woken j (w .node)) (placeIn r v w) ≡ placeIn r v (withNode (woken j (w .node)) w)
+  place-woken j = simp upd-upd
 
   pub place-told : (l f x k : ℕ) → toTold v (informed l f x k (w .node)) (placeIn r v w) ≡ placeIn r v (withNode (informed l f x k (w .node)) w)
   place-told l f x k = simp upd-upd

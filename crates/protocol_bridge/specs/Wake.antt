@@ -16,21 +16,22 @@ use Rattle.protocol_bridge.specs.Real.{Real, real, ownP}
 use Rattle.protocol_bridge.specs.Own.{Lacks, FindsFirst, searched}
 use Rattle.protocol_bridge.specs.Fin.{At, Fin, fin-last, fin-same, one-more, at-halted, at-woken, at-mark, at-send}
 
-module _ (p : Network) (s : ProtocolState) {r : Real} {v : ℕ} {w : Work} (a : At r v w (real s)) (z : w .answer ≡ 0) (idle : Idle s) (lt : v < p.N) (asleep : s.st v ≡ 0) where
+-- j: the edge whose message wakes it, or none. The protocol does not know it.
+module _ (p : Network) (s : ProtocolState) (j : ℕ) {r : Real} {v : ℕ} {w : Work} (a : At r v w (real s)) (z : w .answer ≡ 0) (idle : Idle s) (lt : v < p.N) (asleep : s.st v ≡ 0) where
   abbrev edge : ℕ
   edge = earliest (ownP p v) anyEdge p.g.L
 
-  alone : Lacks p v anyEdge edge → Fin p r v 0 (length (w .sends)) (wakeup (ownP p v) w) s
-  alone h = fin-same (wake-alone edge w (h .is)) (fin-last (wake-lone idle lt asleep (λ k u e. h .nothing k u e refl)) (omega arith) idle z (at-halted (at-woken a) 1))
+  alone : Lacks p v anyEdge edge → Fin p r v 0 (length (w .sends)) (wakeup (ownP p v) j w) s
+  alone h = fin-same (wake-alone j edge w (h .is)) (fin-last (wake-lone idle lt asleep (λ k u e. h .nothing k u e refl)) (omega arith) idle z (at-halted (at-woken a j) 1))
 
-  connects : FindsFirst p v anyEdge edge → Fin p r v 0 (length (w .sends)) (wakeup (ownP p v) w) s
+  connects : FindsFirst p v anyEdge edge → Fin p r v 0 (length (w .sends)) (wakeup (ownP p v) j w) s
   connects h =
       let y = h .other in
       let m = connect 0 in
-      let a′ = at-send (at-mark (at-woken a) edge BRANCH) edge m in
-      fin-same (wake-edge edge w (edge-some p (h .ends))) (by-eq (s.mark y edge) 1
-      (λ b. fin-last (wake-merge idle (h .ends) asleep (λ j u e. h .least j u e refl) b) (one-more w edge m) idle z a′)
-      (λ b. fin-last (wake-half idle (h .ends) asleep (λ j u e. h .least j u e refl) b) (one-more w edge m) idle z a′))
+      let a′ = at-send (at-mark (at-woken a j) edge BRANCH) edge m in
+      fin-same (wake-edge j edge w (edge-some p (h .ends))) (by-eq (s.mark y edge) 1
+      (λ b. fin-last (wake-merge idle (h .ends) asleep (λ i u e. h .least i u e refl) b) (one-more w edge m) idle z a′)
+      (λ b. fin-last (wake-half idle (h .ends) asleep (λ i u e. h .least i u e refl) b) (one-more w edge m) idle z a′))
 
-  pub wake-fin : Fin p r v 0 (length (w .sends)) (wakeup (ownP p v) w) s
+  pub wake-fin : Fin p r v 0 (length (w .sends)) (wakeup (ownP p v) j w) s
   wake-fin = ⊎-elim alone connects (searched p v anyEdge)

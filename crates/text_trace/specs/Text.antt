@@ -21,12 +21,13 @@ item x = named " " x
 unfoldable pub linkItem : ℕ → List ℕ
 linkItem x = cond (eqb x none) (ascii " -") (item x)
 
--- "its nine values in document 01's order": status, level, identity, best weight; then best edge, test edge, in-branch, find-count, halted
+-- its values in document 01's order: status, level, identity, best weight, best edge; then test edge, in-branch, find-count, halted, and as the
+-- tenth the waking link (request 05)
 abbrev pub firstText : Node → List ℕ
-firstText n = item (n .status) ++ item (n .level) ++ linkItem (n .identity) ++ linkItem (n .weight)
+firstText n = item (n .status) ++ item (n .level) ++ linkItem (n .identity) ++ linkItem (n .weight) ++ linkItem (n .best)
 
 abbrev pub otherText : Node → List ℕ
-otherText n = linkItem (n .best) ++ linkItem (n .test) ++ linkItem (n .branch) ++ item (n .count) ++ item (n .halted)
+otherText n = linkItem (n .test) ++ linkItem (n .branch) ++ item (n .count) ++ item (n .halted) ++ linkItem (n .waking)
 
 abbrev pub valuesText : Node → List ℕ
 valuesText n = firstText n ++ otherText n
@@ -40,7 +41,7 @@ unfoldable pub marksText : Plan → List ℕ → ℕ → ℕ → List ℕ
 marksText p marks v zero = []
 marksText p marks v (suc k) = marksText p marks v k ++ markText p marks v k
 
--- "`module V` and its nine values .., then for each own link .."
+-- "`module V` and its .. values .., then for each own link .."
 abbrev pub moduleText : Plan → List ℕ → List ℕ → ℕ → List ℕ
 moduleText p cells marks v =
     named "module " v ++ valuesText (nodeIn cells v) ++ marksText p marks v (linksOf p) ++ ascii "\n"

@@ -30,25 +30,26 @@ fn link_or_none(out: &mut [u8], at: usize, x: u16) -> usize
     item(out, at, x)
 }
 
-// A module's values in document 01's order, the first four.
+// A module's values in document 01's order, the first five.
 fn first_values(out: &mut [u8], at: usize, n: Node) -> usize
     ensures { λ r. ⌜ page r (now (out .exit)) ≡ put (page at (now (out .entry))) (firstText n) ⌝ }
 {
     let a = item(out, at, n.status);
     let b = item(out, a, n.level);
     let c = link_or_none(out, b, n.identity);
-    link_or_none(out, c, n.weight)
+    let d = link_or_none(out, c, n.weight);
+    link_or_none(out, d, n.best)
 }
 
-// The others.
+// The others, the waking link last.
 fn other_values(out: &mut [u8], at: usize, n: Node) -> usize
     ensures { λ r. ⌜ page r (now (out .exit)) ≡ put (page at (now (out .entry))) (otherText n) ⌝ }
 {
-    let a = link_or_none(out, at, n.best);
-    let b = link_or_none(out, a, n.test);
-    let c = link_or_none(out, b, n.branch);
-    let d = item(out, c, n.count);
-    item(out, d, n.halted)
+    let a = link_or_none(out, at, n.test);
+    let b = link_or_none(out, a, n.branch);
+    let c = item(out, b, n.count);
+    let d = item(out, c, n.halted);
+    link_or_none(out, d, n.waking)
 }
 
 fn values(out: &mut [u8], at: usize, n: Node) -> usize

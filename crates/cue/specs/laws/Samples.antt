@@ -50,6 +50,11 @@ overmarked = held 0 1 1
 abbrev spoilt : Held
 spoilt = held 22 0 2
 
+-- nor is this one: module 0 sleeps, and has a waking link
+abbrev strayed : Held
+strayed =
+    record { field = record { plan = worseReading; cells = 0 ∷ 0 ∷ none ∷ none ∷ none ∷ none ∷ none ∷ 0 ∷ 0 ∷ 0 ∷ freshCells 2; marks = 1 ∷ 1 ∷ 0 ∷ 2 ∷ 1 ∷ 1 ∷ []; sent = 0 }; words = replicate 21 0 }
+
 -- other marks: the lower end of link 0 lacks; an end of link 2 lacks; both ends agree, but on another tree
 abbrev marked : List ℕ → Held
 marked marks = record { field = record { plan = worseReading; cells = freshCells 3; marks = marks; sent = 0 }; words = replicate 21 0 }
@@ -96,6 +101,7 @@ starts =
     record { at = finished; lent = four past past past; sender = 0; cue = 7; refusal = 0; left = four sender (rec 0 0 none 0) (rec 0 0 none 0) }
     ∷ record { at = alone; lent = past ∷ []; sender = 0; cue = 65535; refusal = 0; left = rec 1 65535 none 0 ∷ [] }
     ∷ no spoilt [] 3 31
+    ∷ no strayed [] 3 31
     ∷ no lacking [] 3 71
     ∷ no overmarked [] 3 71
     ∷ no (marked (0 ∷ 1 ∷ 0 ∷ 2 ∷ 1 ∷ 1 ∷ [])) [] 3 71
@@ -136,6 +142,7 @@ rows =
     ∷ heardBy (four unheard sender unheard) 1 (four (rec 1 7 0 1) sender unheard)
     -- 31, 71, then 73: too few; hops, tree link, cue, a second sender, an unheard near end, nobody; a number that is neither 0 nor 1; then 42
     ∷ keeps spoilt [] 6 (Refused 31)
+    ∷ keeps strayed [] 6 (Refused 31)
     ∷ keeps lacking [] 6 (Refused 71)
     ∷ keeps overmarked [] 6 (Refused 71)
     ∷ keeps finished (sender ∷ one ∷ []) 6 (Refused 73)

@@ -39,15 +39,15 @@ aTest link handed = packed 11 0 link handed
 abbrev anAccept : ℕ → ℕ → ℕ
 anAccept link handed = packed 4 none link handed
 
--- modules: asleep; woken, its Connect sent; of level 1, searching
+-- modules: asleep; woken by a message over link j or by none, its Connect sent; of level 1, searching
 abbrev asleep : List ℕ
-asleep = 0 ∷ 0 ∷ none ∷ none ∷ none ∷ none ∷ none ∷ 0 ∷ 0 ∷ []
+asleep = 0 ∷ 0 ∷ none ∷ none ∷ none ∷ none ∷ none ∷ 0 ∷ 0 ∷ none ∷ []
 
-abbrev woken : List ℕ
-woken = 2 ∷ 0 ∷ none ∷ none ∷ none ∷ none ∷ none ∷ 0 ∷ 0 ∷ []
+abbrev woken : ℕ → List ℕ
+woken j = 2 ∷ 0 ∷ none ∷ none ∷ none ∷ none ∷ none ∷ 0 ∷ 0 ∷ j ∷ []
 
 abbrev searching : List ℕ
-searching = 1 ∷ 1 ∷ 0 ∷ none ∷ none ∷ 0 ∷ none ∷ 0 ∷ 0 ∷ []
+searching = 1 ∷ 1 ∷ 0 ∷ none ∷ none ∷ 0 ∷ none ∷ 0 ∷ 0 ∷ none ∷ []
 
 -- modules 0 and 1, the two marks, sent, the waiting words
 abbrev held : List ℕ → List ℕ → ℕ → ℕ → ℕ → List ℕ → Held
@@ -70,18 +70,23 @@ no refusal h kind number = row h kind number refusal h
 abbrev table : List StepRow
 table =
     -- "Serving a Test of level 1 at a sleeper: it wakes, sends Connect, the Test goes to the end."
-    row (held searching asleep 0 0 1 (aTest 0 1 ∷ [])) 3 1 0 (held searching woken 0 1 2 (aConnect 1 0 ∷ aTest 0 1 ∷ []))
+    row (held searching asleep 0 0 1 (aTest 0 1 ∷ [])) 3 1 0 (held searching (woken 0) 0 1 2 (aConnect 1 0 ∷ aTest 0 1 ∷ []))
     -- a Test above the level of one that is awake goes to the end, and nothing else changes
-    ∷ row (held searching woken 0 1 3 (aTest 0 1 ∷ aConnect 1 0 ∷ [])) 3 1 0 (held searching woken 0 1 3 (aConnect 1 0 ∷ aTest 0 1 ∷ []))
+    ∷ row (held searching (woken 0) 0 1 3 (aTest 0 1 ∷ aConnect 1 0 ∷ [])) 3 1 0 (held searching (woken 0) 0 1 3 (aConnect 1 0 ∷ aTest 0 1 ∷ []))
     -- wake; hand over the first of its link, behind what waits, and one that is not the first that waits; a service takes its word out, here with a Report of the edge
-    ∷ row (held asleep asleep 0 0 0 []) 1 0 0 (held woken asleep 1 0 1 (aConnect 0 0 ∷ []))
-    ∷ row (held woken woken 1 1 2 (aConnect 0 0 ∷ aConnect 1 0 ∷ [])) 2 0 0 (held woken woken 1 1 2 (aConnect 1 0 ∷ aConnect 0 1 ∷ []))
-    ∷ row (held woken woken 1 1 2 (aConnect 0 0 ∷ aConnect 1 0 ∷ [])) 2 1 0 (held woken woken 1 1 2 (aConnect 0 0 ∷ aConnect 1 1 ∷ []))
-    ∷ row (held (1 ∷ 1 ∷ 0 ∷ none ∷ none ∷ 0 ∷ 0 ∷ 0 ∷ 0 ∷ []) woken 0 0 3 (anAccept 1 1 ∷ aConnect 1 0 ∷ [])) 3 0 0
-    (held (2 ∷ 1 ∷ 0 ∷ 0 ∷ 0 ∷ none ∷ 0 ∷ 0 ∷ 0 ∷ []) woken 0 0 4 (aConnect 1 0 ∷ packed 6 0 0 0 ∷ []))
+    ∷ row (held asleep asleep 0 0 0 []) 1 0 0 (held (woken none) asleep 1 0 1 (aConnect 0 0 ∷ []))
+    ∷ row (held (woken none) (woken 0) 1 1 2 (aConnect 0 0 ∷ aConnect 1 0 ∷ [])) 2 0 0 (held (woken none) (woken 0) 1 1 2 (aConnect 1 0 ∷ aConnect 0 1 ∷ []))
+    ∷ row (held (woken none) (woken 0) 1 1 2 (aConnect 0 0 ∷ aConnect 1 0 ∷ [])) 2 1 0 (held (woken none) (woken 0) 1 1 2 (aConnect 0 0 ∷ aConnect 1 1 ∷ []))
+    ∷ row (held (1 ∷ 1 ∷ 0 ∷ none ∷ none ∷ 0 ∷ 0 ∷ 0 ∷ 0 ∷ none ∷ []) (woken 0) 0 0 3 (anAccept 1 1 ∷ aConnect 1 0 ∷ [])) 3 0 0
+    (held (2 ∷ 1 ∷ 0 ∷ 0 ∷ 0 ∷ none ∷ 0 ∷ 0 ∷ 0 ∷ none ∷ []) (woken 0) 0 0 4 (aConnect 1 0 ∷ packed 6 0 0 0 ∷ []))
+    -- waking links in a circle, as a host may have them
+    ∷ row (held (woken 0) (woken 0) 1 1 2 (aConnect 0 0 ∷ [])) 2 0 0 (held (woken 0) (woken 0) 1 1 2 (aConnect 0 1 ∷ []))
     -- refusals, in their order
-    ∷ no 31 (held (3 ∷ 0 ∷ none ∷ none ∷ none ∷ none ∷ none ∷ 0 ∷ 0 ∷ []) asleep 0 0 0 []) 9 0
+    ∷ no 31 (held (3 ∷ 0 ∷ none ∷ none ∷ none ∷ none ∷ none ∷ 0 ∷ 0 ∷ none ∷ []) asleep 0 0 0 []) 9 0
     ∷ no 31 (held asleep asleep 0 3 0 []) 1 0
+    -- a waking link that is no link; a sleeper's that is one
+    ∷ no 31 (held (woken 1) asleep 1 0 1 []) 1 1
+    ∷ no 31 (held (0 ∷ 0 ∷ none ∷ none ∷ none ∷ none ∷ none ∷ 0 ∷ 0 ∷ 0 ∷ []) asleep 0 0 0 []) 1 1
     ∷ no 31 (held asleep asleep 0 0 0 (aConnect 0 0 ∷ [])) 1 0
     ∷ no 31 (held asleep asleep 0 0 1 (aConnect 2 0 ∷ [])) 1 0
     ∷ no 31 (held asleep asleep 0 0 2 (aConnect 0 0 ∷ 0 ∷ aConnect 0 0 ∷ [])) 1 0
@@ -90,11 +95,13 @@ table =
     ∷ no 41 (held asleep asleep 0 0 0 []) 1 2
     ∷ no 41 (held asleep asleep 0 0 0 []) 3 2
     ∷ no 42 (held asleep asleep 0 0 0 []) 2 2
-    ∷ no 43 (held woken asleep 1 0 1 []) 1 0
-    ∷ no 44 (held woken asleep 1 0 1 (aConnect 0 1 ∷ [])) 2 0
-    ∷ no 45 (held woken asleep 1 0 1 (aConnect 0 0 ∷ [])) 3 1
+    ∷ no 43 (held (woken none) asleep 1 0 1 []) 1 0
+    ∷ no 44 (held (woken none) asleep 1 0 1 (aConnect 0 1 ∷ [])) 2 0
+    ∷ no 45 (held (woken none) asleep 1 0 1 (aConnect 0 0 ∷ [])) 3 1
     ∷ no 32 (held asleep asleep 0 0 1 (anAccept 0 1 ∷ [])) 3 1
     ∷ no 33 (held asleep asleep 0 0 12 []) 1 0
+    -- a sleeper that a refused service would have woken
+    ∷ no 33 (held (woken none) asleep 1 0 12 (aConnect 0 1 ∷ [])) 3 1
     ∷ []
 
 abbrev gots : List StepRow → List (After Held)

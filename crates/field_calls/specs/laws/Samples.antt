@@ -52,14 +52,14 @@ tested =
     record {
       field = record {
         plan = two;
-        cells = 1 ∷ 1 ∷ 0 ∷ none ∷ none ∷ 0 ∷ none ∷ 0 ∷ 0 ∷ 0 ∷ 0 ∷ none ∷ none ∷ none ∷ none ∷ none ∷ 0 ∷ 0 ∷ [];
+        cells = 1 ∷ 1 ∷ 0 ∷ none ∷ none ∷ 0 ∷ none ∷ 0 ∷ 0 ∷ none ∷ 0 ∷ 0 ∷ none ∷ none ∷ none ∷ none ∷ none ∷ 0 ∷ 0 ∷ none ∷ [];
         marks = 0 ∷ 0 ∷ [];
         sent = 1;
       };
       words = aTest ∷ 0 ∷ 0 ∷ 0 ∷ 0 ∷ 0 ∷ 0 ∷ 0 ∷ 0 ∷ 0 ∷ 0 ∷ 0 ∷ [];
     }
 
--- what calls show: done and refusal of each; then sent, the messages sent and consumed, modules woken, marks, halted, and the words that wait
+-- what calls show: done and refusal of each; then sent, the messages sent and consumed, modules woken, marks, halted, waking links, and the words that wait
 pub record Shown : Type 0 where
   pub done : List ℕ
   pub refusals : List ℕ
@@ -69,6 +69,7 @@ pub record Shown : Type 0 where
   pub woken : List ℕ
   pub marks : List ℕ
   pub halted : List ℕ
+  pub waking : List ℕ
   pub words : List ℕ
 
 pub record CallRow : Type 0 where
@@ -93,11 +94,13 @@ shown cs h =
       woken = wokenIn (h .field .plan) t;
       marks = take 2 (l .field .marks);
       halted = nodeAt (stateOf l) 0 .halted ∷ nodeAt (stateOf l) 1 .halted ∷ [];
+      waking = nodeAt (stateOf l) 0 .waking ∷ nodeAt (stateOf l) 1 .waking ∷ [];
       words = stateOf l .words;
     }
 
-abbrev row : Held → List Call → List ℕ → List ℕ → List Message → List Message → List ℕ → List ℕ → List ℕ → List ℕ → CallRow
-row h cs done refused sends consumed woken marks halted words =
+-- module 0's waking link is none in all of them: a wake step woke it, or nobody
+abbrev row : Held → List Call → List ℕ → List ℕ → List Message → List Message → List ℕ → List ℕ → List ℕ → ℕ → List ℕ → CallRow
+row h cs done refused sends consumed woken marks halted waking words =
     record {
       start = h;
       calls = cs;
@@ -110,6 +113,7 @@ row h cs done refused sends consumed woken marks halted words =
         woken = woken;
         marks = marks;
         halted = halted;
+        waking = none ∷ waking ∷ [];
         words = words;
       };
     }
@@ -124,16 +128,16 @@ six = aMessage 0 1 none ∷ aMessage 1 1 none ∷ aMessage 1 74 0 ∷ aMessage 0
 abbrev table : List CallRow
 table =
     -- the reporting program: 6 messages, 4 rounds; both ends Branch, both halted
-    row begun (one 1 0 ∷ rounds 20 ∷ []) (1 ∷ 4 ∷ []) (0 ∷ 0 ∷ []) six six (0 ∷ 1 ∷ []) (1 ∷ 1 ∷ []) (1 ∷ 1 ∷ []) []
+    row begun (one 1 0 ∷ rounds 20 ∷ []) (1 ∷ 4 ∷ []) (0 ∷ 0 ∷ []) six six (0 ∷ 1 ∷ []) (1 ∷ 1 ∷ []) (1 ∷ 1 ∷ []) 0 []
     -- the limit ends a run of rounds; a run at rest does none
-    ∷ row begun (one 1 0 ∷ rounds 1 ∷ []) (1 ∷ 1 ∷ []) (0 ∷ 0 ∷ []) (take 3 six) (take 1 six) (0 ∷ 1 ∷ []) (1 ∷ 1 ∷ []) (0 ∷ 0 ∷ []) (packed 1 none 1 0 ∷ packed 74 0 1 0 ∷ [])
-    ∷ row begun (rounds 9 ∷ []) (0 ∷ []) (0 ∷ []) [] [] [] (0 ∷ 0 ∷ []) (0 ∷ 0 ∷ []) []
+    ∷ row begun (one 1 0 ∷ rounds 1 ∷ []) (1 ∷ 1 ∷ []) (0 ∷ 0 ∷ []) (take 3 six) (take 1 six) (0 ∷ 1 ∷ []) (1 ∷ 1 ∷ []) (0 ∷ 0 ∷ []) 0 (packed 1 none 1 0 ∷ packed 74 0 1 0 ∷ [])
+    ∷ row begun (rounds 9 ∷ []) (0 ∷ []) (0 ∷ []) [] [] [] (0 ∷ 0 ∷ []) (0 ∷ 0 ∷ []) none []
     -- refusals of steps given alone, and of a run: the steps before the refused one stand
-    ∷ row begun (one 1 2 ∷ one 2 2 ∷ one 2 0 ∷ one 3 1 ∷ one 4 0 ∷ []) (0 ∷ 0 ∷ 0 ∷ 0 ∷ 0 ∷ []) (41 ∷ 42 ∷ 44 ∷ 45 ∷ 54 ∷ []) [] [] [] (0 ∷ 0 ∷ []) (0 ∷ 0 ∷ []) []
+    ∷ row begun (one 1 2 ∷ one 2 2 ∷ one 2 0 ∷ one 3 1 ∷ one 4 0 ∷ []) (0 ∷ 0 ∷ 0 ∷ 0 ∷ 0 ∷ []) (41 ∷ 42 ∷ 44 ∷ 45 ∷ 54 ∷ []) [] [] [] (0 ∷ 0 ∷ []) (0 ∷ 0 ∷ []) none []
     -- the second wake meets what the first left
-    ∷ row begun (one 1 0 ∷ one 1 0 ∷ []) (1 ∷ 0 ∷ []) (0 ∷ 43 ∷ []) (take 1 six) [] (0 ∷ []) (1 ∷ 0 ∷ []) (0 ∷ 0 ∷ []) (packed 1 none 0 0 ∷ [])
-    ∷ row begun (run (1 ∷ 0 ∷ 9 ∷ 1 ∷ 0 ∷ 0 ∷ 2 ∷ 0 ∷ 0 ∷ 1 ∷ 0 ∷ 0 ∷ []) ∷ []) (2 ∷ []) (43 ∷ []) (take 1 six) [] (0 ∷ []) (1 ∷ 0 ∷ []) (0 ∷ 0 ∷ []) (packed 1 none 0 1 ∷ [])
-    ∷ row begun (run [] ∷ run (2 ∷ 0 ∷ 0 ∷ []) ∷ run (1 ∷ 0 ∷ 2 ∷ 1 ∷ 0 ∷ []) ∷ run (1 ∷ 0 ∷ 3 ∷ 9 ∷ 0 ∷ 0 ∷ []) ∷ run (1 ∷ 0 ∷ 0 ∷ []) ∷ []) (0 ∷ 0 ∷ 0 ∷ 0 ∷ 0 ∷ []) (51 ∷ 52 ∷ 53 ∷ 54 ∷ 0 ∷ []) [] [] [] (0 ∷ 0 ∷ []) (0 ∷ 0 ∷ []) []
+    ∷ row begun (one 1 0 ∷ one 1 0 ∷ []) (1 ∷ 0 ∷ []) (0 ∷ 43 ∷ []) (take 1 six) [] (0 ∷ []) (1 ∷ 0 ∷ []) (0 ∷ 0 ∷ []) none (packed 1 none 0 0 ∷ [])
+    ∷ row begun (run (1 ∷ 0 ∷ 9 ∷ 1 ∷ 0 ∷ 0 ∷ 2 ∷ 0 ∷ 0 ∷ 1 ∷ 0 ∷ 0 ∷ []) ∷ []) (2 ∷ []) (43 ∷ []) (take 1 six) [] (0 ∷ []) (1 ∷ 0 ∷ []) (0 ∷ 0 ∷ []) none (packed 1 none 0 1 ∷ [])
+    ∷ row begun (run [] ∷ run (2 ∷ 0 ∷ 0 ∷ []) ∷ run (1 ∷ 0 ∷ 2 ∷ 1 ∷ 0 ∷ []) ∷ run (1 ∷ 0 ∷ 3 ∷ 9 ∷ 0 ∷ 0 ∷ []) ∷ run (1 ∷ 0 ∷ 0 ∷ []) ∷ []) (0 ∷ 0 ∷ 0 ∷ 0 ∷ 0 ∷ []) (51 ∷ 52 ∷ 53 ∷ 54 ∷ 0 ∷ []) [] [] [] (0 ∷ 0 ∷ []) (0 ∷ 0 ∷ []) none []
     ∷ []
 
 -- "Serving a Test of level 1 at a sleeper: it wakes, sends Connect, the Test goes to the end."
@@ -151,6 +155,7 @@ sleeper =
         woken = 1 ∷ [];
         marks = 0 ∷ 1 ∷ [];
         halted = 0 ∷ 0 ∷ [];
+        waking = none ∷ 0 ∷ [];
         words = packed 1 none 1 0 ∷ aTest ∷ [];
       };
     }

@@ -10,4 +10,4 @@ returns c = cc
 
 pub node-fits-spec : {M : Type 1} → statement M
 node-fits-spec =
-    tie.close (tie.spec (λ c κs. search needs) (λ c κs. search needs) (λ c κs. search needs) returns)
+    tie.close (tie.spec (λ c κs. search needs) (λ c κs. search needs) (λ c κs. search needs) (λ c κs. search needs) returns)

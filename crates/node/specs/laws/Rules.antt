@@ -10,21 +10,21 @@ use Rattle.node.specs.Work.{Own, Work, ASLEEP, FIND, FOUND, BASIC, BRANC
 use Rattle.node.specs.Rules.{woken, wakeOn, wakeup, awake, doReport, testOn, doTest, changeRoot, countUp, joinOver, absorb, coreEnd, onConnect, told, seek, onInitiate, strike, onTest, better, childReport, coreReport, onReport, unlessAsleep}
 
 -- (2) wakeup on its earliest edge m
-module _ (m : ℕ) (w : Work) where
-  pub wake-alone : m ≡ none → wakeOn m w ≡ withNode (setHalted 1 (woken (w .node))) w
+module _ (j m : ℕ) (w : Work) where
+  pub wake-alone : m ≡ none → wakeOn j m w ≡ withNode (setHalted 1 (woken j (w .node))) w
   unfolding wakeOn
   wake-alone h = simp (eq-eqb _ _ h)
 
-  pub wake-edge : m ≢ none → wakeOn m w ≡ send m (connect 0) (setMark m BRANCH (withNode (woken (w .node)) w))
+  pub wake-edge : m ≢ none → wakeOn j m w ≡ send m (connect 0) (setMark m BRANCH (withNode (woken j (w .node)) w))
   unfolding wakeOn
   wake-edge h = simp (ne-eqb _ _ h)
 
-module _ (o : Own) (w : Work) where
-  pub awake-wakes : w .node .status ≡ ASLEEP → awake o w ≡ wakeup o w
+module _ (o : Own) (j : ℕ) (w : Work) where
+  pub awake-wakes : w .node .status ≡ ASLEEP → awake o j w ≡ wakeup o j w
   unfolding awake
   awake-wakes h = simp (eq-eqb _ _ h)
 
-  pub awake-is : w .node .status ≢ ASLEEP → awake o w ≡ w
+  pub awake-is : w .node .status ≢ ASLEEP → awake o j w ≡ w
   unfolding awake
   awake-is h = simp (ne-eqb _ _ h)
 

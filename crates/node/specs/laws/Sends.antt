@@ -59,13 +59,13 @@ unfolding testOn
 few-test-on n k w h = few-cond (n + 1) (eqb k none) _ _ (few-report n _ (few-same n w _ refl h))
     (few-cond (n + 1) (eqb (w .node .level) 0) _ _ (few-same _ w _ refl (kept n w h)) (few-send n k _ _ (few-same n w _ refl h)))
 
-few-wakeup : (o : Own) (n : ℕ) (w : Work) → Few n w → Few (n + 1) (wakeup o w)
+few-wakeup : (o : Own) (j n : ℕ) (w : Work) → Few n w → Few (n + 1) (wakeup o j w)
 unfolding wakeOn
-few-wakeup o n w h = few-cond (n + 1) (eqb (earliest o anyEdge (o.edges)) none) _ _ (few-same _ w _ refl (kept n w h)) (few-send n _ _ _ (few-same n w _ refl h))
+few-wakeup o j n w h = few-cond (n + 1) (eqb (earliest o anyEdge (o.edges)) none) _ _ (few-same _ w _ refl (kept n w h)) (few-send n _ _ _ (few-same n w _ refl h))
 
-few-awake : (o : Own) (w : Work) → Few 0 w → Few 1 (awake o w)
+few-awake : (o : Own) (j : ℕ) (w : Work) → Few 0 w → Few 1 (awake o j w)
 unfolding awake
-few-awake o w h = few-cond 1 (eqb (w .node .status) ASLEEP) _ w (few-wakeup o 0 w h) (kept 0 w h)
+few-awake o j w h = few-cond 1 (eqb (w .node .status) ASLEEP) _ w (few-wakeup o j 0 w h) (kept 0 w h)
 
 -- the responses but one send one message more, or none
 module _ (o : Own) (limit j : ℕ) (w : Work) (h : Few 1 w) where
@@ -147,13 +147,13 @@ module _ (o : Own) (limit b : ℕ) (two : 2 ≤ b) (wide : degree o ≤ b)
   -- EVERY RESPONSE
   pub few-respond : (m : Msg) (j : ℕ) (n : Node) (mark : ℕ → ℕ) → Few b (respond o limit m j n mark)
   unfolding respondTo unlessAsleep
-  few-respond (connect l) j n mark = few-more 2 b _ two (few-connect o limit j _ (few-awake o _ (nothing n mark)) l)
+  few-respond (connect l) j n mark = few-more 2 b _ two (few-connect o limit j _ (few-awake o j _ (nothing n mark)) l)
   few-respond (initiate l f find) j n mark = few-cond b (eqb (n .status) ASLEEP) _ _ (few-more 0 b _ (omega arith) (record { most = omega arith })) (few-initiate l f find j n mark)
-  few-respond (test l f) j n mark = few-more 2 b _ two (few-tested o limit j _ (few-awake o _ (nothing n mark)) l f)
+  few-respond (test l f) j n mark = few-more 2 b _ two (few-tested o limit j _ (few-awake o j _ (nothing n mark)) l f)
   few-respond accept j n mark = few-more 2 b _ two (few-cond 2 (eqb (n .status) ASLEEP) _ _ (record { most = omega arith }) (few-report 1 _ (record { most = omega arith })))
   few-respond reject j n mark = few-more 2 b _ two (few-cond 2 (eqb (n .status) ASLEEP) _ _ (record { most = omega arith }) (few-test-on 1 _ _ (record { most = omega arith })))
   few-respond (report x) j n mark = few-more 2 b _ two (few-cond 2 (eqb (n .status) ASLEEP) _ _ (record { most = omega arith }) (few-reported o limit j _ (record { most = omega arith }) x))
   few-respond change j n mark = few-more 2 b _ two (few-cond 2 (eqb (n .status) ASLEEP) _ _ (record { most = omega arith }) (few-root 1 _ (record { most = omega arith })))
 
   pub few-wakes : (n : Node) (mark : ℕ → ℕ) → Few b (wakes o n mark)
-  few-wakes n mark = few-more 1 b _ (omega arith) (few-wakeup o 0 _ (nothing n mark))
+  few-wakes n mark = few-more 1 b _ (omega arith) (few-wakeup o none 0 _ (nothing n mark))

@@ -85,11 +85,11 @@ module _ (kind level carried find : ℕ) where
         (bool-cases (eqb kind 5) (λ g. rw g (no _)) (λ g. rw g
         (bool-cases (eqb kind 6) (λ h. rw h (no _)) (λ h. rw h (no _)))))))))
 
-    pub as-connect : kind ≡ 1 → onConnect o limit level j (awake o w) ≡ respondTo o limit (msgOf kind level carried find) j w
+    pub as-connect : kind ≡ 1 → onConnect o limit level j (awake o j w) ≡ respondTo o limit (msgOf kind level carried find) j w
     unfolding msgOf respondTo
     as-connect h = rw h
 
-    pub as-test : kind ≡ 3 → onTest o level carried j (awake o w) ≡ respondTo o limit (msgOf kind level carried find) j w
+    pub as-test : kind ≡ 3 → onTest o level carried j (awake o j w) ≡ respondTo o limit (msgOf kind level carried find) j w
     unfolding msgOf respondTo
     as-test h = rw h
 

@@ -23,7 +23,7 @@ copiesIn o j msg m = onEach o (branches j m) msg (o.edges)
 
 abbrev pub informedAs : ℕ → ℕ → ℕ → ℕ → Node → Node
 informedAs status l f j n =
-    record { status = status; level = l; identity = f; weight = none; best = none; test = n .test; branch = j; count = n .count; halted = n .halted }
+    record { status = status; level = l; identity = f; weight = none; best = none; test = n .test; branch = j; count = n .count; halted = n .halted; waking = n .waking }
 
 module _ (o : Own) (m : ℕ → ℕ) (a : Response) (clean : a .newmark .edge ≡ none) where
   -- the count of the branches

@@ -6,7 +6,7 @@ use Rattle.node_procedures.proofs.wakeup.Statement.{statement}
 use Rattle.node_procedures.proofs.wakeup.Tie as tie
 
 returns : tie.Need-returns
-returns c = (λ m cs. told-as (c .wake-on .ensures .0 m cs) (wake-same _ (c .before .earliest-own .ensures)), c .wake-on .ensures .1, c .wake-on .ensures .2)
+returns c = (λ m cs. told-as (c .wake-on .ensures .0 m cs) (wake-same _ _ (c .before .earliest-own .ensures)), c .wake-on .ensures .1, c .wake-on .ensures .2)
 
 pub wakeup-spec : {M : Type 1} → statement M
 wakeup-spec = tie.close (tie.spec (λ c κs. search needs) (λ c κs. search needs) returns)

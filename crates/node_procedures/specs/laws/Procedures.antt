@@ -14,5 +14,5 @@ other-case (inr b) n = b
 pub test-same : {k l : ℕ} (w : Work) → k ≡ l → testOn k w ≡ testOn l w
 test-same w e = ap (λ x. testOn x w) e
 
-pub wake-same : {k l : ℕ} (w : Work) → k ≡ l → wakeOn k w ≡ wakeOn l w
-wake-same w e = ap (λ x. wakeOn x w) e
+pub wake-same : {k l : ℕ} (j : ℕ) (w : Work) → k ≡ l → wakeOn j k w ≡ wakeOn j l w
+wake-same j w e = ap (λ x. wakeOn j x w) e

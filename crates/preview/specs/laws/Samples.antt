@@ -39,19 +39,22 @@ star = 4 ∷ 3 ∷ 0 ∷ 1 ∷ 1 ∷ 1 ∷ 0 ∷ 2 ∷ 2 ∷ 2 ∷ 0 ∷ 3 ∷ 3
 abbrev held : Plan → List ℕ → List ℕ → ℕ → List ℕ → Held
 held p cells marks sent words = record { field = record { plan = p; cells = cells; marks = marks; sent = sent }; words = words ++ replicate 46 0 }
 
--- status, level, identity, best weight, best edge, test edge, in-branch, find-count, halted
+-- status, level, identity, best weight, best edge, test edge, in-branch, find-count, halted, waking link
 abbrev asleep : List ℕ
-asleep = 0 ∷ 0 ∷ 65535 ∷ 65535 ∷ 65535 ∷ 65535 ∷ 65535 ∷ 0 ∷ 0 ∷ []
+asleep = 0 ∷ 0 ∷ 65535 ∷ 65535 ∷ 65535 ∷ 65535 ∷ 65535 ∷ 0 ∷ 0 ∷ 65535 ∷ []
+
+abbrev strayed : List ℕ
+strayed = 0 ∷ 0 ∷ 65535 ∷ 65535 ∷ 65535 ∷ 65535 ∷ 65535 ∷ 0 ∷ 0 ∷ 1 ∷ []
 
 abbrev woken : List ℕ
-woken = 2 ∷ 0 ∷ 65535 ∷ 65535 ∷ 65535 ∷ 65535 ∷ 65535 ∷ 0 ∷ 0 ∷ []
+woken = 2 ∷ 0 ∷ 65535 ∷ 65535 ∷ 65535 ∷ 65535 ∷ 65535 ∷ 0 ∷ 0 ∷ 65535 ∷ []
 
 abbrev searching : ℕ → ℕ → List ℕ
-searching test count = 1 ∷ 1 ∷ 0 ∷ 65535 ∷ 65535 ∷ test ∷ 0 ∷ count ∷ 0 ∷ []
+searching test count = 1 ∷ 1 ∷ 0 ∷ 65535 ∷ 65535 ∷ test ∷ 0 ∷ count ∷ 0 ∷ 65535 ∷ []
 
 -- done searching: its best edge is number 1
 abbrev decided : List ℕ
-decided = 2 ∷ 1 ∷ 0 ∷ 1 ∷ 1 ∷ 65535 ∷ 0 ∷ 0 ∷ 0 ∷ []
+decided = 2 ∷ 1 ∷ 0 ∷ 1 ∷ 1 ∷ 65535 ∷ 0 ∷ 0 ∷ 0 ∷ 65535 ∷ []
 
 -- nobody woken, so many sent; nobody woken on one module, without a link
 abbrev quiet : ℕ → Held
@@ -123,7 +126,8 @@ table =
     -- over a link that is Basic here, as a host may mark it: two copies, and the Test goes back over it: 20002000152, 20004000152, 20000000113
     ∷ yes (informed 0 1) 3 0 (7 ∷ 8 ∷ 9 ∷ []) 3 (2199056810322 ∷ 2199090364754 ∷ 2199023255827 ∷ [])
     ∷ no (informed 0 1) 3 0 (7 ∷ 8 ∷ []) 75
-    -- the step's refusals, in their order and before 75
+    -- the step's refusals, in their order and before 75; a sleeper has a waking link
+    ∷ no (testing strayed) 3 2 [] 31
     ∷ no (quiet 22) 9 0 [] 31
     ∷ no (quiet 22) 1 0 [] 31
     ∷ no (quiet 0) 0 7 [] 54

@@ -55,16 +55,17 @@ triangle = planBytes 28 3 3 (link 0 1 2 3 ++ (link 0 2 2 3 ++ link 1 2 2 3))
 abbrev framed : Msg → List ℕ
 framed m = let s = frameBytes (headerOf m) (carriedOf m) in frameRefusal s ∷ s
 
--- Two modules and one link. Module 0 searches at level 1 with identity 0 and tests link 0; module 1 has a status, its mark of link 0 is m.
-abbrev pair : ℕ → ℕ → ℕ → List ℕ → Held
-pair status m sent words =
+-- Two modules and one link. Module 0 searches at level 1 with identity 0 and tests link 0; module 1 has a status and a waking link, its mark of
+-- link 0 is m.
+abbrev pair : ℕ → ℕ → ℕ → ℕ → List ℕ → Held
+pair status waking m sent words =
     record {
       field =
           record {
             plan = 2 ∷ 1 ∷ 0 ∷ 1 ∷ 3 ∷ 4 ∷ [];
             cells =
-                1 ∷ 1 ∷ 0 ∷ none ∷ none ∷ 0 ∷ none ∷ 0 ∷ 0
-                ∷ status ∷ 0 ∷ none ∷ none ∷ none ∷ none ∷ none ∷ 0 ∷ 0 ∷ [];
+                1 ∷ 1 ∷ 0 ∷ none ∷ none ∷ 0 ∷ none ∷ 0 ∷ 0 ∷ none
+                ∷ status ∷ 0 ∷ none ∷ none ∷ none ∷ none ∷ none ∷ 0 ∷ 0 ∷ waking ∷ [];
             marks = 0 ∷ m ∷ [];
             sent = sent;
           };
@@ -103,7 +104,7 @@ rows =
     ∷ row (framed (initiate 2 5 1)) (0 ∷ 0x01 ∷ 0x00 ∷ 0x03 ∷ 0x52 ∷ 0x00 ∷ 0x05 ∷ [])
     ∷ row (framed (connect 0)) (0 ∷ 0x01 ∷ 0x00 ∷ 0x03 ∷ 0x01 ∷ 0xff ∷ 0xff ∷ [])
     -- "Serving a Test of level 1 at a sleeper: it wakes, sends Connect, the Test goes to the end."
-    ∷ row (served (pair 0 0 1 (aTest ∷ []))) (shown (pair 2 1 2 (aConnect ∷ aTest ∷ [])))
+    ∷ row (served (pair 0 none 0 1 (aTest ∷ []))) (shown (pair 2 0 1 2 (aConnect ∷ aTest ∷ [])))
     ∷ []
 
 pub starred : map (λ r. r .computed) rows ≡ map (λ r. r .said) rows

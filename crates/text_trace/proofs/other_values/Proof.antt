@@ -6,18 +6,18 @@ use Rattle.text_trace.proofs.other_values.Tie as tie
 
 returns : tie.Need-returns
 returns c =
-    let halted = c .before .before in
+    let waking = c .before .before in
+    let halted = waking .before .before .before .before in
     let count = halted .before .before .before .before in
     let branch = count .before .before .before .before in
     let test = branch .before .before .before .before in
-    let best = test .before .before .before .before in
     put-on _ _ _
     (put-on _ _ _
     (put-on _ _ _
-    (put-on _ _ _ (best .link-or-none .ensures) (test .link-or-none2 .ensures))
-    (branch .link-or-none3 .ensures))
+    (put-on _ _ _ (test .link-or-none .ensures) (branch .link-or-none2 .ensures))
     (count .item .ensures))
-    (halted .item2 .ensures)
+    (halted .item2 .ensures))
+    (waking .link-or-none3 .ensures)
 
 pub other-values-spec : {M : Type 1} → statement M
 other-values-spec =

@@ -1,4 +1,4 @@
--- text_trace::values: the first four and the others, by `put-on`.
+-- text_trace::values: the first five and the others, by `put-on`.
 use borrow.Author.Needs.{needs}
 use Rattle.format_text.specs.laws.Put.{put-on}
 use Rattle.text_trace.specs.Text.{firstText, otherText}

@@ -84,25 +84,28 @@ first-length : (n : Node) → length (firstText n) ≤ 150
 first-length n =
     let a = item (n .status) ++ item (n .level) in
     let b = a ++ linkItem (n .identity) in
-    let most = both b (linkItem (n .weight))
+    let c = b ++ linkItem (n .weight) in
+    let most = both c (linkItem (n .best))
+    (both b (linkItem (n .weight))
     (both a (linkItem (n .identity))
     (both (item (n .status)) (item (n .level)) (named-length " " (n .status)) (named-length " " (n .level)))
     (link-length (n .identity)))
-    (link-length (n .weight)) in
+    (link-length (n .weight)))
+    (link-length (n .best)) in
     omega (arith, most)
 
 other-length : (n : Node) → length (otherText n) ≤ 150
 other-length n =
-    let a = linkItem (n .best) ++ linkItem (n .test) in
-    let b = a ++ linkItem (n .branch) in
-    let c = b ++ item (n .count) in
-    let most = both c (item (n .halted))
-    (both b (item (n .count))
-    (both a (linkItem (n .branch))
-    (both (linkItem (n .best)) (linkItem (n .test)) (link-length (n .best)) (link-length (n .test)))
-    (link-length (n .branch)))
+    let a = linkItem (n .test) ++ linkItem (n .branch) in
+    let b = a ++ item (n .count) in
+    let c = b ++ item (n .halted) in
+    let most = both c (linkItem (n .waking))
+    (both b (item (n .halted))
+    (both a (item (n .count))
+    (both (linkItem (n .test)) (linkItem (n .branch)) (link-length (n .test)) (link-length (n .branch)))
     (named-length " " (n .count)))
-    (named-length " " (n .halted)) in
+    (named-length " " (n .halted)))
+    (link-length (n .waking)) in
     omega (arith, most)
 
 module _ (p : Plan) (cells marks : List ℕ) where

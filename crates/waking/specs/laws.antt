@@ -1,0 +1,4 @@
+pub mod Follow
+pub mod Step
+pub mod Claim
+pub mod Samples

@@ -1,0 +1,1 @@
+// Who woke whom: what is claimed of the waking links (specs/Claim), and proved (specs/laws).
