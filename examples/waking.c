@@ -1,11 +1,11 @@
-/* Wakes a module of a plan's field, lets the field come to rest, and prints how the wake came to another module: who woke
- * it, who woke that one, and so on back to the module that was woken by a step.
+/* Wakes a module of a plan's field, lets the field run, and prints how the wake came to another module: who woke it, who
+ * woke that one, and so on back to the module that was woken by a step; or that it still sleeps.
  *
- *     waking PLAN FIRST LATE
+ *     waking PLAN FIRST LATE ROUNDS
  *
  * FIRST and LATE are the two modules, numbers of 0 to 65535; where there is no such module, as in the blank plan, 41
- * refuses. Exit 0 done, 1 refused, 2 wrong usage or a failed read or write. To build, at the top of the repository
- * after tools/build:
+ * refuses. The field runs ROUNDS rounds at most, 0 to 65535; with 65535 it comes to rest, and nobody sleeps. Exit 0 done,
+ * 1 refused, 2 wrong usage or a failed read or write. To build, at the top of the repository after tools/build:
  *
  *     cc -std=c99 -Iinclude examples/waking.c target/lib/libmuruapy.a -o waking */
 #include "muruapy.h"
@@ -69,11 +69,11 @@ static int print_chain(uint16_t module)
 
 int main(int argc, char **argv)
 {
-    uint16_t first, late, rounds;
+    uint16_t first, late, limit, rounds;
     int status;
 
-    if (argc != 4 || !read_number(argv[2], &first) || !read_number(argv[3], &late)) {
-        fprintf(stderr, "usage: %s PLAN FIRST LATE\n", argv[0]);
+    if (argc != 5 || !read_number(argv[2], &first) || !read_number(argv[3], &late) || !read_number(argv[4], &limit)) {
+        fprintf(stderr, "usage: %s PLAN FIRST LATE ROUNDS\n", argv[0]);
         return 2;
     }
     status = read_plan(argv[1]);
@@ -82,7 +82,7 @@ int main(int argc, char **argv)
     if (status == 0)
         status = status_of(muruapy_step(&field, words, MURUAPY_WORDS, MURUAPY_WAKE, first));
     if (status == 0)
-        status = status_of(muruapy_rounds(&field, words, MURUAPY_WORDS, 65535, &rounds));
+        status = status_of(muruapy_rounds(&field, words, MURUAPY_WORDS, limit, &rounds));
     if (status == 0)
         status = print_chain(late);
     return fflush(stdout) == 0 ? status : 2;

@@ -301,9 +301,10 @@ uint32_t muruapy_frame_write(uint8_t header, uint16_t carried, uint8_t *bytes, s
 /* ---- Fields ---- */
 
 /* What a module knows. A link is told by its number, below the plan's links; none is MURUAPY_NONE; own links are those
- * that end at the module. Other numbers than those told here are refused by 31. Who woke a module is at the other end of
- * its waking link: from setup, going on like this from any awake module ends at one that a wake step woke, and comes to
- * no module twice. (In a field that was made by hand the waking links may run in a circle.) */
+ * that end at the module. Other numbers than those told below are refused by 31. The waking link is the one whose
+ * message woke the module, none where a wake step did. Who woke the module is at the other end of that link: from setup,
+ * going on like this from any awake module ends at one that a wake step woke, and comes to no module twice. (In a field
+ * that was made by hand the waking links may run in a circle.) */
 typedef struct muruapy_module {
     uint16_t status;      /* 0 asleep, 1 Find, 2 Found */
     uint16_t level;       /* 0 to the whole part of the binary logarithm of the number of modules */
@@ -314,8 +315,7 @@ typedef struct muruapy_module {
     uint16_t in_branch;   /* an own link or none */
     uint16_t find_count;  /* 0 to the number of own links */
     uint16_t halted;      /* 0 or 1 */
-    uint16_t waking;      /* the waking link, whose message woke it: an own link or none; none while asleep, and where a
-                             wake step woke it */
+    uint16_t waking;      /* the waking link: an own link or none; none while asleep */
 } muruapy_module;
 
 /* A field. The messages that wait lie in words of the caller's, at least as many as the ceiling, beside the field: from

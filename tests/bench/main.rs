@@ -14,6 +14,7 @@ use oracle::cue::Cue;
 use oracle::field::{self, HAND_OVER, SERVE, WAKE};
 use oracle::fields::{drawn, spoil};
 use oracle::plans::{connected, good, plan, Readings};
+use oracle::preview::MOST_SENDS;
 use oracle::rng::Rng;
 use std::collections::BTreeSet;
 use std::hint::black_box;
@@ -133,7 +134,7 @@ fn preview(record: &Record, words: &[u64], v: u16, buffer: &mut [u64], _: &mut V
 
 /// A side that previews a service, each time of the next module.
 fn on_services<'a>(starts: &'a [(Start, Vec<u16>)], show: Shows) -> impl FnMut(usize) -> f64 + 'a {
-    let (mut turn, mut buffer, mut sends) = (0, [0; 191], Vec::new());
+    let (mut turn, mut buffer, mut sends) = (0, [0; MOST_SENDS], Vec::new());
     move |i| {
         let ((record, words), modules) = &starts[i];
         turn += 1;
@@ -202,7 +203,7 @@ fn agree(inputs: &Inputs) {
         assert!(matches!(same(start, 65535), (1.., 0)), "a run from a woken module is not refused");
     }
     for ((record, words), _) in &inputs.services {
-        for (v, places) in (0..193).flat_map(|v| [0, 1, 191].map(|places| (v, places))) {
+        for (v, places) in (0..193).flat_map(|v| [0, 1, MOST_SENDS].map(|places| (v, places))) {
             let (mut a, mut b, sends) = (vec![9; places], vec![9; places], &mut Vec::new());
             let answers = (preview(record, words, v, &mut a, sends), previews::serve(record, words, v, &mut b, sends));
             assert!(answers.0 == answers.1 && a == b, "both sides preview alike");

@@ -6,7 +6,7 @@ use crate::tool::Tool;
 use oracle::field::{setup_value, Field};
 use oracle::fields::some_step;
 use oracle::plan::Plan;
-use oracle::preview::preview;
+use oracle::preview::{preview, MOST_SENDS};
 use oracle::rng::Rng;
 use oracle::schedule::{encode, Step};
 use std::collections::BTreeMap;
@@ -40,7 +40,7 @@ pub fn told(tool: &Tool, rng: &mut Rng, plan: &Plan, tally: &mut Tally) {
 }
 
 fn compare(tool: &Tool, field: &Field, words: &[u64], step: Step, tally: &mut Tally) {
-    let mut buffer = [0; 191];
+    let mut buffer = [0; MOST_SENDS];
     let answer = preview(field, words, step.kind, step.number, &mut buffer);
     let (kind, number) = (["", "wake", "hand", "serve"][step.kind as usize], step.number.to_string());
     let ran = tool.run(&["preview", "-", "first", "second", kind, &number], &field.plan.encode());

@@ -44,8 +44,8 @@ const WANTED: &Wanted = &[
     ]),
     ("blank plan:", &[
         ("31 by itself 0", 1800), ("31 by itself 31", 120), ("report 0", 240), ("step 31", 120), ("step 41", 1000),
-        ("step 42", 500), ("step 54", 200), ("schedule 0", 100), ("schedule 31", 5), ("schedule 41", 210),
-        ("schedule 42", 100), ("schedule 54", 200), ("rounds 0", 130), ("rounds 31", 8),
+        ("step 42", 500), ("step 54", 200), ("schedule 0", 100), ("schedule 31", 3), ("schedule 41", 210),
+        ("schedule 42", 100), ("schedule 54", 200), ("rounds 0", 130), ("rounds 31", 4),
     ]),
 ];
 

@@ -208,9 +208,10 @@ static void spoilt(void)
             state.field.marks[0][1] = 3;
         else if (i == 5)
             state.field.modules[1].waking = 0; /* of a sleeper */
-        else if (i == 6)
+        else if (i == 6) {
+            state.field.modules[0].status = 2; /* awake, and there is no link 1 */
             state.field.modules[0].waking = 1;
-        else
+        } else
             state.words[11] = 0x20000ffff01u;
         refused(MURUAPY_WAKE, 0, 31);
         refused(9, 65535, 31);

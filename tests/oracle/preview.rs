@@ -4,6 +4,9 @@
 
 use crate::field::{waiting, Field, WAKE};
 
+/// Messages that one step sends, at most: MURUAPY_SENDS.
+pub const MOST_SENDS: usize = 191;
+
 const HANDED: u64 = 1 << 40;
 
 /// "Gives the step's answer and the number of messages it would send, and writes their words, in order, at the front of

@@ -1,6 +1,6 @@
 //! Schedules: version byte 1, the length of what follows, and 3 bytes a step.
 
-use crate::field::Field;
+use crate::field::{Done, Field};
 use crate::plan::be16;
 
 #[derive(Clone, Copy, Debug, PartialEq, Eq)]
@@ -79,13 +79,19 @@ pub fn encode(steps: &[Step]) -> Vec<u8> {
 
 /// A run of a schedule: 31, then 51 to 54, then the steps up to the first refused one.
 pub fn run(field: &mut Field, words: &mut [u64], bytes: &[u8]) -> Answer {
+    run_seen(field, words, bytes, &mut |_, _| {})
+}
+
+/// The same, where `see` is told each step that was taken and what it did.
+pub fn run_seen(field: &mut Field, words: &mut [u64], bytes: &[u8], see: &mut impl FnMut(Step, &Done)) -> Answer {
     let steps = match field.check(words).and_then(|_| read(bytes)) {
         Ok(steps) => steps,
         Err(refusal) => return Answer::refused(refusal),
     };
-    for (done, step) in steps.iter().enumerate() {
-        if let Err(refusal) = field.take(words, step.kind, step.number) {
-            return Answer { done: done as u32, refusal: Some(refusal) };
+    for (i, step) in steps.iter().enumerate() {
+        match field.take(words, step.kind, step.number) {
+            Ok(done) => see(*step, &done),
+            Err(refusal) => return Answer { done: i as u32, refusal: Some(refusal) },
         }
     }
     Answer { done: steps.len() as u32, refusal: None }

@@ -1,5 +1,5 @@
 //! Who woke whom, kept beside a field from what its steps did and without a look at the modules' own values: what request
-//! 05's waking link is held against. Standard term: the parent edge in the tree of a flooding wake-up.
+//! 05's waking link is held against. Standard term: the parent edge in the wake-up forest.
 
 use crate::cue::other_end;
 use crate::field::{Done, Field, Word};

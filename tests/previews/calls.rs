@@ -5,7 +5,7 @@ use crate::muruapy::{Previewed, Record};
 use crate::tally::Tally;
 use oracle::field::{waiting, Done, Field, HAND_OVER, SERVE};
 use oracle::plans;
-use oracle::preview::preview;
+use oracle::preview::{preview, MOST_SENDS};
 use oracle::rng::Rng;
 use oracle::schedule::Step;
 
@@ -75,7 +75,7 @@ fn places(rng: &mut Rng, sends: usize) -> Vec<usize> {
         all.extend([sends - 1, rng.below(sends)]);
     }
     if rng.once_in(8) {
-        all.push(rng.pick(&[190, 191, 600, 7920]));
+        all.push(rng.pick(&[MOST_SENDS - 1, MOST_SENDS, 600, 7920]));
     }
     all
 }

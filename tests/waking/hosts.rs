@@ -4,12 +4,13 @@
 use crate::muruapy::{Delivered, Previewed, Record};
 use crate::site::waking_links;
 use crate::tally::Tally;
-use oracle::cue::Cue;
+use oracle::cue::{other_end, Cue};
 use oracle::field::{waiting, Field, Word, SERVE};
 use oracle::fields::{drawn, good_step, marked, some_field};
 use oracle::frame::{Message, CONNECT, INITIATE, NAMES, REPORT, TEST};
 use oracle::plan::NONE;
 use oracle::plans;
+use oracle::preview::MOST_SENDS;
 use oracle::rng::Rng;
 use oracle::rules::{ASLEEP, FIND, FOUND};
 use oracle::schedule::{encode, Step};
@@ -66,7 +67,7 @@ fn service(rng: &mut Rng, tally: &mut Tally, kind: u8, left: u32) {
     expected.put(&after);
     assert!(refusal == 0 || expected == before && words_after == words, "a refusal changes nothing");
 
-    let shown = before.preview(&words, step.kind, step.number, &mut [0; 191]);
+    let shown = before.preview(&words, step.kind, step.number, &mut [0; MOST_SENDS]);
     let count = outcome.map_or(0, |done| done.sends as u32);
     assert_eq!(shown, Previewed { refusal, count }, "the preview of {word:?} at a sleeper");
     let (mut alone, mut lent) = (before.clone(), words.clone());
@@ -101,8 +102,7 @@ fn circle_length(field: &Field) -> usize {
     let mut way = vec![0];
     loop {
         let at = way[way.len() - 1];
-        let link = field.plan.links[field.modules[at as usize].waking as usize];
-        let next = if link.lower == at { link.higher } else { link.lower };
+        let next = other_end(field, at, field.modules[at as usize].waking).expect("an own link");
         if let Some(back) = way.iter().position(|v| *v == next) {
             return way.len() - back;
         }

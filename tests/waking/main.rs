@@ -91,7 +91,6 @@ fn list(rng: &mut Rng, tally: &mut Tally, plan: Plan) {
     for _ in 0..rng.range(3, 24) {
         let call = some_call(rng, &site, wakes);
         site.call(tally, &call);
-        site.follow();
     }
     if rng.once_in(2) {
         site.call(tally, &Call::Rounds(65535));

@@ -2,7 +2,7 @@
 
 use crate::muruapy::{numbers, Record};
 use crate::tally::Tally;
-use oracle::field::{setup_value, waiting, Field, HAND_OVER, SERVE, WAKE};
+use oracle::field::{setup_value, Done, Field, WAKE};
 use oracle::plan::Plan;
 use oracle::rng::Rng;
 use oracle::rounds;
@@ -54,63 +54,39 @@ impl Site {
         assert_eq!(self.lent, self.words, "the words after {call}, for {:?}", self.field);
     }
 
-    /// One call on both sides. The oracle makes it whole, and then step by step for the diary.
+    /// One call on both sides. Then every chain is followed.
     pub fn call(&mut self, tally: &mut Tally, call: &Call) {
-        let (mut field, mut words) = (self.field.clone(), self.words.clone());
-        let (name, answer) = match call {
-            Call::Step(s) => ("step", alone(field.step(&mut words, s.kind, s.number).err())),
-            Call::Schedule(bytes) => ("schedule", schedule::run(&mut field, &mut words, bytes)),
-            Call::Rounds(limit) => ("rounds", rounds::run(&mut field, &mut words, *limit)),
-        };
+        let before = self.field.clone();
+        let (name, answer) = self.by_oracle(tally, call);
         let got = match call {
             Call::Step(s) => (0, self.record.step(&mut self.lent, s.kind, s.number)),
             Call::Schedule(bytes) => self.record.run(&mut self.lent, bytes),
             Call::Rounds(limit) => self.record.rounds(&mut self.lent, *limit),
         };
         let refusal = answer.refusal.unwrap_or(0);
-        assert_eq!(got, (answer.done as usize, refusal), "the answer of a {name}, for {:?}", self.field);
+        assert_eq!(got, (answer.done as usize, refusal), "the answer of a {name}, for {before:?}");
         assert!(![31, 32, 33].contains(&refusal), "{refusal} from setup");
         tally.count(format!("{name} ends with {refusal}"));
-        self.by_steps(tally, call);
-        assert!(field == self.field && words == self.words, "a {name} is the steps that it takes");
         self.same(name);
+        self.follow();
     }
 
-    fn by_steps(&mut self, tally: &mut Tally, call: &Call) {
+    /// The oracle's call, with each step that it takes in the diary; its name and its answer.
+    fn by_oracle(&mut self, tally: &mut Tally, call: &Call) -> (&'static str, Answer) {
+        let Site { field, words, wakes, diary, .. } = self;
+        let mut see = |step: Step, done: &Done| {
+            diary.note(step, done);
+            *wakes += (step.kind == WAKE) as usize;
+            tally.step(done);
+        };
         match call {
-            Call::Step(step) => _ = self.take(tally, *step),
-            Call::Schedule(bytes) => {
-                let steps = schedule::read(bytes).unwrap_or_default();
-                _ = steps.into_iter().all(|step| self.take(tally, step));
+            Call::Step(s) => {
+                let outcome = field.step(words, s.kind, s.number);
+                outcome.iter().for_each(|done| see(*s, done));
+                ("step", Answer { done: 0, refusal: outcome.err() })
             }
-            Call::Rounds(limit) => {
-                for _ in 0..*limit {
-                    if waiting(&self.words) == 0 {
-                        break;
-                    }
-                    self.round(tally);
-                }
-            }
-        }
-    }
-
-    /// A step by the oracle; whether it was taken.
-    fn take(&mut self, tally: &mut Tally, step: Step) -> bool {
-        let Ok(done) = self.field.take(&mut self.words, step.kind, step.number) else { return false };
-        self.diary.note(step, &done);
-        self.wakes += (step.kind == WAKE) as usize;
-        tally.step(&done);
-        true
-    }
-
-    fn round(&mut self, tally: &mut Tally) {
-        for number in 0..2 * self.field.plan.links.len() as u16 {
-            while self.take(tally, Step { kind: HAND_OVER, number }) {}
-        }
-        for number in 0..self.field.plan.modules {
-            for _ in 0..self.field.queue_length(&self.words, number) {
-                assert!(self.take(tally, Step { kind: SERVE, number }), "a service of a round");
-            }
+            Call::Schedule(bytes) => ("schedule", schedule::run_seen(field, words, bytes, &mut see)),
+            Call::Rounds(limit) => ("rounds", rounds::run_seen(field, words, *limit, &mut see)),
         }
     }
 
@@ -123,10 +99,6 @@ impl Site {
     pub fn follow(&self) -> Vec<usize> {
         self.diary.follow(&self.field, &self.waking_links())
     }
-}
-
-fn alone(refusal: Option<u32>) -> Answer {
-    Answer { done: 0, refusal }
 }
 
 /// The last value of each module that there is room for.

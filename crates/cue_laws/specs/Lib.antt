@@ -1,6 +1,5 @@
 -- Theorems about cues over the finished tree. Main results: `cue-claim` and `exact-73` (Cue). On the way: no module hears twice (Once), the rule of 73 (Rule,
 -- GoodLeft, Exact), hops (HopsBelow, Paths), counts and liveness (AllHeard, Counts, Trail, Spread), copies followed one by one (Follow).
-pub mod Ends
 pub mod Net
 pub mod NetOf
 pub mod Good

@@ -15,8 +15,8 @@ use Rattle.plan.specs.Weights.{earlier}
 use Rattle.plan.specs.laws.Weights.{orderOf}
 use Rattle.plan.specs.laws.Accepted.{Accepted}
 use Rattle.field.specs.Edges.{endOf, linkOf, dest}
-use Rattle.field_laws.specs.Places.{link-over, from-over, over-below, directed-joins}
-use Rattle.cue_laws.specs.Ends.{joined-own, end-leads}
+use Rattle.field_laws.specs.Places.{link-over, from-over, over-below}
+use Rattle.field_laws.specs.Ends.{directed-joins, joined-own, end-leads}
 use Rattle.cue_laws.specs.Net.{Names, Net}
 
 module _ (p : Plan) (a : Accepted p) where

@@ -22,7 +22,7 @@ use Rattle.cue.specs.declared.Cue.{Cue}
 use Rattle.cue.specs.Record.{recordOf, hasHeard, senderRecord}
 use Rattle.cue.specs.Calls.{rightAt, isSender, senders, leftBySending}
 use Rattle.cue.specs.laws.Rule.{RecordAt, blankAt, senderAt, toldAt, right-facts, blank-right, sender-right, told-right}
-use Rattle.cue_laws.specs.Ends.{joined-own, own-joins, end-leads}
+use Rattle.field_laws.specs.Ends.{joined-own, own-joins, end-leads}
 use Rattle.cue_laws.specs.Net.{Net}
 use Rattle.cue_laws.specs.Good.{Right, silent, first, got, GoodCues}
 

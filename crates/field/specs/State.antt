@@ -29,7 +29,8 @@ CELLS = maxModules * WIDTH
 abbrev pub cellOf : ℕ → ℕ → ℕ
 cellOf v j = v * WIDTH + j
 
--- "A module has status, level, identity, best weight, best edge, test edge, in-branch, find-count, halted" and, by request 05, "the link whose message woke it": module v's node
+-- "A module has status, level, identity, best weight, best edge, test edge, in-branch, find-count, halted" and (request 05) "the link whose message
+-- woke it": module v's node
 abbrev pub nodeIn : List ℕ → ℕ → Node
 nodeIn cells v = nodeBy (λ j. getD cells (cellOf v j) 0)
 

@@ -1,5 +1,6 @@
 pub mod Chan
 pub mod Places
+pub mod Ends
 pub mod Degree
 pub mod Sends
 pub mod Cases

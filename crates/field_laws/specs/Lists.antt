@@ -4,11 +4,11 @@ use Prim.Native.Nat.{ℕ, zero, suc, _+_, _-_, _≤_, _<_}
 use native.Mathlib.Omega.{arith}
 use mathlib.Core.Path.{_≡_, refl}
 use mathlib.Core.Logic.{_≢_, _⊎_, inl, inr, ⊎-elim}
-use mathlib.Core.Bool.{Bool, true, false, cond, _&&_}
+use mathlib.Core.Bool.{Bool, true, cond, _&&_}
 use mathlib.Core.List.{List, [], _∷_}
 use lib.Dec.{eqb, ltb, leb}
 use borrow.Author.Tests.{leb-false}
-use Rattle.base.specs.laws.Cond.{bool-cases, eqb-cases, ltb-cases, upd-elim}
+use Rattle.base.specs.laws.Cond.{cond-has, bool-cases, eqb-cases, ltb-cases, upd-elim}
 use Rattle.base.specs.laws.Loop.{by-test}
 use Rattle.base.specs.Pool.{All, nil}
 use Rattle.base.specs.laws.Pool.{All-app, All-one}
@@ -115,11 +115,6 @@ module _ (o : Own) (limit : ℕ) where
   ok-best : (e x : ℕ) (n : Node) → OwnOrNone o e → LinkOrNone o x → NodeOk o limit n → NodeOk o limit (setBest e x n)
   ok-best e x n h k i = ok-values n (n .status) e (n .test) x (n .count) (n .halted) i (i .status) h (i .test) k (i .count) (i .halted) (i .unwoken)
 
-  -- a choice between two works, or two values, that are fine
-  ok-cond : (b : Bool) (w r : Work) → WorkOk o limit w → WorkOk o limit r → WorkOk o limit (cond b w r)
-  ok-cond true w r h i = h
-  ok-cond false w r h i = i
-
   own-is : (x : ℕ) → OwnOrNone o x → x ≢ none → o.own x ≡ true
   own-is x h n = ⊎-elim (λ e. absurd (n e)) (λ e. e) h
 
@@ -144,7 +139,7 @@ module _ (o : Own) (limit : ℕ) where
 
   ok-report : (w : Work) → WorkOk o limit w → WorkOk o limit (doReport w)
   unfolding doReport
-  ok-report w i = ok-cond (eqb (w .node .count) 0 && eqb (w .node .test) none) _ w
+  ok-report w i = cond-has (WorkOk o limit) (eqb (w .node .count) 0 && eqb (w .node .test) none) _ w
       (eqb-cases (w .node .branch) none (λ b. WorkOk o limit (cond b (refused w) (send (w .node .branch) (report (w .node .weight)) (withNode (setStatus FOUND (w .node)) w))))
       (λ e. ok-refused w i)
       (λ n. ok-send _ _ _ (own-is _ (i .node .branch) n) (i .node .weight) (ok-node _ w (ok-found (w .node) (i .node)) i)))
@@ -168,7 +163,7 @@ module _ (o : Own) (limit : ℕ) where
       (setMark (w .node .best) BRANCH (send (w .node .best) (connect (w .node .level)) w)))))
       (λ e. ok-refused w i)
       (λ n. let k = own-is _ (i .node .best) n in
-      ok-cond (eqb (w .mark (w .node .best)) BRANCH) _ _ (ok-send _ change w k tt i) (ok-mark _ BRANCH _ (omega arith) (ok-send _ (connect (w .node .level)) w k (i .node .level) i)))
+      cond-has (WorkOk o limit) (eqb (w .mark (w .node .best)) BRANCH) _ _ (ok-send _ change w k tt i) (ok-mark _ BRANCH _ (omega arith) (ok-send _ (connect (w .node .level)) w k (i .node .level) i)))
 
   -- setup values, but for status, halted and the waking link
   pub ok-fresh : (st ha j : ℕ) → st ≤ FOUND → ha ≤ 1 → OwnOrNone o j → (st ≡ ASLEEP → j ≡ none)
@@ -202,7 +197,7 @@ module _ (o : Own) (limit : ℕ) where
 
   ok-awake : (j : ℕ) (w : Work) → OwnOrNone o j → WorkOk o limit w → WorkOk o limit (awake o j w)
   unfolding awake
-  ok-awake j w h i = ok-cond (eqb (w .node .status) ASLEEP) _ w (ok-wakeup j w h i) i
+  ok-awake j w h i = cond-has (WorkOk o limit) (eqb (w .node .status) ASLEEP) _ w (ok-wakeup j w h i) i
 
   -- ---- the responses, on an own edge j
 
@@ -214,12 +209,12 @@ module _ (o : Own) (limit : ℕ) where
     unfolding onConnect absorb countUp coreEnd
     ok-connect l w i = ltb-cases l (w .node .level) (λ b. WorkOk o limit (cond b (absorb o j w) (cond (eqb (w .mark j) BASIC) (putBack w) (coreEnd limit j w))))
         (λ h. let z : w .node .level ≢ 0 = λ e. omega arith in
-        ok-cond (eqb (w .node .status) FIND) _ _
+        cond-has (WorkOk o limit) (eqb (w .node .status) FIND) _ _
         (ltb-cases (degree o) (w .node .count + 1) (λ b. WorkOk o limit (cond b (refused (joinOver j 1 w)) (withNode (setCount (w .node .count + 1) (w .node)) (joinOver j 1 w))))
         (λ x. ok-refused _ (ok-join 1 w (omega arith) z i))
         (λ x. ok-node _ _ (ok-count _ (w .node) x (i .node)) (ok-join 1 w (omega arith) z i)))
         (ok-join 0 w (omega arith) z i))
-        (λ h. ok-cond (eqb (w .mark j) BASIC) _ _ (ok-back w i)
+        (λ h. cond-has (WorkOk o limit) (eqb (w .mark j) BASIC) _ _ (ok-back w i)
         (bool-cases (leb limit (w .node .level))
         (λ b. rw b (ok-refused w i))
         (λ b. rw b (ok-send j _ w mine (let q = leb-false limit (w .node .level) b in (omega arith, omega arith, below, omega arith)) i))))
@@ -249,7 +244,7 @@ module _ (o : Own) (limit : ℕ) where
         let c = w .node .count + number o (branches j (w .mark)) (o.edges) in
         let t = told o l f find j w in
         let k = ok-told l f find w h n i in
-        ok-cond (eqb find 1) _ t
+        cond-has (WorkOk o limit) (eqb find 1) _ t
         (ltb-cases (degree o) c (λ b. WorkOk o limit (cond b (refused t) (doTest o (withNode (setCount c (t .node)) t))))
         (λ x. ok-refused t k)
         (λ x. ok-do-test _ (ok-node _ t (ok-count c (t .node) x (k .node)) k)))
@@ -260,9 +255,9 @@ module _ (o : Own) (limit : ℕ) where
 
     ok-tested : (l f : ℕ) (w : Work) → WorkOk o limit w → WorkOk o limit (onTest o l f j w)
     unfolding onTest
-    ok-tested l f w i = ok-cond (ltb (w .node .level) l) _ _ (ok-back w i)
-        (ok-cond (eqb f (w .node .identity)) _ _
-        (ok-cond (eqb (w .node .test) j) _ _ (ok-do-test _ (ok-strike w i)) (ok-send j reject _ mine tt (ok-strike w i)))
+    ok-tested l f w i = cond-has (WorkOk o limit) (ltb (w .node .level) l) _ _ (ok-back w i)
+        (cond-has (WorkOk o limit) (eqb f (w .node .identity)) _ _
+        (cond-has (WorkOk o limit) (eqb (w .node .test) j) _ _ (ok-do-test _ (ok-strike w i)) (ok-send j reject _ mine tt (ok-strike w i)))
         (ok-send j accept w mine tt i))
 
     ok-better : (x : ℕ) (n : Node) → LinkOrNone o x → NodeOk o limit n → NodeOk o limit (better o j x n)
@@ -275,20 +270,20 @@ module _ (o : Own) (limit : ℕ) where
 
     ok-reported : (x : ℕ) (w : Work) → LinkOrNone o x → WorkOk o limit w → WorkOk o limit (onReport o x j w)
     unfolding onReport childReport coreReport
-    ok-reported x w h i = ok-cond (eqb j (w .node .branch)) _ _
-        (ok-cond (eqb (w .node .status) FIND) _ _ (ok-back w i)
-        (ok-cond (before o (w .node .weight) x) _ _ (ok-root w i)
-        (ok-cond (eqb x none && eqb (w .node .weight) none) _ w (ok-node _ w (ok-halted (w .node) (i .node)) i) i)))
-        (ok-cond (eqb (w .node .count) 0) _ _ (ok-refused w i)
+    ok-reported x w h i = cond-has (WorkOk o limit) (eqb j (w .node .branch)) _ _
+        (cond-has (WorkOk o limit) (eqb (w .node .status) FIND) _ _ (ok-back w i)
+        (cond-has (WorkOk o limit) (before o (w .node .weight) x) _ _ (ok-root w i)
+        (cond-has (WorkOk o limit) (eqb x none && eqb (w .node .weight) none) _ w (ok-node _ w (ok-halted (w .node) (i .node)) i) i)))
+        (cond-has (WorkOk o limit) (eqb (w .node .count) 0) _ _ (ok-refused w i)
         (ok-report _ (ok-node _ w (ok-better x _ h (ok-count (w .node .count - 1) (w .node) (omega (arith, i .node .count)) (i .node))) i)))
 
     -- EVERY RESPONSE
     pub ok-respond : (small : o.edges ≤ none) (m : Msg) (w : Work) → MsgOk o limit m → WorkOk o limit w → WorkOk o limit (respondTo o limit m j w)
     unfolding respondTo unlessAsleep
     ok-respond small (connect l) w h i = ok-connect l _ (ok-awake j w (inr mine) i)
-    ok-respond small (initiate l f find) w h i = ok-cond (eqb (w .node .status) ASLEEP) _ _ (ok-refused w i) (ok-initiate l f find w h (λ e. omega (arith, h .2)) i)
+    ok-respond small (initiate l f find) w h i = cond-has (WorkOk o limit) (eqb (w .node .status) ASLEEP) _ _ (ok-refused w i) (ok-initiate l f find w h (λ e. omega (arith, h .2)) i)
     ok-respond small (test l f) w h i = ok-tested l f _ (ok-awake j w (inr mine) i)
-    ok-respond small accept w h i = ok-cond (eqb (w .node .status) ASLEEP) _ _ (ok-refused w i) (ok-accept w i)
-    ok-respond small reject w h i = ok-cond (eqb (w .node .status) ASLEEP) _ _ (ok-refused w i) (ok-do-test _ (ok-strike w i))
-    ok-respond small (report x) w h i = ok-cond (eqb (w .node .status) ASLEEP) _ _ (ok-refused w i) (ok-reported x w h i)
-    ok-respond small change w h i = ok-cond (eqb (w .node .status) ASLEEP) _ _ (ok-refused w i) (ok-root w i)
+    ok-respond small accept w h i = cond-has (WorkOk o limit) (eqb (w .node .status) ASLEEP) _ _ (ok-refused w i) (ok-accept w i)
+    ok-respond small reject w h i = cond-has (WorkOk o limit) (eqb (w .node .status) ASLEEP) _ _ (ok-refused w i) (ok-do-test _ (ok-strike w i))
+    ok-respond small (report x) w h i = cond-has (WorkOk o limit) (eqb (w .node .status) ASLEEP) _ _ (ok-refused w i) (ok-reported x w h i)
+    ok-respond small change w h i = cond-has (WorkOk o limit) (eqb (w .node .status) ASLEEP) _ _ (ok-refused w i) (ok-root w i)

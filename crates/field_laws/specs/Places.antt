@@ -1,5 +1,5 @@
 -- A response placed in the field: what is read there afterwards (`node-same`, `node-other`, `mark-same`, `mark-other`). And the numbers of directed links
--- (`link-over`, `from-over`, `over-from`), what each joins (`directed-joins`).
+-- (`link-over`, `from-over`, `over-from`).
 use Prim.Native.Nat.{ℕ, zero, suc, _+_, _-_, _*_, _%_, _≤_, _<_}
 use native.Mathlib.Nat.{not-suc-le-zero, add-zero}
 use native.Mathlib.Omega.{arith}
@@ -12,13 +12,12 @@ use lib.Seq.{sets, length-sets, getD-set-same, getD-set-other, ext-getD}
 use lib.Dec.{eqb, ltb}
 use borrow.Author.Tests.{ltb-true, eqb-true, eq-eqb, ne-eqb, lt-ltb}
 use Rattle.base.specs.laws.Cond.{bool-cases, eqb-cases, ltb-cases, by-eq}
-use Rattle.graph.specs.Graph.{Joins, up, down}
 use Rattle.node.specs.declared.Node.{Node}
 use Rattle.field.specs.Edges.{isOwn, linkOf, from, dest, endOf, marksIn}
 use Rattle.node.specs.laws.Values.{node-by, values-by}
 use Rattle.field.specs.State.{WIDTH, values, cellOf, nodeIn, putNode, newMark, newMarks, putMarks}
 use Rattle.plan.specs.laws.Accepted.{Accepted}
-use Rattle.plan.specs.Links.{Plan, modulesOf, linksOf, lowerOf, higherOf, graphOf}
+use Rattle.plan.specs.Links.{Plan, modulesOf, linksOf, lowerOf, higherOf}
 use Rattle.field.specs.laws.Edges.{own-lower, own-higher, mark-own, mark-not, end-lower, end-higher}
 
 -- ---- a run of stores
@@ -96,13 +95,6 @@ module _ (p : Plan) (v k : ℕ) where
         go : (lowerOf p k ≡ v) ⊎ ((lowerOf p k ≢ v) × (higherOf p k ≡ v)) → from p (endOf p v k) ≡ v
         go (inl e) = even (endOf p v k) (end-lower p v k e) ∙ e
         go (inr h) = odd (endOf p v k) (end-higher p v k (h .0)) ∙ h .1
-
--- a directed link as an edge of the plan's graph
-pub directed-joins : (p : Plan) (d : ℕ) → d < 2 * linksOf p → Joins (graphOf p) (linkOf d) (from p d) (dest p d)
-directed-joins p d l = eqb-cases (d % 2) 0
-    (λ b. Joins (graphOf p) (linkOf d) (cond b (lowerOf p (linkOf d)) (higherOf p (linkOf d))) (cond b (higherOf p (linkOf d)) (lowerOf p (linkOf d))))
-    (λ e. up (omega arith) refl refl)
-    (λ n. down (omega arith) refl refl)
 
 -- a directed link of an accepted plan joins two modules, and is the one from its first end
 module _ (p : Plan) (a : Accepted p) (d : ℕ) (l : d < 2 * linksOf p) where

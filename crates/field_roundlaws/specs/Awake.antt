@@ -34,23 +34,27 @@ use Rattle.field_laws.specs.After.{fresh-node, started, begun-live, list-tells}
 use Rattle.field_roundlaws.specs.Steady.{steady-wake, refused-asleep}
 use Rattle.field_roundlaws.specs.Progress.{awake-now, other-after}
 
+-- who has the same status is as awake
+pub awake-as : {p : Plan} {x y : State} {v : ℕ} → nodeAt y v ≡ nodeAt x v → Awake p x v → Awake p y v
+awake-as e k = record { within = k .within; awake = λ z. k .awake (sym (ap (λ (n : Node). n .status) e) ∙ z) }
+
 -- v responded: it is awake, and the others are as they were
 pub record Responded (p : Plan) (v : ℕ) (s s′ : State) : Type 0 where
   pub now : Awake p s′ v
   pub other : (u : ℕ) → u ≢ v → nodeAt s′ u ≡ nodeAt s u
 
 module _ (p : Plan) (a : Accepted p) (s s′ : State) (i : Sound p s) where
+  pub node-woken : (v : ℕ) → Woke p v s s′ → nodeAt s′ v ≡ wakeWork p v s .node
+  node-woken v h = ap (λ t. nodeAt t v) (h .responds .is) ∙ node-same (s .cells) v (wakeWork p v s .node) (omega (arith, i .sized .cells, h .within))
+
   pub woke-responds : (v : ℕ) → Woke p v s s′ → Responded p v s s′
-  woke-responds v h =
-      let w = wakeWork p v s in
-      let here = ap (λ t. nodeAt t v) (h .responds .is) ∙ node-same (s .cells) v (w .node) (omega (arith, i .sized .cells, h .within)) in
-      record {
-        now = record {
-          within = h .within;
-          awake = λ e. steady-wake (ownOf p v) none (start (nodeAt s v) (markAt p s v)) (λ q. omega arith) .awake (sym (ap (λ (n : Node). n .status) here) ∙ e);
-        };
-        other = λ u n. ap (λ t. nodeAt t u) (h .responds .is) ∙ node-other (s .cells) v (w .node) u n;
-      }
+  woke-responds v h = record {
+    now = record {
+      within = h .within;
+      awake = λ e. steady-wake (ownOf p v) none (start (nodeAt s v) (markAt p s v)) (λ q. omega arith) .awake (sym (ap (λ (n : Node). n .status) (node-woken v h)) ∙ e);
+    };
+    other = λ u n. ap (λ t. nodeAt t u) (h .responds .is) ∙ node-other (s .cells) v (wakeWork p v s .node) u n;
+  }
 
   pub served-responds : (v : ℕ) → Served p v s s′ → Responded p v s s′
   served-responds v h = record { now = record { within = h .within; awake = awake-now p a s s′ v i h }; other = other-after p a s s′ v i h }
@@ -58,11 +62,11 @@ module _ (p : Plan) (a : Accepted p) (s s′ : State) (i : Sound p s) where
   pub awake-stays : (v : ℕ) → Responded p v s s′ → (u : ℕ) → Awake p s u → Awake p s′ u
   awake-stays v r u k = by-eq u v
       (λ e. subst (Awake p s′) (sym e) (r .now))
-      (λ n. record { within = k .within; awake = λ e. k .awake (sym (ap (λ (m : Node). m .status) (r .other u n)) ∙ e) })
+      (λ n. awake-as (r .other u n) k)
 
   -- who is awake and did not respond was awake
-  before : (v : ℕ) → Responded p v s s′ → (u : ℕ) → u ≢ v → Awake p s′ u → Awake p s u
-  before v r u n k = record { within = k .within; awake = λ e. k .awake (ap (λ (m : Node). m .status) (r .other u n) ∙ e) }
+  pub awake-before : (v : ℕ) → Responded p v s s′ → (u : ℕ) → u ≢ v → Awake p s′ u → Awake p s u
+  awake-before v r u n k = awake-as (sym (r .other u n)) k
 
 -- a sleeper whose service is taken is woken by it: a message of another kind would be refused
 pub serve-wakes : (p : Plan) (s s′ : State) (v : ℕ) → Served p v s s′ → nodeAt s v .status ≡ ASLEEP → wakesOne p (record { kind = SERVE; number = v; at = s }) ≡ true
@@ -112,14 +116,14 @@ module _ (p : Plan) (a : Accepted p) where
   unfolding wokenIn wakesOne
   took-wakes s _ _ s′ i j (wake-step {v} h) =
       let r = woke-responds p a s s′ i v h in
-      record { sound = j; woken = All-one (r .now); stays = awake-stays p a s s′ i v r; only = λ u k. by-eq u v (λ e. inr (List·Memᴰ·head e)) (λ n. inl (before p a s s′ i v r u n k)) }
+      record { sound = j; woken = All-one (r .now); stays = awake-stays p a s s′ i v r; only = λ u k. by-eq u v (λ e. inr (List·Memᴰ·head e)) (λ n. inl (awake-before p a s s′ i v r u n k)) }
   took-wakes s _ _ s′ i j (hand-step h) =
-      let same : (v : ℕ) → nodeAt s′ v .status ≡ nodeAt s v .status = λ v. ap (λ t. nodeAt t v .status) (h .is) in
+      let same : (v : ℕ) → nodeAt s′ v ≡ nodeAt s v = λ v. ap (λ t. nodeAt t v) (h .is) in
       record {
         sound = j;
         woken = nil;
-        stays = λ v k. record { within = k .within; awake = λ e. k .awake (sym (same v) ∙ e) };
-        only = λ v k. inl (record { within = k .within; awake = λ e. k .awake (same v ∙ e) });
+        stays = λ v k. awake-as (same v) k;
+        only = λ v k. inl (awake-as (sym (same v)) k);
       }
   took-wakes s _ _ s′ i j (serve-step {v} h) =
       let r = served-responds p a s s′ i v h in
@@ -132,7 +136,7 @@ module _ (p : Plan) (a : Accepted p) where
             (λ e. by-eq (nodeAt s v .status) ASLEEP
             (λ q. inr (rw (serve-wakes p s s′ v h q) (List·Memᴰ·head e)))
             (λ n. inl (subst (Awake p s) (sym e) (record { within = h .within; awake = n }))))
-            (λ n. inl (before p a s s′ i v r u n k));
+            (λ n. inl (awake-before p a s s′ i v r u n k));
       }
 
   pub step-wakes : (kind number : ℕ) (s : State) → Sound p s → Wakes p s (ifTaken p kind number s) (step p kind number s .state)
@@ -147,10 +151,10 @@ module _ (p : Plan) (a : Accepted p) where
   pub list-wakes : (cs : List Call) (h : Held) → Live h → h .field .plan ≡ p → Wakes p (stateOf h) (trail cs h) (stateOf (after cs h))
   list-wakes cs h i e = list-tells p (λ x l y. Sound p x → Wakes p x l y) wakes-none wakes-more step-wakes cs h i e (subst (λ q. Sound q (stateOf h)) e (live-sound h i))
 
-member : {P : ℕ → Type 0} {l : List ℕ} {v : ℕ} → All P l → List·Memᴰ v l → P v
-member nil m = absurd (List·Memᴰ·not-nil m)
-member {P} (con h t) (List·Memᴰ·head e) = subst P (sym e) h
-member (con h t) (List·Memᴰ·tail m) = member t m
+pub all-member : {P : ℕ → Type 0} {l : List ℕ} {v : ℕ} → All P l → List·Memᴰ v l → P v
+all-member nil m = absurd (List·Memᴰ·not-nil m)
+all-member {P} (con h t) (List·Memᴰ·head e) = subst P (sym e) h
+all-member (con h t) (List·Memᴰ·tail m) = all-member t m
 
 -- THE LAW: after a list of calls from a setup the modules that are awake are exactly those that were woken in it
 pub exactly-woken : (p : Plan) (lent : List ℕ) → setUp p lent .refusal ≡ 0 → (cs : List Call) (v : ℕ)
@@ -161,7 +165,7 @@ exactly-woken p lent z cs v =
     subst (λ h. Awake p (stateOf (after cs h)) v ↔ List·Memᴰ v (wokenIn p (trail cs h))) (sym (s .is))
     (let w = list-wakes p a cs _ (begun-live p lent (s .plan) (s .room)) refl in (
       λ k. ⊎-elim (λ q. absurd (q .awake (ap (λ (n : Node). n .status) (fresh-node v (omega (arith, k .within, a .modulesOk)))))) (λ m. m) (w .only v k),
-      member (w .woken),
+      all-member (w .woken),
     ))
 
 -- so whoever was not woken is asleep

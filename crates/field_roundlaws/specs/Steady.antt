@@ -4,9 +4,9 @@ use Prim.Native.Nat.{ℕ, _+_, _≤_, _<_}
 use native.Mathlib.Omega.{arith}
 use mathlib.Core.Path.{_≡_, refl, sym, subst}
 use mathlib.Core.Logic.{_≢_, _⊎_, inl, inr}
-use mathlib.Core.Bool.{Bool, true, false, cond, _&&_}
+use mathlib.Core.Bool.{cond, _&&_}
 use lib.Dec.{eqb, ltb, leb}
-use Rattle.base.specs.laws.Cond.{eqb-cases, ltb-cases, eqb-diff}
+use Rattle.base.specs.laws.Cond.{cond-has, eqb-cases, ltb-cases, eqb-diff}
 use Rattle.base.specs.laws.Loop.{by-test}
 use Rattle.format_message.specs.Msg.{Msg, none, connect, initiate, test, accept, reject, report, change}
 use Rattle.format_message.specs.Header.{msgOf}
@@ -20,10 +20,6 @@ pub record Steady (w : Work) : Type 0 where
   pub unblocked : w .answer ≢ BACK
   pub awake : w .node .status ≢ ASLEEP
 
-either : (b : Bool) (w r : Work) → Steady w → Steady r → Steady (cond b w r)
-either true w r h i = h
-either false w r h i = i
-
 -- refused, it is not put back
 stopped : (w : Work) → Steady w → Steady (refused w)
 stopped w h = record { unblocked = λ e. omega arith; awake = h .awake }
@@ -34,23 +30,23 @@ now n w a h = record { unblocked = h .unblocked; awake = a }
 
 steady-report : (w : Work) → Steady w → Steady (doReport w)
 unfolding doReport
-steady-report w h = either (eqb (w .node .count) 0 && eqb (w .node .test) none) _ w
-    (either (eqb (w .node .branch) none) _ _ (stopped w h) (record { unblocked = h .unblocked; awake = λ e. omega arith })) h
+steady-report w h = cond-has Steady (eqb (w .node .count) 0 && eqb (w .node .test) none) _ w
+    (cond-has Steady (eqb (w .node .branch) none) _ _ (stopped w h) (record { unblocked = h .unblocked; awake = λ e. omega arith })) h
 
 steady-test : (k : ℕ) (w : Work) → Steady w → Steady (testOn k w)
 unfolding testOn
-steady-test k w h = either (eqb k none) _ _ (steady-report _ (now (setTest none (w .node)) w (h .awake) h))
-    (either (eqb (w .node .level) 0) _ _ (stopped w h) (record { unblocked = h .unblocked; awake = h .awake }))
+steady-test k w h = cond-has Steady (eqb k none) _ _ (steady-report _ (now (setTest none (w .node)) w (h .awake) h))
+    (cond-has Steady (eqb (w .node .level) 0) _ _ (stopped w h) (record { unblocked = h .unblocked; awake = h .awake }))
 
 steady-root : (w : Work) → Steady w → Steady (changeRoot w)
 unfolding changeRoot
-steady-root w h = either (eqb (w .node .best) none) _ _ (stopped w h)
-    (either (eqb (w .mark (w .node .best)) BRANCH) _ _ (record { unblocked = h .unblocked; awake = h .awake }) (record { unblocked = h .unblocked; awake = h .awake }))
+steady-root w h = cond-has Steady (eqb (w .node .best) none) _ _ (stopped w h)
+    (cond-has Steady (eqb (w .mark (w .node .best)) BRANCH) _ _ (record { unblocked = h .unblocked; awake = h .awake }) (record { unblocked = h .unblocked; awake = h .awake }))
 
 -- waking: Found
 pub steady-wake : (o : Own) (j : ℕ) (w : Work) → w .answer ≢ BACK → Steady (wakeup o j w)
 unfolding wakeOn
-steady-wake o j w h = either (eqb (earliest o anyEdge (o.edges)) none) _ _ (record { unblocked = h; awake = λ e. omega arith }) (record { unblocked = h; awake = λ e. omega arith })
+steady-wake o j w h = cond-has Steady (eqb (earliest o anyEdge (o.edges)) none) _ _ (record { unblocked = h; awake = λ e. omega arith }) (record { unblocked = h; awake = λ e. omega arith })
 
 -- an awake node that is as in w puts m back if it comes over j
 abbrev pub PutsBack : ℕ → Work → Msg → Type 0
@@ -71,11 +67,11 @@ module _ (o : Own) (limit j : ℕ) (w : Work) (h : Steady w) where
   unfolding onConnect absorb countUp coreEnd
   ends-connect l = ltb-cases l (w .node .level)
       (λ b. SteadyOr w (PutsBack j w (connect l)) (cond b (absorb o j w) (cond (eqb (w .mark j) BASIC) (putBack w) (coreEnd limit j w))))
-      (λ a. inl (either (eqb (w .node .status) FIND) _ _
-      (either (ltb (degree o) (w .node .count + 1)) _ _ (record { unblocked = λ e. omega arith; awake = h .awake }) (record { unblocked = h .unblocked; awake = h .awake }))
+      (λ a. inl (cond-has Steady (eqb (w .node .status) FIND) _ _
+      (cond-has Steady (ltb (degree o) (w .node .count + 1)) _ _ (record { unblocked = λ e. omega arith; awake = h .awake }) (record { unblocked = h .unblocked; awake = h .awake }))
       (record { unblocked = h .unblocked; awake = h .awake })))
       (λ a. eqb-cases (w .mark j) BASIC (λ b. SteadyOr w (PutsBack j w (connect l)) (cond b (putBack w) (coreEnd limit j w))) (λ q. inr ((a, q), refl))
-      (λ q. inl (either (leb limit (w .node .level)) _ _ (stopped w h) (record { unblocked = h .unblocked; awake = h .awake }))))
+      (λ q. inl (cond-has Steady (leb limit (w .node .level)) _ _ (stopped w h) (record { unblocked = h .unblocked; awake = h .awake }))))
 
   steady-initiate : (l f find : ℕ) → Steady (onInitiate o l f find j w)
   unfolding onInitiate seek
@@ -83,7 +79,7 @@ module _ (o : Own) (limit j : ℕ) (w : Work) (h : Steady w) where
       let t = told o l f find j w in
       let k : Steady t = record { unblocked = h .unblocked; awake = by-test (eqb find 1) (λ b. cond b FIND FOUND ≢ ASLEEP) (λ e. omega arith) (λ e. omega arith) } in
       let c = w .node .count + number o (branches j (w .mark)) (o.edges) in
-      either (eqb find 1) _ t (either (ltb (degree o) c) _ _ (stopped t k) (steady-test _ _ (now (setCount c (t .node)) t (k .awake) k))) k
+      cond-has Steady (eqb find 1) _ t (cond-has Steady (ltb (degree o) c) _ _ (stopped t k) (steady-test _ _ (now (setCount c (t .node)) t (k .awake) k))) k
 
   -- a Test that is not above the node's level is answered
   abbrev replies : ℕ → Work
@@ -93,8 +89,8 @@ module _ (o : Own) (limit j : ℕ) (w : Work) (h : Steady w) where
   unfolding onTest
   ends-test l f = ltb-cases (w .node .level) l (λ b. SteadyOr w (PutsBack j w (test l f)) (cond b (putBack w) (replies f)))
       (λ a. inr (a, refl))
-      (λ a. inl (either (eqb f (w .node .identity)) _ _
-      (either (eqb (w .node .test) j) _ _ (steady-test _ _ (record { unblocked = h .unblocked; awake = h .awake })) (record { unblocked = h .unblocked; awake = h .awake }))
+      (λ a. inl (cond-has Steady (eqb f (w .node .identity)) _ _
+      (cond-has Steady (eqb (w .node .test) j) _ _ (steady-test _ _ (record { unblocked = h .unblocked; awake = h .awake })) (record { unblocked = h .unblocked; awake = h .awake }))
       (record { unblocked = h .unblocked; awake = h .awake })))
 
   ends-report : (x : ℕ) → SteadyOr w (PutsBack j w (report x)) (onReport o x j w)
@@ -102,9 +98,9 @@ module _ (o : Own) (limit j : ℕ) (w : Work) (h : Steady w) where
   ends-report x = eqb-cases j (w .node .branch)
       (λ b. SteadyOr w (PutsBack j w (report x)) (cond b (cond (eqb (w .node .status) FIND) (putBack w) (coreReport o x w)) (childReport o x j w)))
       (λ a. eqb-cases (w .node .status) FIND (λ b. SteadyOr w (PutsBack j w (report x)) (cond b (putBack w) (coreReport o x w))) (λ q. inr ((sym a, q), refl))
-      (λ q. inl (either (before o (w .node .weight) x) _ _ (steady-root w h)
-      (either (eqb x none && eqb (w .node .weight) none) _ w (record { unblocked = h .unblocked; awake = h .awake }) h))))
-      (λ a. inl (either (eqb (w .node .count) 0) _ _ (stopped w h) (steady-report _ (record { unblocked = h .unblocked; awake = h .awake }))))
+      (λ q. inl (cond-has Steady (before o (w .node .weight) x) _ _ (steady-root w h)
+      (cond-has Steady (eqb x none && eqb (w .node .weight) none) _ w (record { unblocked = h .unblocked; awake = h .awake }) h))))
+      (λ a. inl (cond-has Steady (eqb (w .node .count) 0) _ _ (stopped w h) (steady-report _ (record { unblocked = h .unblocked; awake = h .awake }))))
 
 -- THE LAW for a node that is awake ..
 pub ends-awake : (o : Own) (limit j : ℕ) (m : Msg) (w : Work) → Steady w → SteadyOr w (PutsBack j w m) (respondTo o limit m j w)

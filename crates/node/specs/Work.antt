@@ -30,7 +30,7 @@ setup =
 abbrev pub WIDTH : ℕ
 WIDTH = 10
 
--- the numbers, in document 01's order, "the waking link after halted"
+-- the numbers, in document 01's order, "the waking link after halted" (request 06)
 abbrev pub values : Node → List ℕ
 values n =
     n .status ∷ n .level ∷ n .identity ∷ n .weight ∷ n .best ∷ n .test ∷ n .branch ∷ n .count ∷ n .halted ∷ n .waking ∷ []

@@ -41,6 +41,6 @@ pub struct Node {
     pub count: u16,
     // 1 once the procedure ended here
     pub halted: u16,
-    // the edge whose message woke it (its parent edge in the wake-up flood): none for a sleeper, and for one woken by a wake step
+    // the edge whose message woke it (its parent edge in the wake-up forest): none for a sleeper, and for one woken by a wake step
     pub waking: u16,
 }

@@ -35,7 +35,7 @@ pub record PartFinished (p : Network) (s : ProtocolState) (v : ℕ) : Type 0 whe
   pub others : (k a b : ℕ) → Edge p k a b → SamePart p v a → ¬ Tree p k → (s.mark a k ≡ 2) × (s.mark b k ≡ 2)
   pub halted : PartCore p s v ⊎ PartOfOne p s v
 
--- the nine values and the marks of v are as at setup
+-- v's values in the tables, and its marks, are as at setup
 pub record AsAtSetup (s : ProtocolState) (v : ℕ) : Type 0 where
   pub status : s.st v ≡ setupState.st v
   pub level : s.lev v ≡ setupState.lev v

@@ -41,7 +41,7 @@ unfoldable pub marksText : Plan → List ℕ → ℕ → ℕ → List ℕ
 marksText p marks v zero = []
 marksText p marks v (suc k) = marksText p marks v k ++ markText p marks v k
 
--- "`module V` and its .. values .., then for each own link .."
+-- `module V` and its values, then its marks
 abbrev pub moduleText : Plan → List ℕ → List ℕ → ℕ → List ℕ
 moduleText p cells marks v =
     named "module " v ++ valuesText (nodeIn cells v) ++ marksText p marks v (linksOf p) ++ ascii "\n"

@@ -1,9 +1,9 @@
--- Document 02's request 05, "Who woke whom", as one type (`WhoWokeWhom`). (A waking link is the parent edge of a flooding: the waking links are a forest,
--- and the modules that wake steps woke are its roots.)
-use Prim.Native.Nat.{ℕ, _<_}
+-- Document 02's request 05, "Who woke whom", as one type (`WhoWokeWhom`). (A waking link is the parent edge in the wake-up forest, whose roots are the modules
+-- that wake steps woke.)
+use Prim.Native.Nat.{ℕ, zero, suc, _<_}
 use mathlib.Core.Path.{_≡_}
 use mathlib.Core.Logic.{_↔_}
-use mathlib.Core.Bool.{true, cond}
+use mathlib.Core.Bool.{cond, _&&_}
 use mathlib.Core.List.{List, [], _∷_, map, List·Memᴰ}
 use lib.Dec.{eqb}
 use Rattle.base.specs.None.{none}
@@ -13,8 +13,7 @@ use Rattle.base.specs.Twice.{NoTwice}
 use Rattle.format_word.specs.Word.{linkIn}
 use Rattle.graph.specs.Graph.{Joins}
 use Rattle.plan.specs.Links.{Plan, modulesOf, graphOf}
-use Rattle.node.specs.Work.{ASLEEP}
-use Rattle.field.specs.Edges.{linkOf}
+use Rattle.field.specs.Edges.{linkOf, endOf, dest}
 use Rattle.field.specs.State.{State, nodeAt}
 use Rattle.field.specs.Step.{WAKE}
 use Rattle.field.specs.Held.{Held, stateOf, setUp}
@@ -24,6 +23,11 @@ use Rattle.field_calls.specs.Trail.{Taken, trail, servedWord, wakesOne, Awake, 
 -- "the link whose message woke it: none for .. one woken by a wake step", of the module that a step wakes
 unfoldable pub wakingLink : Plan → Taken → ℕ
 wakingLink p t = cond (eqb (t .kind) WAKE) none (linkOf (linkIn (servedWord p (t .number) (t .at))))
+
+-- the waking link of module v by the steps taken: of the first that woke it, none where no step did
+unfoldable pub wakingIn : Plan → List Taken → ℕ → ℕ
+wakingIn p [] v = none
+wakingIn p (t ∷ l) v = cond (wakesOne p t && eqb (t .number) v) (wakingLink p t) (wakingIn p l v)
 
 -- the modules that wake steps woke, of the steps taken
 abbrev pub byWakeSteps : List Taken → List ℕ
@@ -38,7 +42,7 @@ pub data Before (u v : ℕ) : List ℕ → Type 0 where
 pub data Follows (p : Plan) (s : State) (l : List Taken) : List ℕ → Type 0 where
   -- "ends at one that a wake step woke": it has no waking link
   ends : {v : ℕ} → nodeAt s v .waking ≡ none → List·Memᴰ v (byWakeSteps l) → Follows p s l (v ∷ [])
-  -- v's waking link leads to u, "each link to its other end", and u was woken before v
+  -- v's waking link leads to its other end u, and u was woken before v
   on : {v u : ℕ} {rest : List ℕ} → Joins (graphOf p) (nodeAt s v .waking) v u → Before u v (wokenIn p l) → Follows p s l (u ∷ rest) → Follows p s l (v ∷ (u ∷ rest))
 
 -- "following these links from any awake module ends at one that a wake step woke, without returning to a module": v's chain
@@ -48,17 +52,24 @@ pub record TracedBack (p : Plan) (s : State) (l : List Taken) (v : ℕ) : Type 0
   pub awake : All (Awake p s) (v ∷ rest)
   pub different : NoTwice (v ∷ rest)
 
+-- the same worked out: v and the modules that the waking links lead to from it, n links at most
+unfoldable pub chainFrom : Plan → State → ℕ → ℕ → List ℕ
+chainFrom p s zero v = v ∷ []
+chainFrom p s (suc n) v =
+    let k = nodeAt s v .waking in
+    v ∷ cond (eqb k none) [] (chainFrom p s n (dest p (endOf p v k)))
+
 -- what is said of one list of calls on the field and words of a setup
 pub record WakingClaim (p : Plan) (start : Held) (calls : List Call) : Type 0 where
-  -- "Each module's record gains the link whose message woke it: .. none for .. one woken by a wake step."
-  pub woken : All (λ t. wakesOne p t ≡ true → nodeAt (stateOf (after calls start)) (t .number) .waking ≡ wakingLink p t) (trail calls start)
-  -- "none for a sleeper"
-  pub asleep : (v : ℕ) → v < modulesOf p → nodeAt (stateOf (after calls start)) v .status ≡ ASLEEP → nodeAt (stateOf (after calls start)) v .waking ≡ none
-  -- (awake are just those that were woken, and nobody is woken twice: so the two above tell the waking link of every module)
+  -- "Each module's record gains the link whose message woke it: none for a sleeper or one woken by a wake step."
+  pub told : (v : ℕ) → v < modulesOf p → nodeAt (stateOf (after calls start)) v .waking ≡ wakingIn p (trail calls start) v
+  -- (awake are just those that were woken, and nobody is woken twice)
   pub exactly : (v : ℕ) → Awake p (stateOf (after calls start)) v ↔ List·Memᴰ v (wokenIn p (trail calls start))
   pub once : NoTwice (wokenIn p (trail calls start))
   -- "From setup, following these links from any awake module ends at one that a wake step woke, without returning to a module."
   pub traced : (v : ℕ) → Awake p (stateOf (after calls start)) v → TracedBack p (stateOf (after calls start)) (trail calls start) v
+  -- (worked out: N links are enough)
+  pub followed : (v : ℕ) (a : Awake p (stateOf (after calls start)) v) → chainFrom p (stateOf (after calls start)) (modulesOf p) v ≡ v ∷ traced v a .rest
 
 -- for every setup that is not refused, and every list of calls from it
 abbrev pub WhoWokeWhom : Type 0

@@ -1,4 +1,6 @@
 pub mod Follow
+pub mod Chain
 pub mod Step
 pub mod Claim
+pub mod Uses
 pub mod Samples

@@ -12,6 +12,11 @@ pub bool-cases {κ} : (b : Bool) {C : Type κ} → (b ≡ true → C) → (b ≡
 bool-cases true y n = y refl
 bool-cases false y n = n refl
 
+-- what both have, the chosen one has
+pub cond-has : {A : Type 0} (P : A → Type 0) (b : Bool) (x y : A) → P x → P y → P (cond b x y)
+cond-has P true x y h i = h
+cond-has P false x y h i = i
+
 pub bit-le : (t : Bool) → bit t ≤ 1
 bit-le true = omega arith
 bit-le false = omega arith

@@ -1,6 +1,8 @@
--- Steps given alone, computed: document 01's sleeper that serves a Test, each kind of step taken, each refusal (`samples`).
+-- Steps given alone, computed: document 01's sleeper that serves a Test, each kind of step taken, each refusal (`step-samples`); what 31 says of a waking link
+-- (`waking-31`).
 use Prim.Native.Nat.{ℕ}
 use mathlib.Core.Path.{_≡_, refl}
+use mathlib.Core.Bool.{Bool, true, false}
 use mathlib.Core.List.{List, [], _∷_, _++_, map}
 use Rattle.base.specs.None.{none}
 use Rattle.base.specs.Loop.{After}
@@ -113,3 +115,54 @@ wants l = map (λ r. r .want) l
 pub step-samples : gots table ≡ wants table
 unfolding base1.upd base2.place base3.log2-to base3.log2 base5.every graph1.label graph1.joinedOver graph1.connected message1.partsOf message1.msgOf message2.bare message2.listedAs message2.listed plan1.ascends plan1.inOrder plan1.linkVerdict plan1.linksRefusal plan1.planRefusal base7.beforeBy plan2.cost plan2.earlier node1.wakeOn node1.awake node1.doReport node1.testOn node1.changeRoot node1.countUp node1.absorb node1.coreEnd node1.onConnect node1.seek node1.onInitiate node1.onTest node1.childReport node1.coreReport node1.onReport node1.unlessAsleep node1.respondTo node2.earliest node2.number node2.onEach field0.isOwn field0.endOf field0.marksIn field1.newMarks field2.carryOut field2.wake field2.hand field2.backOf field2.serve field2.step field3.allOf field3.waitingIn field3.wordFits field3.nodeFits field3.fits field4.valid field4.freshCells field4.setUp field4.stepAlone
 step-samples = refl
+
+-- what 31 says of a waking link, in the triangle of links 0-1, 0-2 and 1-2: a module with its status, level, identity, halted and waking link
+abbrev triangle : Plan
+triangle = 3 ∷ 3 ∷ 0 ∷ 1 ∷ 3 ∷ 3 ∷ 0 ∷ 2 ∷ 0 ∷ 5 ∷ 1 ∷ 2 ∷ 4 ∷ 0 ∷ []
+
+pub record WakingFitsRow : Type 0 where
+  pub module-number : ℕ
+  pub status : ℕ
+  pub level : ℕ
+  pub identity : ℕ
+  pub halted : ℕ
+  pub waking : ℕ
+  pub passes : Bool
+
+abbrev fitsRow : ℕ → ℕ → ℕ → ℕ → ℕ → ℕ → Bool → WakingFitsRow
+fitsRow v status level identity halted waking passes =
+    record { module-number = v; status = status; level = level; identity = identity; halted = halted; waking = waking; passes = passes }
+
+abbrev fitsOf : WakingFitsRow → Bool
+fitsOf r =
+    field3.nodeFits triangle (r .module-number)
+    (record { status = r .status; level = r .level; identity = r .identity; weight = none; best = none; test = none; branch = none; count = 0; halted = r .halted; waking = r .waking })
+
+abbrev fitsTable : List WakingFitsRow
+fitsTable =
+    -- awake: none or any own link, at any level, halted or not
+    fitsRow 0 2 0 none 0 none true
+    ∷ fitsRow 0 2 0 none 0 0 true
+    ∷ fitsRow 0 1 1 0 0 1 true
+    ∷ fitsRow 1 2 1 0 1 2 true
+    ∷ fitsRow 2 2 1 0 0 2 true
+    -- another module's link
+    ∷ fitsRow 0 2 0 none 0 2 false
+    ∷ fitsRow 0 1 1 0 0 2 false
+    ∷ fitsRow 0 2 1 0 1 2 false
+    ∷ fitsRow 1 2 1 0 0 1 false
+    ∷ fitsRow 2 2 0 none 0 0 false
+    -- no link
+    ∷ fitsRow 0 2 0 none 0 3 false
+    ∷ fitsRow 0 1 1 0 1 65534 false
+    -- asleep: none, at any level, halted or not
+    ∷ fitsRow 0 0 0 none 0 none true
+    ∷ fitsRow 0 0 1 0 1 none true
+    ∷ fitsRow 0 0 0 none 0 0 false
+    ∷ fitsRow 0 0 1 0 0 1 false
+    ∷ fitsRow 0 0 0 none 1 0 false
+    ∷ []
+
+pub waking-31 : map fitsOf fitsTable ≡ map (λ r. r .passes) fitsTable
+unfolding base3.log2-to base3.log2 node2.number field0.isOwn field3.nodeFits
+waking-31 = refl

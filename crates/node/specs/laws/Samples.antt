@@ -48,6 +48,10 @@ finder = 1 ∷ 1 ∷ 1 ∷ none ∷ none ∷ 3 ∷ 1 ∷ 0 ∷ 0 ∷ 0 ∷ []
 abbrev finds : List ℕ
 finds = 2 ∷ 1 ∷ 1 ∷ 3 ∷ 3 ∷ none ∷ 1 ∷ 0 ∷ 0 ∷ 0 ∷ []
 
+-- the same, woken by a wake step
+abbrev stepped : List ℕ
+stepped = 2 ∷ 1 ∷ 1 ∷ 3 ∷ 3 ∷ none ∷ 1 ∷ 0 ∷ 0 ∷ none ∷ []
+
 -- the same once it has found nothing
 abbrev empty : List ℕ
 empty = 2 ∷ 1 ∷ 1 ∷ none ∷ none ∷ none ∷ 1 ∷ 0 ∷ 0 ∷ 0 ∷ []
@@ -72,6 +76,11 @@ table =
     ∷ row finder one 0 (connect 0) (taken (1 ∷ 1 ∷ 1 ∷ none ∷ none ∷ 3 ∷ 1 ∷ 1 ∷ 0 ∷ 0 ∷ []) (1 ∷ 1 ∷ 0 ∷ 0 ∷ []) ((0 ∷ 2 ∷ 1 ∷ 1 ∷ 1 ∷ []) ∷ []))
     -- absorbed while Found: it does not
     ∷ row finds one 0 (connect 0) (taken finds (1 ∷ 1 ∷ 0 ∷ 0 ∷ []) ((0 ∷ 2 ∷ 1 ∷ 1 ∷ 0 ∷ []) ∷ []))
+    -- what is served later does not change what woke it, a wake step or a message
+    ∷ row finds one 3 (connect 0) (taken finds (0 ∷ 1 ∷ 0 ∷ 1 ∷ []) ((3 ∷ 2 ∷ 1 ∷ 1 ∷ 0 ∷ []) ∷ []))
+    ∷ row stepped one 0 (connect 0) (taken stepped (1 ∷ 1 ∷ 0 ∷ 0 ∷ []) ((0 ∷ 2 ∷ 1 ∷ 1 ∷ 0 ∷ []) ∷ []))
+    ∷ row stepped one 0 (test 1 2) (taken stepped one ((0 ∷ 4 ∷ 0 ∷ none ∷ 0 ∷ []) ∷ []))
+    ∷ row finds one 1 change (taken finds (0 ∷ 1 ∷ 0 ∷ 1 ∷ []) ((3 ∷ 1 ∷ 1 ∷ none ∷ 0 ∷ []) ∷ []))
     -- a Connect of the own level on a Basic edge waits
     ∷ row finds one 0 (connect 1) (back finds one [])
     -- copies by rising number, then the Test

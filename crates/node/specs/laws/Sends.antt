@@ -3,12 +3,12 @@ use Prim.Native.Nat.{ℕ, _+_, _≤_}
 use native.Mathlib.Omega.{arith}
 use mathlib.Core.Path.{_≡_, refl, sym, subst}
 use mathlib.Core.Logic.{_⊎_, ⊎-elim}
-use mathlib.Core.Bool.{Bool, true, false, cond, not, _&&_, and-eq-true-iff}
+use mathlib.Core.Bool.{Bool, true, false, not, _&&_, and-eq-true-iff}
 use mathlib.Core.List.{[], _∷_}
 use lib.ListN.{length, length-append}
 use lib.Dec.{eqb, ltb, leb}
 use borrow.Author.Tests.{eqb-true}
-use Rattle.base.specs.laws.Cond.{by-eq}
+use Rattle.base.specs.laws.Cond.{cond-has, by-eq}
 use Rattle.format_message.specs.Msg.{Msg, none, connect, initiate, test, accept, reject, report, change}
 use Rattle.node.specs.declared.Node.{Node}
 use Rattle.node.specs.Work.{Own, Work, ASLEEP, FIND, BASIC, BRANCH, before, start, send, withNode, setTest, setCount, earliest, number, anyEdge, basic, branches, degree}
@@ -23,10 +23,6 @@ pub record Few (n : ℕ) (w : Work) : Type 0 where
 
 few-more : (n b : ℕ) (w : Work) → n ≤ b → Few n w → Few b w
 few-more n b w l h = record { most = omega (arith, h .most) }
-
-few-cond : (n : ℕ) (t : Bool) (x y : Work) → Few n x → Few n y → Few n (cond t x y)
-few-cond n true x y h i = h
-few-cond n false x y h i = i
 
 few-send : (n k : ℕ) (m : Msg) (w : Work) → Few n w → Few (n + 1) (send k m w)
 few-send n k m w h = record { most = omega (arith, h .most, length-append (w .sends) (record { edge = k; msg = m } ∷ [])) }
@@ -46,26 +42,26 @@ module _ (n : ℕ) (w : Work) (h : Few n w) where
 
   few-report : Few (n + 1) (doReport w)
   unfolding doReport
-  few-report = few-cond (n + 1) (eqb (w .node .count) 0 && eqb (w .node .test) none) _ w
-      (few-cond (n + 1) (eqb (w .node .branch) none) _ _ (few-same _ w _ refl kept) (few-send n _ _ _ (few-same n w _ refl h))) kept
+  few-report = cond-has (Few (n + 1)) (eqb (w .node .count) 0 && eqb (w .node .test) none) _ w
+      (cond-has (Few (n + 1)) (eqb (w .node .branch) none) _ _ (few-same _ w _ refl kept) (few-send n _ _ _ (few-same n w _ refl h))) kept
 
   few-root : Few (n + 1) (changeRoot w)
   unfolding changeRoot
-  few-root = few-cond (n + 1) (eqb (w .node .best) none) _ _ (few-same _ w _ refl kept)
-      (few-cond (n + 1) (eqb (w .mark (w .node .best)) BRANCH) _ _ (few-send n _ change w h) (few-same _ (send (w .node .best) (connect (w .node .level)) w) _ refl (few-send n _ _ w h)))
+  few-root = cond-has (Few (n + 1)) (eqb (w .node .best) none) _ _ (few-same _ w _ refl kept)
+      (cond-has (Few (n + 1)) (eqb (w .mark (w .node .best)) BRANCH) _ _ (few-send n _ change w h) (few-same _ (send (w .node .best) (connect (w .node .level)) w) _ refl (few-send n _ _ w h)))
 
 few-test-on : (n k : ℕ) (w : Work) → Few n w → Few (n + 1) (testOn k w)
 unfolding testOn
-few-test-on n k w h = few-cond (n + 1) (eqb k none) _ _ (few-report n _ (few-same n w _ refl h))
-    (few-cond (n + 1) (eqb (w .node .level) 0) _ _ (few-same _ w _ refl (kept n w h)) (few-send n k _ _ (few-same n w _ refl h)))
+few-test-on n k w h = cond-has (Few (n + 1)) (eqb k none) _ _ (few-report n _ (few-same n w _ refl h))
+    (cond-has (Few (n + 1)) (eqb (w .node .level) 0) _ _ (few-same _ w _ refl (kept n w h)) (few-send n k _ _ (few-same n w _ refl h)))
 
 few-wakeup : (o : Own) (j n : ℕ) (w : Work) → Few n w → Few (n + 1) (wakeup o j w)
 unfolding wakeOn
-few-wakeup o j n w h = few-cond (n + 1) (eqb (earliest o anyEdge (o.edges)) none) _ _ (few-same _ w _ refl (kept n w h)) (few-send n _ _ _ (few-same n w _ refl h))
+few-wakeup o j n w h = cond-has (Few (n + 1)) (eqb (earliest o anyEdge (o.edges)) none) _ _ (few-same _ w _ refl (kept n w h)) (few-send n _ _ _ (few-same n w _ refl h))
 
 few-awake : (o : Own) (j : ℕ) (w : Work) → Few 0 w → Few 1 (awake o j w)
 unfolding awake
-few-awake o j w h = few-cond 1 (eqb (w .node .status) ASLEEP) _ w (few-wakeup o j 0 w h) (kept 0 w h)
+few-awake o j w h = cond-has (Few 1) (eqb (w .node .status) ASLEEP) _ w (few-wakeup o j 0 w h) (kept 0 w h)
 
 -- the responses but one send one message more, or none
 module _ (o : Own) (limit j : ℕ) (w : Work) (h : Few 1 w) where
@@ -74,27 +70,27 @@ module _ (o : Own) (limit j : ℕ) (w : Work) (h : Few 1 w) where
 
   few-connect : (l : ℕ) → Few 2 (onConnect o limit l j w)
   unfolding onConnect absorb countUp coreEnd
-  few-connect l = few-cond 2 (ltb l (w .node .level)) _ _
-      (few-cond 2 (eqb (w .node .status) FIND) _ _
-      (few-cond 2 (ltb (degree o) (w .node .count + 1)) _ _ (few-same 2 (joinOver j 1 w) _ refl (joined 1)) (few-same 2 (joinOver j 1 w) _ refl (joined 1)))
+  few-connect l = cond-has (Few 2) (ltb l (w .node .level)) _ _
+      (cond-has (Few 2) (eqb (w .node .status) FIND) _ _
+      (cond-has (Few 2) (ltb (degree o) (w .node .count + 1)) _ _ (few-same 2 (joinOver j 1 w) _ refl (joined 1)) (few-same 2 (joinOver j 1 w) _ refl (joined 1)))
       (joined 0))
-      (few-cond 2 (eqb (w .mark j) BASIC) _ _ (few-same 2 w _ refl (kept 1 w h))
-      (few-cond 2 (leb limit (w .node .level)) _ _ (few-same 2 w _ refl (kept 1 w h)) (few-send 1 j _ w h)))
+      (cond-has (Few 2) (eqb (w .mark j) BASIC) _ _ (few-same 2 w _ refl (kept 1 w h))
+      (cond-has (Few 2) (leb limit (w .node .level)) _ _ (few-same 2 w _ refl (kept 1 w h)) (few-send 1 j _ w h)))
 
   few-tested : (l f : ℕ) → Few 2 (onTest o l f j w)
   unfolding onTest
-  few-tested l f = few-cond 2 (ltb (w .node .level) l) _ _ (few-same 2 w _ refl (kept 1 w h))
-      (few-cond 2 (eqb f (w .node .identity)) _ _
-      (few-cond 2 (eqb (w .node .test) j) _ _ (few-test-on 1 _ _ (few-same 1 w _ refl h)) (few-send 1 j reject _ (few-same 1 w _ refl h)))
+  few-tested l f = cond-has (Few 2) (ltb (w .node .level) l) _ _ (few-same 2 w _ refl (kept 1 w h))
+      (cond-has (Few 2) (eqb f (w .node .identity)) _ _
+      (cond-has (Few 2) (eqb (w .node .test) j) _ _ (few-test-on 1 _ _ (few-same 1 w _ refl h)) (few-send 1 j reject _ (few-same 1 w _ refl h)))
       (few-send 1 j accept w h))
 
   few-reported : (x : ℕ) → Few 2 (onReport o x j w)
   unfolding onReport childReport coreReport
-  few-reported x = few-cond 2 (eqb j (w .node .branch)) _ _
-      (few-cond 2 (eqb (w .node .status) FIND) _ _ (few-same 2 w _ refl (kept 1 w h))
-      (few-cond 2 (before o (w .node .weight) x) _ _ (few-root 1 w h)
-      (few-cond 2 (eqb x none && eqb (w .node .weight) none) _ w (few-same 2 w _ refl (kept 1 w h)) (kept 1 w h))))
-      (few-cond 2 (eqb (w .node .count) 0) _ _ (few-same 2 w _ refl (kept 1 w h)) (few-report 1 _ (few-same 1 w _ refl h)))
+  few-reported x = cond-has (Few 2) (eqb j (w .node .branch)) _ _
+      (cond-has (Few 2) (eqb (w .node .status) FIND) _ _ (few-same 2 w _ refl (kept 1 w h))
+      (cond-has (Few 2) (before o (w .node .weight) x) _ _ (few-root 1 w h)
+      (cond-has (Few 2) (eqb x none && eqb (w .node .weight) none) _ w (few-same 2 w _ refl (kept 1 w h)) (kept 1 w h))))
+      (cond-has (Few 2) (eqb (w .node .count) 0) _ _ (few-same 2 w _ refl (kept 1 w h)) (few-report 1 _ (few-same 1 w _ refl h)))
 
 -- b is 2 or more, and no less than the node's edges
 module _ (o : Own) (limit b : ℕ) (two : 2 ≤ b) (wide : degree o ≤ b)
@@ -142,18 +138,18 @@ module _ (o : Own) (limit b : ℕ) (two : 2 ≤ b) (wide : degree o ≤ b)
 
     few-initiate : Few b (onInitiate o l f find j (start n mark))
     unfolding onInitiate seek
-    few-initiate = few-cond b (eqb find 1) _ _ (few-cond b (ltb (degree o) (n .count + copiesSent)) _ _ (few-same b tells _ refl few-tells) few-seeks) few-tells
+    few-initiate = cond-has (Few b) (eqb find 1) _ _ (cond-has (Few b) (ltb (degree o) (n .count + copiesSent)) _ _ (few-same b tells _ refl few-tells) few-seeks) few-tells
 
   -- EVERY RESPONSE
   pub few-respond : (m : Msg) (j : ℕ) (n : Node) (mark : ℕ → ℕ) → Few b (respond o limit m j n mark)
   unfolding respondTo unlessAsleep
   few-respond (connect l) j n mark = few-more 2 b _ two (few-connect o limit j _ (few-awake o j _ (nothing n mark)) l)
-  few-respond (initiate l f find) j n mark = few-cond b (eqb (n .status) ASLEEP) _ _ (few-more 0 b _ (omega arith) (record { most = omega arith })) (few-initiate l f find j n mark)
+  few-respond (initiate l f find) j n mark = cond-has (Few b) (eqb (n .status) ASLEEP) _ _ (few-more 0 b _ (omega arith) (record { most = omega arith })) (few-initiate l f find j n mark)
   few-respond (test l f) j n mark = few-more 2 b _ two (few-tested o limit j _ (few-awake o j _ (nothing n mark)) l f)
-  few-respond accept j n mark = few-more 2 b _ two (few-cond 2 (eqb (n .status) ASLEEP) _ _ (record { most = omega arith }) (few-report 1 _ (record { most = omega arith })))
-  few-respond reject j n mark = few-more 2 b _ two (few-cond 2 (eqb (n .status) ASLEEP) _ _ (record { most = omega arith }) (few-test-on 1 _ _ (record { most = omega arith })))
-  few-respond (report x) j n mark = few-more 2 b _ two (few-cond 2 (eqb (n .status) ASLEEP) _ _ (record { most = omega arith }) (few-reported o limit j _ (record { most = omega arith }) x))
-  few-respond change j n mark = few-more 2 b _ two (few-cond 2 (eqb (n .status) ASLEEP) _ _ (record { most = omega arith }) (few-root 1 _ (record { most = omega arith })))
+  few-respond accept j n mark = few-more 2 b _ two (cond-has (Few 2) (eqb (n .status) ASLEEP) _ _ (record { most = omega arith }) (few-report 1 _ (record { most = omega arith })))
+  few-respond reject j n mark = few-more 2 b _ two (cond-has (Few 2) (eqb (n .status) ASLEEP) _ _ (record { most = omega arith }) (few-test-on 1 _ _ (record { most = omega arith })))
+  few-respond (report x) j n mark = few-more 2 b _ two (cond-has (Few 2) (eqb (n .status) ASLEEP) _ _ (record { most = omega arith }) (few-reported o limit j _ (record { most = omega arith }) x))
+  few-respond change j n mark = few-more 2 b _ two (cond-has (Few 2) (eqb (n .status) ASLEEP) _ _ (record { most = omega arith }) (few-root 1 _ (record { most = omega arith })))
 
   pub few-wakes : (n : Node) (mark : ℕ → ℕ) → Few b (wakes o n mark)
   few-wakes n mark = few-more 1 b _ (omega arith) (few-wakeup o none 0 _ (nothing n mark))

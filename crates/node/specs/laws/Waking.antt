@@ -3,8 +3,9 @@
 use Prim.Native.Nat.{ℕ, _+_}
 use mathlib.Core.Path.{_≡_, refl, _∙_}
 use mathlib.Core.Logic.{_≢_}
-use mathlib.Core.Bool.{Bool, true, false, cond, _&&_}
+use mathlib.Core.Bool.{_&&_}
 use lib.Dec.{eqb, ltb, leb}
+use Rattle.base.specs.laws.Cond.{cond-has}
 use Rattle.format_message.specs.Msg.{Msg, none, connect, initiate, test, accept, reject, report, change}
 use Rattle.node.specs.declared.Node.{Node}
 use Rattle.node.specs.Work.{Own, Work, ASLEEP, FIND, BASIC, BRANCH, REFUSED, before, start, number, earliest, anyEdge, branches, degree}
@@ -12,69 +13,65 @@ use Rattle.node.specs.Rules.{wakeOn, wakeup, doReport, testOn, changeRoo
 use Rattle.node.specs.laws.Rules.{awake-wakes, awake-is, asleep-refused, asleep-not}
 
 -- k is the waking edge so far
-record Woke (k : ℕ) (w : Work) : Type 0 where
+record WokenOver (k : ℕ) (w : Work) : Type 0 where
   is : w .node .waking ≡ k
 
 module _ {k : ℕ} where
-  either : (b : Bool) (w r : Work) → Woke k w → Woke k r → Woke k (cond b w r)
-  either true w r h i = h
-  either false w r h i = i
-
   -- another response with the same waking edge
-  same : (w r : Work) → r .node .waking ≡ w .node .waking → Woke k w → Woke k r
+  same : (w r : Work) → r .node .waking ≡ w .node .waking → WokenOver k w → WokenOver k r
   same w r e h = record { is = e ∙ h .is }
 
   -- no procedure but wakeup sets it
-  module _ (w : Work) (h : Woke k w) where
-    woke-report : Woke k (doReport w)
+  module _ (w : Work) (h : WokenOver k w) where
+    woke-report : WokenOver k (doReport w)
     unfolding doReport
-    woke-report = either (eqb (w .node .count) 0 && eqb (w .node .test) none) _ w
-        (either (eqb (w .node .branch) none) _ _ (same w _ refl h) (same w _ refl h)) h
+    woke-report = cond-has (WokenOver k) (eqb (w .node .count) 0 && eqb (w .node .test) none) _ w
+        (cond-has (WokenOver k) (eqb (w .node .branch) none) _ _ (same w _ refl h) (same w _ refl h)) h
 
-    woke-root : Woke k (changeRoot w)
+    woke-root : WokenOver k (changeRoot w)
     unfolding changeRoot
-    woke-root = either (eqb (w .node .best) none) _ _ (same w _ refl h)
-        (either (eqb (w .mark (w .node .best)) BRANCH) _ _ (same w _ refl h) (same w _ refl h))
+    woke-root = cond-has (WokenOver k) (eqb (w .node .best) none) _ _ (same w _ refl h)
+        (cond-has (WokenOver k) (eqb (w .mark (w .node .best)) BRANCH) _ _ (same w _ refl h) (same w _ refl h))
 
-  woke-test-on : (e : ℕ) (w : Work) → Woke k w → Woke k (testOn e w)
+  woke-test-on : (e : ℕ) (w : Work) → WokenOver k w → WokenOver k (testOn e w)
   unfolding testOn
-  woke-test-on e w h = either (eqb e none) _ _ (woke-report _ (same w _ refl h))
-      (either (eqb (w .node .level) 0) _ _ (same w _ refl h) (same w _ refl h))
+  woke-test-on e w h = cond-has (WokenOver k) (eqb e none) _ _ (woke-report _ (same w _ refl h))
+      (cond-has (WokenOver k) (eqb (w .node .level) 0) _ _ (same w _ refl h) (same w _ refl h))
 
-  module _ (o : Own) (limit j : ℕ) (w : Work) (h : Woke k w) where
-    woke-connect : (l : ℕ) → Woke k (onConnect o limit l j w)
+  module _ (o : Own) (limit j : ℕ) (w : Work) (h : WokenOver k w) where
+    woke-connect : (l : ℕ) → WokenOver k (onConnect o limit l j w)
     unfolding onConnect absorb countUp coreEnd
-    woke-connect l = either (ltb l (w .node .level)) _ _
-        (either (eqb (w .node .status) FIND) _ _
-        (either (ltb (degree o) (w .node .count + 1)) _ _ (same w _ refl h) (same w _ refl h))
+    woke-connect l = cond-has (WokenOver k) (ltb l (w .node .level)) _ _
+        (cond-has (WokenOver k) (eqb (w .node .status) FIND) _ _
+        (cond-has (WokenOver k) (ltb (degree o) (w .node .count + 1)) _ _ (same w _ refl h) (same w _ refl h))
         (same w _ refl h))
-        (either (eqb (w .mark j) BASIC) _ _ (same w _ refl h)
-        (either (leb limit (w .node .level)) _ _ (same w _ refl h) (same w _ refl h)))
+        (cond-has (WokenOver k) (eqb (w .mark j) BASIC) _ _ (same w _ refl h)
+        (cond-has (WokenOver k) (leb limit (w .node .level)) _ _ (same w _ refl h) (same w _ refl h)))
 
-    woke-initiate : (l f find : ℕ) → Woke k (onInitiate o l f find j w)
+    woke-initiate : (l f find : ℕ) → WokenOver k (onInitiate o l f find j w)
     unfolding onInitiate seek
-    woke-initiate l f find = either (eqb find 1) _ _
-        (either (ltb (degree o) (w .node .count + number o (branches j (w .mark)) (o.edges))) _ _ (same w _ refl h) (woke-test-on _ _ (same w _ refl h)))
+    woke-initiate l f find = cond-has (WokenOver k) (eqb find 1) _ _
+        (cond-has (WokenOver k) (ltb (degree o) (w .node .count + number o (branches j (w .mark)) (o.edges))) _ _ (same w _ refl h) (woke-test-on _ _ (same w _ refl h)))
         (same w _ refl h)
 
-    woke-tested : (l f : ℕ) → Woke k (onTest o l f j w)
+    woke-tested : (l f : ℕ) → WokenOver k (onTest o l f j w)
     unfolding onTest
-    woke-tested l f = either (ltb (w .node .level) l) _ _ (same w _ refl h)
-        (either (eqb f (w .node .identity)) _ _
-        (either (eqb (w .node .test) j) _ _ (woke-test-on _ _ (same w _ refl h)) (same w _ refl h))
+    woke-tested l f = cond-has (WokenOver k) (ltb (w .node .level) l) _ _ (same w _ refl h)
+        (cond-has (WokenOver k) (eqb f (w .node .identity)) _ _
+        (cond-has (WokenOver k) (eqb (w .node .test) j) _ _ (woke-test-on _ _ (same w _ refl h)) (same w _ refl h))
         (same w _ refl h))
 
-    woke-reported : (x : ℕ) → Woke k (onReport o x j w)
+    woke-reported : (x : ℕ) → WokenOver k (onReport o x j w)
     unfolding onReport childReport coreReport
-    woke-reported x = either (eqb j (w .node .branch)) _ _
-        (either (eqb (w .node .status) FIND) _ _ (same w _ refl h)
-        (either (before o (w .node .weight) x) _ _ (woke-root w h)
-        (either (eqb x none && eqb (w .node .weight) none) _ w (same w _ refl h) h)))
-        (either (eqb (w .node .count) 0) _ _ (same w _ refl h) (woke-report _ (same w _ refl h)))
+    woke-reported x = cond-has (WokenOver k) (eqb j (w .node .branch)) _ _
+        (cond-has (WokenOver k) (eqb (w .node .status) FIND) _ _ (same w _ refl h)
+        (cond-has (WokenOver k) (before o (w .node .weight) x) _ _ (woke-root w h)
+        (cond-has (WokenOver k) (eqb x none && eqb (w .node .weight) none) _ w (same w _ refl h) h)))
+        (cond-has (WokenOver k) (eqb (w .node .count) 0) _ _ (same w _ refl h) (woke-report _ (same w _ refl h)))
 
-woke-up : (o : Own) (j : ℕ) (w : Work) → Woke j (wakeup o j w)
+woke-up : (o : Own) (j : ℕ) (w : Work) → WokenOver j (wakeup o j w)
 unfolding wakeOn
-woke-up o j w = either (eqb (earliest o anyEdge (o.edges)) none) _ _ (record { is = refl }) (record { is = refl })
+woke-up o j w = cond-has (WokenOver j) (eqb (earliest o anyEdge (o.edges)) none) _ _ (record { is = refl }) (record { is = refl })
 
 module _ (o : Own) (limit j : ℕ) (w : Work) where
   -- "a put-back after that keeps the wake", and so does every other answer

@@ -2,25 +2,30 @@
 use Prim.Native.Nat.{ℕ, _≤_}
 use native.Mathlib.Omega.{arith}
 use mathlib.Core.Path.{_≡_, refl, sym, ap, subst}
-use mathlib.Core.Logic.{_↔_}
-use mathlib.Core.List.{List, [], _++_, append-nil, append-assoc, List·Memᴰ}
+use mathlib.Core.Logic.{_≢_, _⊎_, inl, inr, ⊎-elim}
+use mathlib.Core.List.{List, [], _∷_, _++_, append-nil, append-assoc, List·Memᴰ, List·Memᴰ·head, List·Memᴰ·tail, List·Memᴰ·not-nil}
 use lib.ListN.{length, replicate}
-use Rattle.base.specs.Pool.{nil}
-use Rattle.base.specs.laws.Pool.{All-map}
+use borrow.Author.Tests.{eq-eqb, ne-eqb}
+use Rattle.base.specs.None.{none}
+use Rattle.base.specs.Pool.{All, nil, con}
+use Rattle.base.specs.laws.Cond.{bool-cases, by-eq}
 use Rattle.base.specs.Twice.{nobody}
 use Rattle.plan.specs.Refusal.{planRefusal}
 use Rattle.plan.specs.laws.Accepted.{accepted}
-use Rattle.plan.specs.Links.{Plan}
+use Rattle.plan.specs.Links.{Plan, modulesOf, linksOf}
 use Rattle.node.specs.declared.Node.{Node}
+use Rattle.node.specs.Work.{ASLEEP}
 use Rattle.field.specs.Edges.{ceilingOf}
+use Rattle.field.specs.State.{State, nodeAt}
 use Rattle.field.specs.Held.{Held, fresh, stateOf}
 use Rattle.field_calls.specs.Call.{Call, after}
-use Rattle.field_calls.specs.Trail.{Taken, trail, Awake, wokenIn}
+use Rattle.field_calls.specs.Trail.{Taken, trail, wakesOne, Awake, wokenIn}
 use Rattle.field_laws.specs.After.{fresh-node, started, begun-live, list-tells}
 use Rattle.field_laws.specs.Laid.{waiting-zeros, live-sound}
-use Rattle.field_roundlaws.specs.Awake.{exactly-woken}
-use Rattle.waking.specs.Claim.{WakingClaim, WhoWokeWhom}
-use Rattle.waking.specs.laws.Step.{WokenBy, step-waking}
+use Rattle.field_roundlaws.specs.Awake.{all-member}
+use Rattle.waking.specs.Claim.{wakingLink, wakingIn, WakingClaim, WhoWokeWhom}
+use Rattle.waking.specs.laws.Chain.{chain-worked-out, chain-short}
+use Rattle.waking.specs.laws.Step.{WokenAsTold, WokenBy, step-waking}
 
 -- nobody is awake at a setup that is not refused, and no word waits
 module _ (p : Plan) (lent : List ℕ) (a : planRefusal p ≡ 0) (room : ceilingOf p ≤ length lent) where
@@ -51,16 +56,36 @@ module _ (p : Plan) (lent : List ℕ) (a : planRefusal p ≡ 0) (room : ceilingO
       (λ kind number s l b. step-waking p (accepted p a) kind number s l b)
       calls _ (begun-live p lent a room) refl [] begins
 
+-- the waking link by the steps taken, where a module that they did not wake has none
+module _ (p : Plan) (s : State) (v : ℕ) where
+  told-in : (l : List Taken) → All (WokenAsTold p s) l → List·Memᴰ v (wokenIn p l) ⊎ (nodeAt s v .waking ≡ none) → nodeAt s v .waking ≡ wakingIn p l v
+  unfolding wokenIn wakingIn
+  told-in [] nil (inl i) = absurd (List·Memᴰ·not-nil i)
+  told-in [] nil (inr e) = e
+  told-in (t ∷ l) (con h k) c = bool-cases (wakesOne p t)
+      (λ yes. by-eq (t .number) v
+      (λ e. rw (yes, eq-eqb _ v e) (subst (λ u. nodeAt s u .waking ≡ wakingLink p t) e (h yes .1)))
+      (λ n. rw (yes, ne-eqb _ v n) (told-in l k (⊎-elim (λ i. inl (behind n (rw yes at i))) inr c))))
+      (λ not. rw not (told-in l k (⊎-elim (λ i. inl (rw not at i)) inr c)))
+    where
+      behind : {u : ℕ} {m : List ℕ} → u ≢ v → List·Memᴰ v (u ∷ m) → List·Memᴰ v m
+      behind n (List·Memᴰ·head e) = absurd (n (sym e))
+      behind n (List·Memᴰ·tail i) = i
+
 -- THE CLAIM
 pub who-woke-whom : WhoWokeWhom
 who-woke-whom p lent z calls =
-    let s = started p lent z in
-    subst (λ h. WakingClaim p h calls) (sym (s .is))
-    (let b = list-waking p lent (s .plan) (s .room) calls in
+    let y = started p lent z in
+    let few : linksOf p ≤ none = omega (arith, accepted p (y .plan) .linksOk) in
+    subst (λ h. WakingClaim p h calls) (sym (y .is))
+    (let b = list-waking p lent (y .plan) (y .room) calls in
+    let h : Held = record { field = fresh p; words = replicate (length lent) 0 } in
+    let s = stateOf (after calls h) in
+    let l = trail calls h in
     record {
-      woken = All-map (λ t h e. h e .1) (b .told);
-      asleep = λ v l. b .sound .fits .nodes v l .unwoken;
-      exactly = λ v. subst (λ h. Awake p (stateOf (after calls h)) v ↔ List·Memᴰ v (wokenIn p (trail calls h))) (s .is) (exactly-woken p lent z calls v);
+      told = λ v i. told-in p s v l (b .told) (by-eq (nodeAt s v .status) ASLEEP (λ e. inr (b .sound .fits .nodes v i .unwoken e)) (λ n. inl (b .members v (record { within = i; awake = n }))));
+      exactly = λ v. (b .members v, all-member (b .awake));
       once = b .once;
       traced = b .traced;
+      followed = λ v k. chain-worked-out p few s l (modulesOf p) (b .traced v k .follows) (b .traced v k .different) (chain-short p few s l v (b .traced v k));
     })

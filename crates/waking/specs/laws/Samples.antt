@@ -1,21 +1,17 @@
--- Samples of request 05, computed on a triangle: every module's values after rounds to rest, who was woken and by which link (`waking-samples`); what 31 says
--- of a waking link (`waking-31`).
+-- Samples of request 05, computed on a triangle: every module's values after rounds to rest, who was woken and by which link, the chains
+-- (`waking-samples`).
 use Prim.Native.Nat.{ℕ}
 use mathlib.Core.Path.{_≡_, refl}
-use mathlib.Core.Bool.{Bool, true, false}
 use mathlib.Core.List.{List, [], _∷_, map}
 use lib.ListN.{replicate}
 use Rattle.base.specs.None.{none}
-use Rattle.base.specs.Keep.{keep}
 use Rattle.plan.specs.laws.Samples.{worseReading}
-use Rattle.node.specs.declared.Node.{Node}
 use Rattle.node.specs.Work.{setup, values}
 use Rattle.field.specs.State.{nodeAt}
-use Rattle.field.specs.Valid.{nodeFits}
 use Rattle.field.specs.Held.{Held, stateOf, setUp}
 use Rattle.field_calls.specs.Call.{Call, one, run, rounds, after}
-use Rattle.field_calls.specs.Trail.{trail, wakesOne, wokenIn}
-use Rattle.waking.specs.Claim.{wakingLink, byWakeSteps}
+use Rattle.field_calls.specs.Trail.{trail, wokenIn}
+use Rattle.waking.specs.Claim.{wakingLink, wakingIn, byWakeSteps, chainFrom}
 use Rattle.base.specs.Cond as base1
 use Rattle.base.specs.Keep as base2
 use Rattle.base.specs.Log as base3
@@ -45,11 +41,12 @@ begun = setUp worseReading (replicate 21 0) .state
 
 pub record WakingRow : Type 0 where
   pub calls : List Call
-  -- each module's values; who was woken, and by wake steps; the waking link of each that was woken
+  -- each module's values; who was woken, and by wake steps; the waking links by the steps taken; the chain from each module
   pub shown : List (List ℕ)
   pub woken : List ℕ
   pub roots : List ℕ
   pub links : List ℕ
+  pub chains : List (List ℕ)
 
 abbrev computed : List Call → WakingRow
 computed calls =
@@ -60,7 +57,8 @@ computed calls =
       shown = values (nodeAt s 0) ∷ values (nodeAt s 1) ∷ values (nodeAt s 2) ∷ [];
       woken = wokenIn worseReading l;
       roots = byWakeSteps l;
-      links = map (wakingLink worseReading) (keep (wakesOne worseReading) l);
+      links = map (wakingIn worseReading l) (0 ∷ 1 ∷ 2 ∷ []);
+      chains = map (chainFrom worseReading s 3) (0 ∷ 1 ∷ 2 ∷ []);
     }
 
 abbrev asleep : List ℕ
@@ -78,6 +76,7 @@ rows =
       woken = 0 ∷ 1 ∷ 2 ∷ [];
       roots = 0 ∷ [];
       links = none ∷ 0 ∷ 1 ∷ [];
+      chains = (0 ∷ []) ∷ (1 ∷ 0 ∷ []) ∷ (2 ∷ 0 ∷ []) ∷ [];
     }
     -- two are woken by wake steps, refused ones among them; 0 serves 1's Connect and keeps none
     ∷ record {
@@ -88,7 +87,8 @@ rows =
           ∷ asleep ∷ [];
       woken = 0 ∷ 1 ∷ [];
       roots = 0 ∷ 1 ∷ [];
-      links = none ∷ none ∷ [];
+      links = none ∷ none ∷ none ∷ [];
+      chains = (0 ∷ []) ∷ (1 ∷ []) ∷ (2 ∷ []) ∷ [];
     }
     -- 2 is woken, its Connect over link 2 wakes 1 in a run; nobody wakes 0
     ∷ record {
@@ -99,42 +99,11 @@ rows =
           ∷ (2 ∷ 0 ∷ none ∷ none ∷ none ∷ none ∷ none ∷ 0 ∷ 0 ∷ none ∷ []) ∷ [];
       woken = 2 ∷ 1 ∷ [];
       roots = 2 ∷ [];
-      links = none ∷ 2 ∷ [];
+      links = none ∷ 2 ∷ none ∷ [];
+      chains = (0 ∷ []) ∷ (1 ∷ 2 ∷ []) ∷ (2 ∷ []) ∷ [];
     }
     ∷ []
 
 pub waking-samples : map (λ r. computed (r .calls)) rows ≡ rows
-unfolding wakingLink base1.upd base2.keep base2.place base2.many base3.log2-to base3.log2 base4.then base4.loop base4.runs base4.loopTrace base4.runsTrace base5.every graph1.label graph1.joinedOver graph1.connected message1.partsOf message1.msgOf message2.bare message2.listedAs message2.listed plan1.ascends plan1.inOrder plan1.linkVerdict plan1.linksRefusal plan1.planRefusal base7.beforeBy plan2.cost plan2.earlier node1.wakeOn node1.awake node1.doReport node1.testOn node1.changeRoot node1.countUp node1.absorb node1.coreEnd node1.onConnect node1.seek node1.onInitiate node1.onTest node1.childReport node1.coreReport node1.onReport node1.unlessAsleep node1.respondTo node2.earliest node2.number node2.onEach field0.isOwn field0.endOf field0.marksIn field1.newMarks field2.carryOut field2.wake field2.hand field2.backOf field2.serve field2.step field3.allOf field3.waitingIn field3.wordFits field3.nodeFits field3.fits field4.valid field4.freshCells field4.setUp field4.stepAlone calls1.scheduleRefusal calls2.handTurn calls2.serveTurn calls2.round calls3.runBytes calls3.runRounds calls3.does calls3.after calls4.ifTaken calls4.handTurnSteps calls4.serveTurnSteps calls4.roundSteps calls4.stepsOf calls4.trail calls4.wakesOne calls4.wokenIn
+unfolding wakingLink wakingIn chainFrom base1.upd base2.keep base2.place base2.many base3.log2-to base3.log2 base4.then base4.loop base4.runs base4.loopTrace base4.runsTrace base5.every graph1.label graph1.joinedOver graph1.connected message1.partsOf message1.msgOf message2.bare message2.listedAs message2.listed plan1.ascends plan1.inOrder plan1.linkVerdict plan1.linksRefusal plan1.planRefusal base7.beforeBy plan2.cost plan2.earlier node1.wakeOn node1.awake node1.doReport node1.testOn node1.changeRoot node1.countUp node1.absorb node1.coreEnd node1.onConnect node1.seek node1.onInitiate node1.onTest node1.childReport node1.coreReport node1.onReport node1.unlessAsleep node1.respondTo node2.earliest node2.number node2.onEach field0.isOwn field0.endOf field0.marksIn field1.newMarks field2.carryOut field2.wake field2.hand field2.backOf field2.serve field2.step field3.allOf field3.waitingIn field3.wordFits field3.nodeFits field3.fits field4.valid field4.freshCells field4.setUp field4.stepAlone calls1.scheduleRefusal calls2.handTurn calls2.serveTurn calls2.round calls3.runBytes calls3.runRounds calls3.does calls3.after calls4.ifTaken calls4.handTurnSteps calls4.serveTurnSteps calls4.roundSteps calls4.stepsOf calls4.trail calls4.wakesOne calls4.wokenIn
 waking-samples = refl
-
--- module 0 of the triangle, whose own links are 0 and 1, with a status and a waking link; and whether 31 lets it pass
-pub record FitsRow : Type 0 where
-  pub status : ℕ
-  pub waking : ℕ
-  pub passes : Bool
-
-abbrev node : FitsRow → Node
-node r =
-    record { status = r .status; level = 0; identity = none; weight = none; best = none; test = none; branch = none; count = 0; halted = 0; waking = r .waking }
-
-abbrev fitsRow : ℕ → ℕ → Bool → FitsRow
-fitsRow status waking passes = record { status = status; waking = waking; passes = passes }
-
-abbrev fitsRows : List FitsRow
-fitsRows =
-    -- awake: none or any own link; not another's, not a number that is no link
-    fitsRow 2 none true
-    ∷ fitsRow 2 0 true
-    ∷ fitsRow 1 1 true
-    ∷ fitsRow 2 2 false
-    ∷ fitsRow 2 3 false
-    ∷ fitsRow 1 65534 false
-    -- asleep: none
-    ∷ fitsRow 0 none true
-    ∷ fitsRow 0 0 false
-    ∷ fitsRow 0 1 false
-    ∷ []
-
-pub waking-31 : map (λ r. nodeFits worseReading 0 (node r)) fitsRows ≡ map (λ r. r .passes) fitsRows
-unfolding base3.log2-to base3.log2 node2.number field0.isOwn field3.nodeFits
-waking-31 = refl

@@ -1,6 +1,5 @@
 -- What a step leaves of who woke whom: every step, taken or refused, keeps it (`step-waking`).
 use Prim.Native.Nat.{ℕ}
-use native.Mathlib.Omega.{arith}
 use mathlib.Core.Path.{_≡_, refl, sym, ap, subst, _∙_}
 use mathlib.Core.Logic.{_≢_}
 use mathlib.Core.Bool.{true, false, cond, true≢false}
@@ -27,7 +26,7 @@ use Rattle.node.specs.Work.{Send, ASLEEP, start}
 use Rattle.node.specs.laws.Waking.{waking-kept, waking-set, waking-none}
 use Rattle.field.specs.Edges.{ownOf, linkOf, limitOf, from}
 use Rattle.field.specs.State.{State, nodeAt, markAt, msgIn, posted}
-use Rattle.field.specs.Step.{WAKE, HAND, SERVE, wakeWork, serveWork, step}
+use Rattle.field.specs.Step.{WAKE, HAND, SERVE, serveWork, step}
 use Rattle.field.specs.Valid.{wordFits}
 use Rattle.field_calls.specs.Trail.{Taken, stepTaken, ifTaken, wakesOne, Awake, wokenIn}
 use Rattle.field_laws.specs.Cases.{Woke, Served, HandedOver, refusal-not-0, StepOutcome, took, kept, FieldStep, wake-step, hand-step, serve-step, step-outcome}
@@ -35,9 +34,10 @@ use Rattle.field_laws.specs.Chan.{queue-parts}
 use Rattle.field_laws.specs.Fits.{send-packs, word-link, word-shaped}
 use Rattle.field_laws.specs.Keeps.{Sound, wake-ok, serve-ok, back-all, step-sound}
 use Rattle.field_laws.specs.Lists.{SendOk}
-use Rattle.field_laws.specs.Places.{node-same, from-over, directed-joins}
+use Rattle.field_laws.specs.Places.{from-over}
+use Rattle.field_laws.specs.Ends.{directed-joins}
 use Rattle.field_laws.specs.Sends.{word-parts}
-use Rattle.field_roundlaws.specs.Awake.{Responded, awake-stays, woke-responds, served-responds, serve-wakes, woken-app}
+use Rattle.field_roundlaws.specs.Awake.{awake-as, Responded, node-woken, awake-stays, awake-before, woke-responds, served-responds, serve-wakes, woken-app}
 use Rattle.field_roundlaws.specs.Progress.{node-after}
 use Rattle.waking.specs.Claim.{wakingLink, byWakeSteps, Before, TracedBack}
 use Rattle.waking.specs.laws.Follow.{before-app, Grown, traced-on, traced-more, traced-root}
@@ -81,9 +81,6 @@ module _ (p : Plan) (a : Accepted p) {l : List Taken} {s : State} (b : WokenBy p
         (λ u k. by-eq u v
         (λ e. subst (λ d. nodeAt s′ d .waking ≡ nodeAt s d .waking) (sym e) (same (subst (Awake p s) e k)))
         (λ n. ap (λ (m : Node). m .waking) (r .other u n)))
-
-    others-were : (u : ℕ) → u ≢ v → Awake p s′ u → Awake p s u
-    others-were u n k = record { within = k .within; awake = λ z. k .awake (ap (λ (m : Node). m .status) (r .other u n) ∙ z) }
 
   -- whoever sent the words of v's response is awake
   sent-awake : (v : ℕ) {ss : List Send} → All (SendOk (ownOf p v) (limitOf p)) ss → Awake p s′ v → All (λ w. Awake p s′ (from p (linkIn w))) (posted p v ss)
@@ -144,13 +141,11 @@ module _ (p : Plan) (a : Accepted p) {l : List Taken} {s : State} (b : WokenBy p
       let t = stepTaken WAKE v s in
       let r = woke-responds p a s s′ i v h in
       let g = responded p a b s′ t v r (λ k. absurd (k .awake (h .asleep))) in
-      let w = wakeWork p v s in
-      let unlinked : nodeAt s′ v .waking ≡ none =
-      ap (λ y. nodeAt y v .waking) (h .responds .is) ∙ ap (λ (m : Node). m .waking) (node-same (s .cells) v (w .node) (omega (arith, i .sized .cells, h .within))) ∙ waking-none (ownOf p v) (nodeAt s v) (markAt p s v) in
+      let unlinked : nodeAt s′ v .waking ≡ none = ap (λ (m : Node). m .waking) (node-woken p a s s′ i v h) ∙ waking-none (ownOf p v) (nodeAt s v) (markAt p s v) in
       by-one p a b s′ t g (step-sound p a s i WAKE v s′ (wake-step h))
       (subst (λ y. All (λ x. Awake p s′ (from p (linkIn x))) (y .words)) (sym (h .responds .is))
       (All-app (All-app (All-map (λ x. g .stays (from p (linkIn x))) (b .senders)) (sent-awake p a b s′ t v (wake-ok p a s i v (h .within) .sends) (r .now))) nil))
-      refl (h .asleep) (r .now) (others-were p a b s′ t v r (λ k. absurd (k .awake (h .asleep)))) unlinked
+      refl (h .asleep) (r .now) (awake-before p a s s′ (b .sound) v r) unlinked
       (traced-root p s′ (l ++ (t ∷ [])) v (r .now) unlinked (subst (List·Memᴰ v) (sym (steps-app l (t ∷ []))) (Memᴰ·append-right (byWakeSteps l) (List·Memᴰ·head refl))))
 
   by-hand : (d : ℕ) → HandedOver p d s s′ → WokenBy p (l ++ (stepTaken HAND d s ∷ [])) s′
@@ -159,15 +154,14 @@ module _ (p : Plan) (a : Accepted p) {l : List Taken} {s : State} (b : WokenBy p
       let i = b .sound in
       let t = stepTaken HAND d s in
       let same : (v : ℕ) → nodeAt s′ v ≡ nodeAt s v = λ v. ap (λ y. nodeAt y v) (h .is) in
-      let there : (v : ℕ) → Awake p s v → Awake p s′ v = λ v k. record { within = k .within; awake = λ e. k .awake (sym (ap (λ (m : Node). m .status) (same v)) ∙ e) } in
-      let back : (v : ℕ) → Awake p s′ v → Awake p s v = λ v k. record { within = k .within; awake = λ e. k .awake (ap (λ (m : Node). m .status) (same v) ∙ e) } in
+      let there : (v : ℕ) → Awake p s v → Awake p s′ v = λ v k. awake-as (same v) k in
       let g = grown p a b s′ t there (λ v k. ap (λ (m : Node). m .waking) (same v)) in
       let o = first-out (h .first) in
       let raised = over (h .word) (eqb-true _ 1 (word-shaped p (h .word) (All-here o (i .fits .words)))) in
       by-none p a b s′ t g (step-sound p a s i HAND d s′ (hand-step h))
       (subst (λ y. All (λ x. Awake p s′ (from p (linkIn x))) (y .words)) (sym (h .is))
       (All-app (All-map (λ x. there (from p (linkIn x))) (All-rest o (b .senders))) (All-one (subst (λ e. Awake p s′ (from p e)) (sym (raised .link)) (there _ (All-here o (b .senders)))))))
-      refl back
+      refl (λ v k. awake-as (sym (same v)) k)
 
   module _ (v : ℕ) (h : Served p v s s′) where
     abbrev x : ℕ
@@ -207,7 +201,7 @@ module _ (p : Plan) (a : Accepted p) {l : List Taken} {s : State} (b : WokenBy p
         ap (λ (m : Node). m .waking) (node-after p a s s′ v (b .sound) h) ∙ waking-kept (ownOf p v) (limitOf p) k (start (nodeAt s v) (markAt p s v)) (msgIn x) n in
         let g = responded p a b s′ t v r (λ q. same) in
         by-none p a b s′ t g (step-sound p a s (b .sound) SERVE v s′ (serve-step h)) (after-serving g) (not-woken n)
-        (λ u q. by-eq u v (λ e. subst (Awake p s) (sym e) (record { within = h .within; awake = n })) (λ d. others-were p a b s′ t v r (λ z. same) u d q))
+        (λ u q. by-eq u v (λ e. subst (Awake p s) (sym e) (record { within = h .within; awake = n })) (λ d. awake-before p a s s′ (b .sound) v r u d q))
 
     -- v slept: the message from u woke it
     by-message : nodeAt s v .status ≡ ASLEEP → WokenBy p (l ++ (t ∷ [])) s′
@@ -217,7 +211,7 @@ module _ (p : Plan) (a : Accepted p) {l : List Taken} {s : State} (b : WokenBy p
         let up : Awake p s u = All-here (first-out (h .first)) (b .senders) in
         let g = responded p a b s′ t v r (λ q. absurd (q .awake z)) in
         let yes = serve-wakes p s s′ v h z in
-        let back = others-were p a b s′ t v r (λ q. absurd (q .awake z)) in
+        let back = awake-before p a s s′ (b .sound) v r in
         let link : nodeAt s′ v .waking ≡ k =
         ap (λ (m : Node). m .waking) (node-after p a s s′ v (b .sound) h) ∙ waking-set (ownOf p v) (limitOf p) k (start (nodeAt s v) (markAt p s v)) (msgIn x) z (h .responds .fine) in
         let leads = flip (subst (λ y. Joins (graphOf p) k u y) (queue-parts p v x (first-passes (h .first)) .1) (directed-joins p (linkIn x) (word-link p x fits))) in
