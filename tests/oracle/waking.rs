@@ -1,4 +1,4 @@
-//! Who woke whom, kept beside a field from what its steps did and without a look at the modules' own values: what request
+//! Who woke whom, kept beside a field from what its steps did and without a look at the modules' waking links: what request
 //! 05's waking link is held against. Standard term: the parent edge in the wake-up forest.
 
 use crate::cue::other_end;

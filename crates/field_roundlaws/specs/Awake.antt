@@ -34,7 +34,7 @@ use Rattle.field_laws.specs.After.{fresh-node, started, begun-live, list-tells}
 use Rattle.field_roundlaws.specs.Steady.{steady-wake, refused-asleep}
 use Rattle.field_roundlaws.specs.Progress.{awake-now, other-after}
 
--- who has the same status is as awake
+-- who has the same values is as awake
 pub awake-as : {p : Plan} {x y : State} {v : ℕ} → nodeAt y v ≡ nodeAt x v → Awake p x v → Awake p y v
 awake-as e k = record { within = k .within; awake = λ z. k .awake (sym (ap (λ (n : Node). n .status) e) ∙ z) }
 

@@ -45,14 +45,13 @@ pub data Follows (p : Plan) (s : State) (l : List Taken) : List ℕ → Type 0 w
   -- v's waking link leads to its other end u, and u was woken before v
   on : {v u : ℕ} {rest : List ℕ} → Joins (graphOf p) (nodeAt s v .waking) v u → Before u v (wokenIn p l) → Follows p s l (u ∷ rest) → Follows p s l (v ∷ (u ∷ rest))
 
--- "following these links from any awake module ends at one that a wake step woke, without returning to a module": v's chain
-pub record TracedBack (p : Plan) (s : State) (l : List Taken) (v : ℕ) : Type 0 where
-  pub rest : List ℕ
-  pub follows : Follows p s l (v ∷ rest)
-  pub awake : All (Awake p s) (v ∷ rest)
-  pub different : NoTwice (v ∷ rest)
+-- a chain of waking links: "without returning to a module"
+pub record Chain (p : Plan) (s : State) (l : List Taken) (vs : List ℕ) : Type 0 where
+  pub follows : Follows p s l vs
+  pub awake : All (Awake p s) vs
+  pub different : NoTwice vs
 
--- the same worked out: v and the modules that the waking links lead to from it, n links at most
+-- v and the modules that the waking links lead to from it, n links at most
 unfoldable pub chainFrom : Plan → State → ℕ → ℕ → List ℕ
 chainFrom p s zero v = v ∷ []
 chainFrom p s (suc n) v =
@@ -67,9 +66,9 @@ pub record WakingClaim (p : Plan) (start : Held) (calls : List Call) : Type 0 wh
   pub exactly : (v : ℕ) → Awake p (stateOf (after calls start)) v ↔ List·Memᴰ v (wokenIn p (trail calls start))
   pub once : NoTwice (wokenIn p (trail calls start))
   -- "From setup, following these links from any awake module ends at one that a wake step woke, without returning to a module."
-  pub traced : (v : ℕ) → Awake p (stateOf (after calls start)) v → TracedBack p (stateOf (after calls start)) (trail calls start) v
-  -- (worked out: N links are enough)
-  pub followed : (v : ℕ) (a : Awake p (stateOf (after calls start)) v) → chainFrom p (stateOf (after calls start)) (modulesOf p) v ≡ v ∷ traced v a .rest
+  -- (N links are enough)
+  pub traced : (v : ℕ) → Awake p (stateOf (after calls start)) v
+      → Chain p (stateOf (after calls start)) (trail calls start) (chainFrom p (stateOf (after calls start)) (modulesOf p) v)
 
 -- for every setup that is not refused, and every list of calls from it
 abbrev pub WhoWokeWhom : Type 0

@@ -1,7 +1,7 @@
--- A chain of waking links worked out: `chainFrom` comes to just its modules (`chain-worked-out`), of which there are N at most (`chain-short`).
+-- A chain of waking links worked out: `chainFrom` comes to just its modules (`chain-worked-out`); N links are enough, as there are N modules at most (`chain-found`).
 use Prim.Native.Nat.{ℕ, zero, suc, _≤_}
 use native.Mathlib.Omega.{arith}
-use mathlib.Core.Path.{_≡_, refl, ap}
+use mathlib.Core.Path.{_≡_, refl, sym, ap, subst}
 use mathlib.Core.List.{List, _∷_}
 use lib.ListN.{length}
 use borrow.Author.Tests.{eq-eqb, ne-eqb}
@@ -15,7 +15,8 @@ use Rattle.plan.specs.Links.{Plan, modulesOf, linksOf}
 use Rattle.field.specs.State.{State, nodeAt}
 use Rattle.field_calls.specs.Trail.{Taken}
 use Rattle.field_laws.specs.Ends.{end-leads}
-use Rattle.waking.specs.Claim.{Follows, ends, on, TracedBack, chainFrom}
+use Rattle.waking.specs.Claim.{Follows, ends, on, Chain, chainFrom}
+use Rattle.waking.specs.laws.Follow.{TracedBack}
 
 module _ (p : Plan) (few : linksOf p ≤ none) (s : State) (l : List Taken) where
   pub chain-worked-out : (n : ℕ) {v : ℕ} {rest : List ℕ} → Follows p s l (v ∷ rest) → NoTwice (v ∷ rest) → length rest ≤ n → chainFrom p s n v ≡ v ∷ rest
@@ -26,6 +27,9 @@ module _ (p : Plan) (few : linksOf p ≤ none) (s : State) (l : List Taken) wher
   chain-worked-out (suc n) (on {v} {u} j b f) (another (con n′ t) d) h =
       rw (ne-eqb (nodeAt s v .waking) none (λ e. omega (arith, joins-lt j)), end-leads p n′ j) (ap (λ r. v ∷ r) (chain-worked-out n f d (omega arith)))
 
-  -- modules below N, all different
-  pub chain-short : (v : ℕ) (t : TracedBack p s l v) → length (t .rest) ≤ modulesOf p
-  chain-short v t = omega (arith, NoTwice-most (modulesOf p) (t .different) (All-map (λ u k. k .within) (t .awake)))
+  -- N modules at most, as all are below N and different
+  pub chain-found : (v : ℕ) → TracedBack p s l v → Chain p s l (chainFrom p s (modulesOf p) v)
+  chain-found v t =
+      let c = t .chain in
+      let short : length (v ∷ t .rest) ≤ modulesOf p = NoTwice-most (modulesOf p) (c .different) (All-map (λ u k. k .within) (c .awake)) in
+      subst (Chain p s l) (sym (chain-worked-out (modulesOf p) (c .follows) (c .different) (omega arith))) c

@@ -12,7 +12,7 @@ use Rattle.base.specs.laws.Cond.{bool-cases, by-eq}
 use Rattle.base.specs.Twice.{nobody}
 use Rattle.plan.specs.Refusal.{planRefusal}
 use Rattle.plan.specs.laws.Accepted.{accepted}
-use Rattle.plan.specs.Links.{Plan, modulesOf, linksOf}
+use Rattle.plan.specs.Links.{Plan, linksOf}
 use Rattle.node.specs.declared.Node.{Node}
 use Rattle.node.specs.Work.{ASLEEP}
 use Rattle.field.specs.Edges.{ceilingOf}
@@ -24,7 +24,7 @@ use Rattle.field_laws.specs.After.{fresh-node, started, begun-live, list-tells}
 use Rattle.field_laws.specs.Laid.{waiting-zeros, live-sound}
 use Rattle.field_roundlaws.specs.Awake.{all-member}
 use Rattle.waking.specs.Claim.{wakingLink, wakingIn, WakingClaim, WhoWokeWhom}
-use Rattle.waking.specs.laws.Chain.{chain-worked-out, chain-short}
+use Rattle.waking.specs.laws.Chain.{chain-found}
 use Rattle.waking.specs.laws.Step.{WokenAsTold, WokenBy, step-waking}
 
 -- nobody is awake at a setup that is not refused, and no word waits
@@ -83,9 +83,9 @@ who-woke-whom p lent z calls =
     let s = stateOf (after calls h) in
     let l = trail calls h in
     record {
-      told = λ v i. told-in p s v l (b .told) (by-eq (nodeAt s v .status) ASLEEP (λ e. inr (b .sound .fits .nodes v i .unwoken e)) (λ n. inl (b .members v (record { within = i; awake = n }))));
+      told = λ v i. told-in p s v l (b .told)
+          (by-eq (nodeAt s v .status) ASLEEP (λ e. inr (b .sound .fits .nodes v i .unwoken e)) (λ n. inl (b .members v (record { within = i; awake = n }))));
       exactly = λ v. (b .members v, all-member (b .awake));
       once = b .once;
-      traced = b .traced;
-      followed = λ v k. chain-worked-out p few s l (modulesOf p) (b .traced v k .follows) (b .traced v k .different) (chain-short p few s l v (b .traced v k));
+      traced = λ v k. chain-found p few s l v (b .traced v k);
     })

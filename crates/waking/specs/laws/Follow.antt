@@ -12,7 +12,7 @@ use Rattle.plan.specs.Links.{Plan, graphOf}
 use Rattle.node.specs.Work.{ASLEEP}
 use Rattle.field.specs.State.{State, nodeAt}
 use Rattle.field_calls.specs.Trail.{Taken, Awake, wokenIn}
-use Rattle.waking.specs.Claim.{byWakeSteps, Before, here, later, Follows, ends, on, TracedBack}
+use Rattle.waking.specs.Claim.{byWakeSteps, Before, here, later, Follows, ends, on, Chain}
 
 -- ---- the order in which modules were woken
 
@@ -25,6 +25,12 @@ pub before-last : {u v : ℕ} (l : List ℕ) → List·Memᴰ u l → Before u v
 before-last [] i = absurd (List·Memᴰ·not-nil i)
 before-last {u} {v} (x ∷ l) (List·Memᴰ·head e) = subst (λ y. Before u v (y ∷ (l ++ (v ∷ [])))) e (here (Memᴰ·append-right l (List·Memᴰ·head refl)))
 before-last (x ∷ l) (List·Memᴰ·tail i) = later (before-last l i)
+
+-- ---- v's chain
+
+pub record TracedBack (p : Plan) (s : State) (l : List Taken) (v : ℕ) : Type 0 where
+  pub rest : List ℕ
+  pub chain : Chain p s l (v ∷ rest)
 
 -- ---- from the state x, where the steps l were taken before, to y, where l′ were
 
@@ -40,18 +46,24 @@ module _ {p : Plan} {x y : State} {l l′ : List Taken} (g : Grown p x l y l′)
   follows-on (con a t) (on {v} {u} j b f) = on (subst (λ k. Joins (graphOf p) k v u) (sym (g .keeps v a)) j) (g .order u v b) (follows-on t f)
 
   pub traced-on : (v : ℕ) → TracedBack p x l v → TracedBack p y l′ v
-  traced-on v t = record { rest = t .rest; follows = follows-on (t .awake) (t .follows); awake = All-map (g .stays) (t .awake); different = t .different }
+  traced-on v t =
+      let c = t .chain in
+      record { rest = t .rest; chain = record { follows = follows-on (c .awake) (c .follows); awake = All-map (g .stays) (c .awake); different = c .different } }
 
   -- v slept, and was woken over the link k to u
   pub traced-more : (v u k : ℕ) → nodeAt x v .status ≡ ASLEEP → Awake p y v → nodeAt y v .waking ≡ k → Joins (graphOf p) k v u
       → List·Memᴰ u (wokenIn p l) → wokenIn p l′ ≡ wokenIn p l ++ (v ∷ []) → TracedBack p x l u → TracedBack p y l′ v
-  traced-more v u k z a e j i q t = record {
-    rest = u ∷ t .rest;
-    follows = on (subst (λ d. Joins (graphOf p) d v u) (sym e) j) (subst (Before u v) (sym q) (before-last (wokenIn p l) i)) (follows-on (t .awake) (t .follows));
-    awake = con a (All-map (g .stays) (t .awake));
-    different = another (All-map (λ w b e′. b .awake (subst (λ d. nodeAt x d .status ≡ ASLEEP) e′ z)) (t .awake)) (t .different);
-  }
+  traced-more v u k z a e j i q t =
+      let c = t .chain in
+      record {
+        rest = u ∷ t .rest;
+        chain = record {
+          follows = on (subst (λ d. Joins (graphOf p) d v u) (sym e) j) (subst (Before u v) (sym q) (before-last (wokenIn p l) i)) (follows-on (c .awake) (c .follows));
+          awake = con a (All-map (g .stays) (c .awake));
+          different = another (All-map (λ w b e′. b .awake (subst (λ d. nodeAt x d .status ≡ ASLEEP) e′ z)) (c .awake)) (c .different);
+        };
+      }
 
 -- a chain of one: a wake step woke it
 pub traced-root : (p : Plan) (s : State) (l : List Taken) (v : ℕ) → Awake p s v → nodeAt s v .waking ≡ none → List·Memᴰ v (byWakeSteps l) → TracedBack p s l v
-traced-root p s l v a e i = record { rest = []; follows = ends e i; awake = con a nil; different = NoTwice-one v }
+traced-root p s l v a e i = record { rest = []; chain = record { follows = ends e i; awake = con a nil; different = NoTwice-one v } }

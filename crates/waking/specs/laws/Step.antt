@@ -39,8 +39,8 @@ use Rattle.field_laws.specs.Ends.{directed-joins}
 use Rattle.field_laws.specs.Sends.{word-parts}
 use Rattle.field_roundlaws.specs.Awake.{awake-as, Responded, node-woken, awake-stays, awake-before, woke-responds, served-responds, serve-wakes, woken-app}
 use Rattle.field_roundlaws.specs.Progress.{node-after}
-use Rattle.waking.specs.Claim.{wakingLink, byWakeSteps, Before, TracedBack}
-use Rattle.waking.specs.laws.Follow.{before-app, Grown, traced-on, traced-more, traced-root}
+use Rattle.waking.specs.Claim.{wakingLink, byWakeSteps, Before}
+use Rattle.waking.specs.laws.Follow.{before-app, TracedBack, Grown, traced-on, traced-more, traced-root}
 
 -- t, if it woke a module: that is awake, and has the waking link of t
 abbrev pub WokenAsTold : Plan → State → Taken → Type 0
@@ -190,11 +190,11 @@ module _ (p : Plan) (a : Accepted p) {l : List Taken} {s : State} (b : WokenBy p
         (sent-awake p a b s′ t v (serve-ok p a s (b .sound) v x (h .within) fits (first-passes (h .first)) .sends) (r .now)))
         (back-all w x (g .stays (from p (linkIn x)) (All-here o (b .senders)))))
 
-    -- v was awake: it keeps its waking link
     not-woken : nodeAt s v .status ≢ ASLEEP → wakesOne p t ≡ false
     unfolding wakesOne
     not-woken n = rw (ne-eqb _ ASLEEP n) refl
 
+    -- v was awake: it keeps its waking link
     by-awake : nodeAt s v .status ≢ ASLEEP → WokenBy p (l ++ (t ∷ [])) s′
     by-awake n =
         let same : nodeAt s′ v .waking ≡ nodeAt s v .waking =
