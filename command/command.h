@@ -15,6 +15,8 @@ enum { DONE = 0, REFUSED = 1, FAILED = 2, MISUSED = 3 };
 struct call {
     const char *output; /* of -o, or NULL */
     const char *seed;   /* of --seed, or NULL */
+    const char *steps;  /* of --steps, or NULL */
+    const char *size;   /* of --size, or NULL */
     bool schedule;      /* --schedule */
     bool frame;         /* --frame */
     char **names;       /* what is no option, in order */
@@ -32,6 +34,9 @@ int rehearse(const struct call *call);
 int replay(const struct call *call);
 int preview(const struct call *call);
 int cue(const struct call *call);
+int save(const struct call *call);
+int find(const struct call *call);
+int restore(const struct call *call);
 
 /* ---- input.c: files that are read ---- */
 
@@ -89,6 +94,17 @@ bool is_there(const char *name);
  * and nothing is written, where one of them is the input. */
 int put_files(struct output *files, size_t count, const char *input);
 
+/* ---- points.c: stores ---- */
+
+/* Bytes of a store that is read or written, at most: some 28 points of the largest fields, hundreds of usual ones. */
+#define STORE_MOST 2097152
+
+/* A store, zeros behind its length. */
+struct store {
+    size_t length;
+    uint8_t at[STORE_MOST + 1];
+};
+
 /* ---- where.c: where a refusal applies ---- */
 
 /* The place in words, and the link concerned or MURUAPY_NONE. */
@@ -102,6 +118,9 @@ struct place plan_place(uint32_t refusal, const struct bytes *bytes);
 struct place value_place(uint32_t refusal, const muruapy_plan *plan);
 struct place schedule_place(uint32_t refusal, const struct bytes *bytes);
 struct place frame_place(uint32_t refusal, const struct bytes *bytes);
+
+/* For 76 to 78 that the library answered for this store and name; a point to be saved needs so many bytes. */
+struct place store_place(uint32_t refusal, const struct store *store, const char *name, size_t needed);
 
 /* Says on standard error that a file is refused, by which number, and where. Answers REFUSED. */
 int refuse(const char *name, uint32_t refusal, struct place place);
@@ -123,6 +142,9 @@ size_t waiting(const struct held *held);
 
 /* Takes one step; the library's answer. */
 uint32_t take_step(struct held *held, uint8_t kind, uint16_t number);
+
+/* Takes all steps of the schedules, up to one that is refused: DONE, or REFUSED after a message. */
+int take_steps(char **names, int count, const struct bytes *schedules, struct held *held);
 
 /* The ends of a directed link. */
 uint16_t from_module(const muruapy_plan *plan, uint16_t directed);
@@ -154,6 +176,11 @@ uint32_t to_rest_by_chance(struct record *record, uint64_t seed);
  * them. */
 int put_schedules(const struct record *record, const char *file, const char *input);
 
+/* ---- replay.c: steps told ---- */
+
+/* Takes and prints all steps of the schedules, numbered through from 1, up to one that is refused: its refusal, or 0. */
+uint32_t tell_steps(char **names, int count, const struct bytes *schedules, struct held *held);
+
 /* ---- words.c: messages, steps and fields in words ---- */
 
 const char *kind_name(uint8_t kind);
@@ -169,6 +196,9 @@ void print_step(uint8_t kind, uint16_t number);
 
 /* Why a message was put back, from the field after that. */
 void print_put_back(const muruapy_field *field, uint64_t word);
+
+/* Prints the line on how many messages wait and were sent. */
+void print_messages(const struct held *held);
 
 /* Prints lines: each module, each message that waits, how many. */
 void print_field(const struct held *held);

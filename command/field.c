@@ -20,6 +20,19 @@ uint32_t take_step(struct held *held, uint8_t kind, uint16_t number)
     return muruapy_step(&held->field, held->words, held->room, kind, number);
 }
 
+int take_steps(char **names, int count, const struct bytes *schedules, struct held *held)
+{
+    for (int i = 0; i < count; i++) {
+        const struct bytes *s = &schedules[i];
+        size_t steps;
+        uint32_t refusal = muruapy_run(&held->field, held->words, held->room, s->at, s->length, &steps);
+        if (refusal != MURUAPY_TAKEN)
+            return stop(REFUSED, "%s: step %zu: %u: %s", called(names[i]), steps + 1, (unsigned)refusal,
+                        muruapy_refusal_text(refusal));
+    }
+    return DONE;
+}
+
 uint16_t to_module(const muruapy_plan *plan, uint16_t directed)
 {
     const muruapy_link *link = &plan->link[directed / 2];

@@ -6,7 +6,7 @@
 #include <signal.h>
 #include <string.h>
 
-/* A subcommand: how it is called, the options that it knows (o, s, k as in `option`), how many names it takes. */
+/* A subcommand: how it is called, the options that it knows (o, s, k, n, z as in `option`), how many names it takes. */
 static const struct subcommand {
     const char *name;
     const char *arguments;
@@ -27,14 +27,20 @@ static const struct subcommand {
     {"preview", "PLAN [SCHEDULE...] wake|hand|serve NUMBER",
      "tell what a step would send behind the steps of schedules, without taking it", "", 3, INT_MAX, preview},
     {"replay", "PLAN SCHEDULE...", "tell each step of schedules in words, then the field", "", 2, INT_MAX, replay},
+    {"save", "STORE NAME PLAN [SCHEDULE...] [--steps N] [--size BYTES]",
+     "take the steps of schedules, N at most, and save the field under a name", "nz", 3, INT_MAX, save},
+    {"find", "STORE [NAME]", "tell the points that a store holds, or the one of a name", "", 1, 2, find},
+    {"restore", "STORE NAME [SCHEDULE...]",
+     "go on from a saved field: tell each step of schedules in words, then the field", "", 2, INT_MAX, restore},
 };
 
 enum { SUBCOMMANDS = sizeof subcommands / sizeof subcommands[0] };
 
 static const char more[] = "A file named - is standard input. Exit status: 0 done, 1 refused, 2 wrong usage or a\n"
                            "failed read or write. -o writes a file whole, or leaves an older one as it was; a\n"
-                           "symbolic link, a device or a pipe is written in place. Plan, schedule and frame are\n"
-                           "told in FORMATS.md.\n";
+                           "symbolic link, a device or a pipe is written in place. A store is written like that;\n"
+                           "it is made or lengthened where needed, unless --size says how many bytes it has. Plan,\n"
+                           "schedule, frame and store are told in FORMATS.md.\n";
 
 static const char usage_line[] = "usage: muruapy SUBCOMMAND ARGUMENTS, or muruapy SUBCOMMAND -h\n";
 
@@ -72,6 +78,10 @@ static bool option(const struct subcommand *sub, int argc, char **argv, int *i, 
         value = &call->output;
     if (strchr(sub->options, 's') && is(word, "--seed"))
         value = &call->seed;
+    if (strchr(sub->options, 'n') && is(word, "--steps"))
+        value = &call->steps;
+    if (strchr(sub->options, 'z') && is(word, "--size"))
+        value = &call->size;
     if (!value || *value || *i + 1 == argc)
         return false;
     *value = argv[++*i];

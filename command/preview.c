@@ -3,20 +3,6 @@
 
 #include <stdlib.h>
 
-/* Takes all steps of the schedules, up to one that is refused. */
-static int take_steps(char **names, int count, const struct bytes *schedules, struct held *held)
-{
-    for (int i = 0; i < count; i++) {
-        const struct bytes *s = &schedules[i];
-        size_t steps;
-        uint32_t refusal = muruapy_run(&held->field, held->words, held->room, s->at, s->length, &steps);
-        if (refusal != MURUAPY_TAKEN)
-            return stop(REFUSED, "%s: step %zu: %u: %s", called(names[i]), steps + 1, (unsigned)refusal,
-                        muruapy_refusal_text(refusal));
-    }
-    return DONE;
-}
-
 /* Prints the answer and the messages, a line each. */
 static int tell(const struct held *held, uint8_t kind, const char *word, uint64_t number)
 {

@@ -103,8 +103,7 @@ static uint32_t tell_step(struct stand stand, struct held *held, uint8_t kind, u
     return refusal;
 }
 
-/* All steps of the schedules, numbered through from 1, up to one that is refused. */
-static uint32_t tell_steps(char **names, int count, const struct bytes *schedules, struct held *held)
+uint32_t tell_steps(char **names, int count, const struct bytes *schedules, struct held *held)
 {
     uint8_t kind;
     uint16_t number;

@@ -2,6 +2,7 @@
 #include "command.h"
 
 #include <stdarg.h>
+#include <string.h>
 
 static uint16_t two_bytes(const uint8_t *bytes)
 {
@@ -177,6 +178,91 @@ struct place frame_place(uint32_t refusal, const struct bytes *bytes)
     if (refusal == MURUAPY_FRAME_HEAD)
         return words(MURUAPY_NONE, "length %u", two_bytes(at + 1));
     return no_message(at[3], two_bytes(at + 4));
+}
+
+/* ---- stores ---- */
+
+static size_t four_bytes(const uint8_t *bytes)
+{
+    return (size_t)two_bytes(bytes) << 16 | two_bytes(bytes + 2);
+}
+
+static bool good_name(const uint8_t *name, size_t letters)
+{
+    bool good = letters > 0 && letters <= MURUAPY_NAME;
+    for (size_t i = 0; good && i < letters; i++)
+        good = name[i] >= 'a' && name[i] <= 'z';
+    return good;
+}
+
+/* What is wrong with a record by itself, which has all of its bytes: name, plan, numbers, words, else the field. */
+static struct place record_words(unsigned number, size_t at, const uint8_t *record, size_t size)
+{
+    size_t letters = size > 5 ? record[5] : 0, left = size > 5 ? size - 6 : 0;
+    const uint8_t *plan = record + 6 + letters;
+    if (letters > left || !good_name(record + 6, letters))
+        return words(MURUAPY_NONE, "record %u at byte %zu, its name", number, at);
+    left -= letters;
+    size_t length = left < 3 ? left : 3u + two_bytes(plan + 1);
+    uint32_t refusal = muruapy_plan_check(plan, length < left ? length : left);
+    if (refusal != MURUAPY_TAKEN)
+        return words(MURUAPY_NONE, "record %u at byte %zu, its plan is refused by %u", number, at, (unsigned)refusal);
+    size_t numbers = 2 + 20u * two_bytes(plan + 3) + 4u * two_bytes(plan + 5);
+    left -= length;
+    if (left < numbers || (left - numbers) % 8 != 0)
+        return words(MURUAPY_NONE, "record %u at byte %zu, %zu bytes behind its plan: %zu of the field, 8 a message",
+                     number, at, left, numbers);
+    return words(MURUAPY_NONE, "record %u at byte %zu, its field or what waits", number, at);
+}
+
+/* The first record that is cut off, wrong by itself, or has a name that is held; else what stands behind the last. */
+static struct place records_place(const struct store *store)
+{
+    size_t at = 0;
+    for (unsigned i = 1; at < store->length && store->at[at] != 0; i++) {
+        const uint8_t *record = store->at + at;
+        size_t left = store->length - at, length = left < 5 ? 0 : four_bytes(record + 1);
+        if (record[0] != 1)
+            return words(MURUAPY_NONE, "record %u at byte %zu, version byte %u", i, at, record[0]);
+        if (left < 5)
+            return words(MURUAPY_NONE, "record %u at byte %zu, %zu bytes of 5", i, at, left);
+        if (length > left - 5)
+            return words(MURUAPY_NONE, "record %u at byte %zu, length %zu, %zu bytes behind it", i, at, length,
+                         left - 5);
+        if (muruapy_find(record, 5 + length, record, 0).refusal == MURUAPY_STORE)
+            return record_words(i, at, record, 5 + length);
+        if (muruapy_find(store->at, at, record + 6, record[5]).refusal == MURUAPY_TAKEN)
+            return words(MURUAPY_NONE, "record %u at byte %zu, a second %.*s", i, at, record[5],
+                         (const char *)record + 6);
+        at += 5 + length;
+    }
+    while (at < store->length && store->at[at] == 0)
+        at++;
+    return words(MURUAPY_NONE, "byte %zu is %u, behind the last record", at, at < store->length ? store->at[at] : 0u);
+}
+
+/* How many records a store that is whole has, and in how many bytes. */
+static size_t records_of(const struct store *store, size_t *bytes)
+{
+    size_t count = 0;
+    for (*bytes = 0; *bytes < store->length && store->at[*bytes] != 0; count++)
+        *bytes += 5 + four_bytes(store->at + *bytes + 1);
+    return count;
+}
+
+struct place store_place(uint32_t refusal, const struct store *store, const char *name, size_t needed)
+{
+    size_t bytes, count;
+    const uint8_t *letters = (const uint8_t *)name;
+    if (refusal == MURUAPY_STORE)
+        return records_place(store);
+    count = records_of(store, &bytes);
+    if (refusal == MURUAPY_NAME_WRONG && good_name(letters, strlen(name)))
+        return words(MURUAPY_NONE, "%s, among %zu", name, count);
+    if (refusal == MURUAPY_NAME_WRONG)
+        return words(MURUAPY_NONE, "\"%s\"", name);
+    bytes -= muruapy_find(store->at, store->length, letters, strlen(name)).size;
+    return words(MURUAPY_NONE, "%zu bytes, of %zu that are free", needed, store->length - bytes);
 }
 
 int refuse(const char *name, uint32_t refusal, struct place place)

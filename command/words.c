@@ -107,6 +107,13 @@ static void print_module(const muruapy_field *field, uint16_t v)
     putchar('\n');
 }
 
+void print_messages(const struct held *held)
+{
+    size_t count = waiting(held);
+    printf("%zu waiting, %u messages sent of %zu at most%s\n", count, (unsigned)held->field.sent, held->room,
+           count == 0 ? ", at rest" : "");
+}
+
 void print_field(const struct held *held)
 {
     const muruapy_plan *plan = &held->field.plan;
@@ -121,6 +128,5 @@ void print_field(const struct held *held)
         printf(" from module %u to module %u, ", from_module(plan, directed), to_module(plan, directed));
         puts(muruapy_word_handed(word) ? "handed over" : "in the air");
     }
-    printf("%zu waiting, %u messages sent of %zu at most%s\n", count, (unsigned)held->field.sent, held->room,
-           count == 0 ? ", at rest" : "");
+    print_messages(held);
 }

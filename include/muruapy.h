@@ -3,8 +3,8 @@
  * A plan says which modules there are and how well they hear each other. The modules of a field come, by messages
  * between neighbours, to one minimum spanning tree of the plan's links; this library checks, reads and writes plans,
  * frames and schedules, builds the tree, takes a field through its messages step by step, shows what a step would send,
- * and sends cues down the tree that the field comes to. Formats, numbers and the rules of a module are told in
- * docs/FORMATS.md, installed as share/doc/muruapy/FORMATS.md.
+ * sends cues down the tree that the field comes to, and saves fields under names to come back to. Formats, numbers and the
+ * rules of a module are told in docs/FORMATS.md, installed as share/doc/muruapy/FORMATS.md.
  *
  * A plan may have no module and no link: the blank plan, a show before modules are placed. It is taken as any other is;
  * only, nobody is there to be woken or to send a cue. Memory that is all zeros is the blank plan, or a field of it, so a
@@ -18,8 +18,8 @@
  * caller.
  *
  * Answers. A function of type uint32_t, but for muruapy_link_cost and muruapy_ceiling, answers a refusal: 0 for taken,
- * else the first number of `enum muruapy_refusal` that applies. muruapy_preview and muruapy_cue_deliver have it as the
- * first of two numbers.
+ * else the first number of `enum muruapy_refusal` that applies. muruapy_preview, muruapy_cue_deliver and muruapy_find have
+ * it as the first of several numbers.
  * A REFUSED CALL ALTERS NOTHING: every lent byte, word, field, record and number is as it was, but the number of steps
  * or rounds done is always told. In a run and in rounds the steps before the refused one stand.
  *
@@ -31,7 +31,7 @@
  * writes it.
  *
  * Stack, as measured, rounded up to pages: a call uses at most MURUAPY_STACK_PLAN bytes of it on plans, frames, schedules
- * and messages, MURUAPY_STACK_FIELD on a field, MURUAPY_STACK_JOB for the whole job. */
+ * and messages, MURUAPY_STACK_FIELD on a field, MURUAPY_STACK_JOB for the whole job, MURUAPY_STACK_POINT on a store. */
 #ifndef MURUAPY_H
 #define MURUAPY_H
 
@@ -43,8 +43,8 @@
  * struct that a caller lends changes, so that a program must be compiled anew (3 has the waking link in muruapy_module).
  * The minor number rises when there is more to call, or when something is taken that was refused. */
 #define MURUAPY_VERSION_MAJOR 3
-#define MURUAPY_VERSION_MINOR 0
-#define MURUAPY_VERSION "3.0"
+#define MURUAPY_VERSION_MINOR 1
+#define MURUAPY_VERSION "3.1"
 
 #ifdef __cplusplus
 extern "C" {
@@ -62,11 +62,14 @@ extern "C" {
 #define MURUAPY_STEPS 21845     /* steps of a schedule, at most */
 #define MURUAPY_SENDS 191       /* messages that one step sends, at most: words that are enough for every preview */
 #define MURUAPY_REPORT_BYTES 46202 /* bytes that are enough for every report */
+#define MURUAPY_NAME 12            /* letters of a point's name, at most */
+#define MURUAPY_RECORD_BYTES 74427 /* bytes of the longest record of a store: enough for one point of any field */
 
 /* Bytes of stack that a call uses, at most. */
 #define MURUAPY_STACK_PLAN 12288  /* plans, frames, schedules, messages: 12 KB */
 #define MURUAPY_STACK_FIELD 36864 /* fields, their report, previews, cues: 36 KB */
 #define MURUAPY_STACK_JOB 77824   /* muruapy_job: 76 KB */
+#define MURUAPY_STACK_POINT 98304 /* named points: 96 KB */
 
 /* Why a call was refused; muruapy_refusal_text has a sentence for each. */
 enum muruapy_refusal {
@@ -83,7 +86,7 @@ enum muruapy_refusal {
     MURUAPY_PLAN_PARTS = 19,   /* modules that no way joins */
     /* what the caller lends */
     MURUAPY_TREE_BUFFER = 20,   /* not one byte for each link */
-    MURUAPY_TOO_FEW_WORDS = 21, /* fewer words than the ceiling */
+    MURUAPY_TOO_FEW_WORDS = 21, /* fewer words than the ceiling; in restoring behind 76 and 77 */
     MURUAPY_PLAN_BUFFER = 22,   /* fewer bytes than the plan's */
     /* a field; never where field and words are as setup and the calls since then left them */
     MURUAPY_FIELD = 31,          /* it is none */
@@ -110,7 +113,11 @@ enum muruapy_refusal {
     MURUAPY_NO_SENDER = 72, /* no module of the sender's number */
     MURUAPY_CUES = 73,      /* the cue records: too few, or not as a start and deliveries leave them */
     /* a preview, behind all that its step is refused by */
-    MURUAPY_PREVIEW_BUFFER = 75 /* fewer words than the step would send */
+    MURUAPY_PREVIEW_BUFFER = 75, /* fewer words than the step would send */
+    /* a store of named points, in this order; in saving behind 31 */
+    MURUAPY_STORE = 76,      /* it is none: not whole records with zeros behind, or one that no saving leaves */
+    MURUAPY_NAME_WRONG = 77, /* no name; in finding and restoring also one that the store does not hold */
+    MURUAPY_STORE_FULL = 78  /* fewer bytes than the records would take */
 };
 
 /* One sentence for a refusal's number, without a full stop; for 0 "taken", for any other number "no refusal has this
@@ -129,7 +136,7 @@ static inline const char *muruapy_refusal_text(uint32_t number)
     case MURUAPY_LINK_READING: return "a reading is above 2000";
     case MURUAPY_PLAN_PARTS: return "the links do not join all modules";
     case MURUAPY_TREE_BUFFER: return "the tree's buffer has not one byte for each link";
-    case MURUAPY_TOO_FEW_WORDS: return "fewer words are lent than the ceiling";
+    case MURUAPY_TOO_FEW_WORDS: return "fewer words are lent than the ceiling of the plan that is set up or restored";
     case MURUAPY_PLAN_BUFFER: return "the buffer is too short for the plan";
     case MURUAPY_FIELD: return "this is no field: its plan, words, values, marks or sent count are not as they must be";
     case MURUAPY_RESPONSE: return "the module cannot answer this message in its state";
@@ -151,6 +158,9 @@ static inline const char *muruapy_refusal_text(uint32_t number)
     case MURUAPY_NO_SENDER: return "there is no module of the sender's number";
     case MURUAPY_CUES: return "the cue records are fewer than the modules, or not as a start and deliveries leave them";
     case MURUAPY_PREVIEW_BUFFER: return "the buffer is too short for the words that the step would send";
+    case MURUAPY_STORE: return "the store is not whole records with zeros behind, or a record's name or field is wrong";
+    case MURUAPY_NAME_WRONG: return "the name is not 1 to 12 letters a to z, or the store has no point of this name";
+    case MURUAPY_STORE_FULL: return "the store is too short for the point to be saved";
     default: return "no refusal has this number";
     }
 }
@@ -349,6 +359,13 @@ typedef struct muruapy_delivery {
     uint32_t heard;   /* 1 if a module heard; 0 if no copy waited (idle), and beside a refusal */
 } muruapy_delivery;
 
+/* What finding a point comes to. */
+typedef struct muruapy_found {
+    uint32_t refusal; /* 0 for taken, else the refusal */
+    size_t at;        /* the place of the point's record in the store, in bytes; 0 beside a refusal */
+    size_t size;      /* how many bytes the record has; 0 beside a refusal */
+} muruapy_found;
+
 /* The kinds of steps, and what a step's number is. */
 enum muruapy_step_kind {
     MURUAPY_WAKE = 1,      /* wakes a module, which must be asleep; the module's number */
@@ -402,6 +419,12 @@ uint32_t muruapy_job_parts(const muruapy_plan *plan, muruapy_plan *held, muruapy
                            uint32_t *sent, uint64_t *words, size_t room, uint16_t *rounds);
 size_t muruapy_report_parts(const muruapy_plan *plan, const muruapy_module *modules, const uint8_t (*marks)[2],
                             uint32_t sent, uint16_t rounds, uint8_t *text, size_t room);
+uint32_t muruapy_save_parts(const muruapy_plan *plan, const muruapy_module *modules, const uint8_t (*marks)[2],
+                            uint32_t sent, const uint64_t *words, size_t room, const uint8_t *name, size_t letters,
+                            uint8_t *store, size_t size);
+uint32_t muruapy_restore_parts(const uint8_t *store, size_t size, const uint8_t *name, size_t letters,
+                               muruapy_plan *plan, muruapy_module *modules, uint8_t (*marks)[2], uint32_t *sent,
+                               uint64_t *words, size_t room);
 
 /* The two on cues take a whole field by value: they only read it, and this is the form that is proved. The inline
  * functions of the same names without `_value` pass *field, and their other arguments as they are. Use those. */
@@ -413,7 +436,7 @@ muruapy_delivery muruapy_cue_deliver_value(muruapy_field field, const uint64_t *
 /* Sets up the field of a plan: all modules asleep, no word waiting.
  *
  * plan   any numbers, only read; not the plan within `field`
- * field  gets the field, the plan too
+ * field  gets the field, the plan too, with 0 for the links behind its last one
  * words  all become 0
  * room   how many words there are: the ceiling or more; for the blank plan any number
  *
@@ -430,8 +453,8 @@ static inline uint32_t muruapy_setup(const muruapy_plan *plan, muruapy_field *fi
  * room   how many words there are, any number
  *
  * Answers 0, or 31: then muruapy_step, muruapy_run and muruapy_rounds on this field are refused by 31, and so are
- * muruapy_preview, muruapy_cue_start and muruapy_cue_deliver. Of a field without modules the number of links, the sent
- * count and all words must be 0, and nothing else is looked at. */
+ * muruapy_preview, muruapy_cue_start, muruapy_cue_deliver and muruapy_save. Of a field without modules the number of
+ * links, the sent count and all words must be 0, and nothing else is looked at. */
 static inline uint32_t muruapy_field_check(const muruapy_field *field, const uint64_t *words, size_t room)
 {
     return muruapy_field_check_parts(&field->plan, field->modules, field->marks, field->sent, words, room);
@@ -569,6 +592,68 @@ static inline muruapy_delivery muruapy_cue_deliver(const muruapy_field *field, c
                                                    muruapy_cue *cues, size_t count, uint16_t link)
 {
     return muruapy_cue_deliver_value(*field, words, room, cues, count, link);
+}
+
+/* ---- Named points ---- */
+
+/* A store is bytes of the caller's that hold fields under names, each with the words that wait: a record for each, one
+ * behind the other, and zeros behind the last. A store without a point is all zeros, or empty. A name is 1 to 12 letters a
+ * to z, given with how many they are: no 0 ends it. A record has 15 + letters + 12 * links + 20 * modules bytes, and 8 for
+ * each word that waits. docs/FORMATS.md has its layout. It is the same on every machine, so a store may be kept in a file.
+ * Each call below first looks through all of the store, for 76. */
+
+/* Saves a field under a name. A point that the name had is gone, those behind it close up, the new one stands last, and
+ * the bytes behind it are 0.
+ *
+ * field    the field, however it was made, only read
+ * words    its words, any, only read
+ * room     how many words there are, any number
+ * name     the name, any bytes, only read
+ * letters  how many bytes the name has, any number
+ * store    the store; gets the point
+ * size     how many bytes the store has, any number
+ *
+ * Answers 0, or 31, 76, 77 (no name) or 78; on 78 the name keeps its old point. What 31 does not look at is not saved:
+ * links from plan.links on, modules from plan.modules on. */
+static inline uint32_t muruapy_save(const muruapy_field *field, const uint64_t *words, size_t room, const uint8_t *name,
+                                    size_t letters, uint8_t *store, size_t size)
+{
+    return muruapy_save_parts(&field->plan, field->modules, field->marks, field->sent, words, room, name, letters,
+                              store, size);
+}
+
+/* Finds the point of a name.
+ *
+ * store, size, name, letters  as above, only read
+ *
+ * Answers with refusal 0, and where the point's record stands in the store; or with refusal 76 or 77, and 0 and 0. */
+muruapy_found muruapy_find(const uint8_t *store, size_t size, const uint8_t *name, size_t letters);
+
+/* Shows the record that was found, as the part of the store that it is: nothing is copied.
+ *
+ * store  the store in which it was found, and not saved to since
+ * found  what muruapy_find answered
+ *
+ * Answers a pointer to the found.size bytes of the record; beside a refusal to the store, and there are 0. */
+static inline const uint8_t *muruapy_shown(const uint8_t *store, muruapy_found found)
+{
+    return store + found.at;
+}
+
+/* Restores the point of a name: the field and its words are as they were saved, and a run goes on from there.
+ *
+ * store, size, name, letters  as above, only read
+ * field                       gets the field, the plan too; what it was is not looked at. What is not saved becomes as at
+ *                             setup: 0 for links behind the last one, modules behind the last one asleep
+ * words                       get the words that waited, and 0 behind them, up to the last one that is lent
+ * room                        how many words there are: the ceiling of the plan that was saved, or more
+ *
+ * Answers 0, or 76, 77, or 21. */
+static inline uint32_t muruapy_restore(const uint8_t *store, size_t size, const uint8_t *name, size_t letters,
+                                       muruapy_field *field, uint64_t *words, size_t room)
+{
+    return muruapy_restore_parts(store, size, name, letters, &field->plan, field->modules, field->marks, &field->sent,
+                                 words, room);
 }
 
 /* ---- Schedules ---- */

@@ -66,6 +66,16 @@ extern "C" {
         plan: *const Numbers, cells: *const Cells, marks: *const Marks, sent: u32, rounds: u16, text: *mut u8, room: usize,
     ) -> usize;
 
+    fn muruapy_save_parts(
+        plan: *const Numbers, cells: *const Cells, marks: *const Marks, sent: u32, words: *const u64, room: usize, name: *const u8, letters: usize,
+        store: *mut u8, size: usize,
+    ) -> u32;
+    fn muruapy_find(store: *const u8, size: usize, name: *const u8, letters: usize) -> Found;
+    fn muruapy_restore_parts(
+        store: *const u8, size: usize, name: *const u8, letters: usize, plan: *mut Numbers, cells: *mut Cells, marks: *mut Marks, sent: *mut u32,
+        words: *mut u64, room: usize,
+    ) -> u32;
+
     fn muruapy_cue_start_value(
         field: Record, words: *const u64, room: usize, cues: *mut Cue, count: usize, sender: u16, cue: u16,
     ) -> u32;
@@ -185,6 +195,20 @@ pub struct Previewed {
     pub count: u32,
 }
 
+/// What finding a point answers: 0 or the refusal, where its record stands and how many bytes it has.
+#[repr(C)]
+#[derive(Clone, Copy, Debug, PartialEq, Eq)]
+pub struct Found {
+    pub refusal: u32,
+    pub at: usize,
+    pub size: usize,
+}
+
+/// The point of a name, found in a store.
+pub fn find(store: &[u8], name: &[u8]) -> Found {
+    unsafe { muruapy_find(store.as_ptr(), store.len(), name.as_ptr(), name.len()) }
+}
+
 /// What a delivery answers: 0 or the refusal, 1 for heard and 0 for idle.
 #[repr(C)]
 #[derive(Clone, Copy, Debug, PartialEq, Eq)]
@@ -230,10 +254,20 @@ impl Record {
         record
     }
 
-    /// The record that setup makes of a plan's numbers: all cells and marks, past the plan's modules and links too.
+    /// The record that setup makes of a plan's numbers, of a plan that is taken: zeros past its links, and all cells and
+    /// marks, past its modules and links too.
     pub fn at_setup(plan: &Numbers) -> Record {
         let cells = std::array::from_fn(|i| Module::SETUP.values()[i % WIDTH]);
-        Record { plan: *plan, cells, marks: [0; 2 * MOST_LINKS], sent: 0 }
+        let mut held = *plan;
+        held[2 + 4 * plan[1] as usize..].fill(0);
+        Record { plan: held, cells, marks: [0; 2 * MOST_LINKS], sent: 0 }
+    }
+
+    /// The record that restoring makes of a field: what is not saved is as at setup.
+    pub fn restored(field: &Field) -> Record {
+        let mut record = Record::at_setup(&numbers(&field.plan, &mut Rng::new(0)));
+        record.put(field);
+        record
     }
 
     /// Puts in what a step may change.
@@ -309,6 +343,26 @@ impl Record {
     pub fn report(&self, rounds: u16, text: &mut [u8]) -> usize {
         let Record { plan, cells, marks, sent } = self;
         unsafe { muruapy_report_parts(plan, cells, marks, *sent, rounds, text.as_mut_ptr(), text.len()) }
+    }
+
+    /// The field saved under a name: 31, 76, 77, 78 or 0.
+    #[rustfmt::skip]
+    pub fn save(&self, words: &[u64], name: &[u8], store: &mut [u8]) -> u32 {
+        let Record { plan, cells, marks, sent } = self;
+        let (room, letters, size) = (words.len(), name.len(), store.len());
+        unsafe {
+            muruapy_save_parts(plan, cells, marks, *sent, words.as_ptr(), room, name.as_ptr(), letters, store.as_mut_ptr(), size)
+        }
+    }
+
+    /// The field of a name restored: 76, 77, 21 or 0; then it takes the place of this one.
+    #[rustfmt::skip]
+    pub fn restore(&mut self, store: &[u8], name: &[u8], words: &mut [u64]) -> u32 {
+        let Record { plan, cells, marks, sent } = self;
+        let (size, letters, room) = (store.len(), name.len(), words.len());
+        unsafe {
+            muruapy_restore_parts(store.as_ptr(), size, name.as_ptr(), letters, plan, cells, marks, sent, words.as_mut_ptr(), room)
+        }
     }
 
     /// A cue started: 0 or the refusal.

@@ -1,15 +1,17 @@
-//! The compiled Rattle plan check, tree builder, rounds, preview of a service and delivery of a cue beside plain Rust, as
-//! ratios in one run: the same inputs, both built for release, in turn; and the preview beside the step itself. A benchmark,
-//! not a test. `bench rattle` and `bench rust` make one side's runs of rounds alone, for a profiler.
+//! The compiled Rattle plan check, tree builder, rounds, preview of a service, delivery of a cue and finding of a point
+//! beside plain Rust, as ratios in one run: the same inputs, both built for release, in turn; and the preview beside the step
+//! itself. A benchmark, not a test. `bench rattle` and `bench rust` make one side's runs of rounds alone, for a profiler,
+//! `bench points` the row on points alone.
 
 mod cues;
 #[path = "../muruapy.rs"]
 mod muruapy;
 mod plain;
+mod points;
 mod previews;
 mod rounds;
 
-use muruapy::{Delivered, Previewed, Record};
+use muruapy::{Delivered, Found, Previewed, Record};
 use oracle::cue::Cue;
 use oracle::field::{self, HAND_OVER, SERVE, WAKE};
 use oracle::fields::{drawn, spoil};
@@ -23,6 +25,7 @@ use std::time::Instant;
 const PLANS: usize = 100;
 const REPETITIONS: usize = 201;
 const RUNS: usize = 21;
+const POINTS: usize = 20;
 
 /// One side of a comparison: microseconds of one call on input i. A call is short beside a time slice, so another
 /// process disturbs few of them.
@@ -186,6 +189,59 @@ fn on_cues<'a>(starts: &'a [(Start, Vec<Cue>)], deliver: Delivers) -> impl FnMut
     }
 }
 
+/// The name of the i-th point of a store.
+fn name(i: usize) -> [u8; 2] {
+    [b'p', b'a' + i as u8]
+}
+
+/// A store of a field's points on its way to rest, seven rounds apart, and some zeros.
+fn saved((record, words): &Start) -> Vec<u8> {
+    let (mut record, mut words) = (record.clone(), words.clone());
+    let mut store = vec![0; POINTS * 20_000];
+    for i in 0..POINTS {
+        assert_eq!(record.save(&words, &name(i), &mut store), 0);
+        record.rounds(&mut words, 7);
+    }
+    let last = muruapy::find(&store, &name(POINTS - 1));
+    store.truncate(last.at + last.size + 1000);
+    store
+}
+
+/// The compiled find; plain Rust keeps the room for a record from call to call, which this has no use for.
+fn find(store: &[u8], name: &[u8], _: &mut points::Room) -> Found {
+    muruapy::find(store, name)
+}
+
+type Finds = fn(&[u8], &[u8], &mut points::Room) -> Found;
+
+/// A side that finds the last point, for which all of the store is looked at.
+fn on_stores(stores: &[Vec<u8>], find: Finds) -> impl FnMut(usize) -> f64 + '_ {
+    let mut room = (Record::ZEROS, Vec::new());
+    move |i| {
+        let (time, found) = micros(|| find(black_box(&stores[i]), &name(POINTS - 1), &mut room));
+        assert_eq!(found.refusal, 0);
+        time
+    }
+}
+
+/// Both sides find alike, in the stores that are timed and with a byte of them changed.
+fn agree_on_points(stores: &[Vec<u8>]) {
+    let (rng, room) = (&mut Rng::new(76), &mut (Record::ZEROS, Vec::new()));
+    let mut answers = BTreeSet::new();
+    for store in stores {
+        let mut changed = store.clone();
+        let at = rng.below(store.len());
+        changed[at] ^= 1 << rng.below(8);
+        let any = name(rng.below(POINTS));
+        for (store, name) in [(store, any), (store, name(25)), (&changed, any)] {
+            let found = find(store, &name, room);
+            assert_eq!(found, points::find(store, &name, room), "both sides find alike");
+            answers.insert(found.refusal);
+        }
+    }
+    assert_eq!(Vec::from_iter(answers), [0, 76, 77]);
+}
+
 /// Both sides build the same trees and come to the same rounds, cells, marks, sent count and words: on the inputs that
 /// are timed, and on made-up fields, whose runs end by refusals too.
 fn agree(inputs: &Inputs) {
@@ -258,13 +314,30 @@ impl Inputs {
         let cues = wide_starts.iter().map(under_way).collect();
         Inputs { wide, few, wide_starts, few_starts, services, cues }
     }
+
+    /// A store of each wide field. The profiler's runs have no use for them.
+    fn stores(&self) -> Vec<Vec<u8>> {
+        let stores: Vec<Vec<u8>> = self.wide_starts.iter().map(saved).collect();
+        agree_on_points(&stores);
+        stores
+    }
+}
+
+/// All of a store checked, for the last of its points.
+fn point_row(stores: &[Vec<u8>]) {
+    let rattle = &mut on_stores(stores, find);
+    row("the last of 20 points found", RUNS, rattle, &mut on_stores(stores, points::find));
+}
+
+fn head() {
+    println!("{PLANS} plans of 192 modules and 600 links, microseconds a call, medians of {REPETITIONS} calls");
+    println!("(of {RUNS} for rounds to rest and for points)\n");
+    println!("| work | Rattle | plain Rust | ratio | ratio by first quartiles |");
+    println!("|---|---|---|---|---|");
 }
 
 fn tables(inputs: &Inputs) {
-    println!("{PLANS} plans of 192 modules and 600 links, microseconds a call, medians of {REPETITIONS} calls");
-    println!("(of {RUNS} for rounds to rest)\n");
-    println!("| work | Rattle | plain Rust | ratio | ratio by first quartiles |");
-    println!("|---|---|---|---|---|");
+    head();
     let check = &mut on_bytes(&inputs.wide, plain::check);
     row("check", REPETITIONS, &mut on_bytes(&inputs.wide, muruapy::plan_check), check);
     let (mut a, mut b) = ([0; 600], [0; 600]);
@@ -285,6 +358,7 @@ fn tables(inputs: &Inputs) {
     row("a preview of a service", REPETITIONS, rattle, &mut on_services(&inputs.services, previews::serve));
     let rattle = &mut on_cues(&inputs.cues, Record::deliver_cue);
     row("a delivery of a cue", REPETITIONS, rattle, &mut on_cues(&inputs.cues, cues::deliver));
+    point_row(&inputs.stores());
     println!("\n| work | preview | the step itself | ratio | ratio by first quartiles |");
     println!("|---|---|---|---|---|");
     let previews = &mut on_services(&inputs.services, preview);
@@ -330,6 +404,11 @@ fn main() {
     match std::env::args().nth(1).as_deref() {
         Some("rattle") => profile(&inputs.wide_starts, Record::rounds),
         Some("rust") => profile(&inputs.wide_starts, rounds::run),
+        Some("points") => {
+            let stores = inputs.stores();
+            head();
+            point_row(&stores);
+        }
         _ => {
             agree(&inputs);
             tables(&inputs);

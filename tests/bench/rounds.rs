@@ -80,12 +80,12 @@ impl Record {
         self.plan[3 + 4 * k as usize]
     }
 
-    fn owns(&self, v: u16, k: u16) -> bool {
+    pub fn owns(&self, v: u16, k: u16) -> bool {
         self.lower(k) == v || self.higher(k) == v
     }
 
     /// Module v's directed link over its link k, and the place of its mark.
-    fn end(&self, v: u16, k: u16) -> u16 {
+    pub fn end(&self, v: u16, k: u16) -> u16 {
         2 * k + (self.lower(k) != v) as u16
     }
 
@@ -116,7 +116,7 @@ impl Record {
         self.modules().checked_ilog2().unwrap_or(0) as u16
     }
 
-    fn ceiling(&self) -> u32 {
+    pub fn ceiling(&self) -> u32 {
         5 * self.modules() as u32 * self.top_level() as u32 + 2 * self.links() as u32
     }
 }
@@ -475,7 +475,15 @@ pub fn run(record: &mut Record, words: &mut [u64], limit: u16) -> (usize, u32) {
 /// Refusal 31; where it does not apply, how many words wait.
 #[inline(never)]
 pub fn valid(record: &Record, words: &[u64]) -> Option<usize> {
-    if check_plan(record) != 0 || words.len() < record.ceiling() as usize {
+    if check_plan(record) != 0 {
+        return None;
+    }
+    valid_but_plan(record, words)
+}
+
+/// The same of a record whose plan is taken.
+pub fn valid_but_plan(record: &Record, words: &[u64]) -> Option<usize> {
+    if words.len() < record.ceiling() as usize {
         return None;
     }
     let waiting = words.iter().position(|w| *w == 0).unwrap_or(words.len());

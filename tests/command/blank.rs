@@ -131,6 +131,28 @@ fn refused_steps(t: &mut Tried) {
     }
 }
 
+/// A field of nobody is saved, found and restored; nothing goes on from it.
+fn points(t: &mut Tried) {
+    let line = "a: at byte 0, 16 bytes; 0 modules, 0 links; 0 waiting, 0 messages sent of 0 at most, at rest\n";
+    let record = [1, 0, 0, 0, 11, 1, b'a', 1, 0, 4, 0, 0, 0, 0, 0, 0];
+    t.tool.remove("store");
+    for plan in ["blank", "-", "blank schedule"] {
+        t.prints(&format!("save store a {plan}"), &format!("{line}written: store, 16 of 16 bytes\n"));
+        assert_eq!(t.tool.read("store").as_deref(), Some(&record[..]), "the store");
+    }
+    t.prints("find store", &format!("{line}1 point, 16 of 16 bytes\n"));
+    t.prints("find store a", line);
+    t.prints("restore store a", AT_REST);
+    t.prints("restore store a schedule", AT_REST);
+    t.tool.write("step", &[1, 0, 3, 1, 0, 0]);
+    let lines = format!("step 1 (step 1 of step): wake 0: refused {NO_MODULE}\n{AT_REST}");
+    t.leaves("restore store a step", 1, lines.as_bytes(), "");
+    t.says("save store b blank step", &format!("step: step 1: {NO_MODULE}"));
+    let full = "78: the store is too short for the point to be saved: 16 bytes, of 15 that are free";
+    t.says("save store b blank --size 31", &format!("store: {full}"));
+    t.wrote("store", &record);
+}
+
 /// Beside it: links and no module, and more modules than there can be.
 fn refused_plans(t: &mut Tried) {
     let linked = |links: u8| vec![1, 0, 12, 0, 0, 0, links, 0, 0, 0, 1, 0, 3, 0, 4];
@@ -144,9 +166,12 @@ fn refused_plans(t: &mut Tried) {
         t.leaves("check other", 1, format!("{told}\n").as_bytes(), "");
         let number = format!("refused {}\n", &told[..2]);
         t.leaves("show other", 1, number.as_bytes(), &format!("muruapy: other: {told}\n"));
-        for line in ["text other", "dot other", "svg other", "rehearse other -o made", "cue other 0"] {
+        for line in
+            ["text other", "dot other", "svg other", "rehearse other -o made", "cue other 0", "save store a other"]
+        {
             t.says(line, &format!("other: {told}"));
         }
+        assert!(t.tool.read("store").is_none(), "a refused plan is saved");
     }
 }
 
@@ -158,6 +183,7 @@ pub fn all(tool: &Tool) -> usize {
     made(&mut t);
     rehearsed(&mut t);
     refused_steps(&mut t);
+    points(&mut t);
     refused_plans(&mut t);
     let usage = tool.text(&["-h"], b"");
     let named = usage.lines().filter_map(|line| line.strip_prefix("  ")).filter(|line| !line.starts_with(' '));

@@ -9,6 +9,7 @@ mod blank;
 mod cues;
 mod pictures;
 mod places;
+mod points;
 mod previews;
 mod rehearsals;
 mod texts;
@@ -215,6 +216,20 @@ fn shown(tools: &Tools, rng: &mut Rng, count: usize) -> String {
     format!("{} previews", tally.answers.values().sum::<usize>())
 }
 
+/// Stores with points of one plan or of two.
+fn stores(tools: &Tools, rng: &mut Rng, count: usize) -> String {
+    let mut tally = points::Tally::default();
+    for i in 0..count {
+        let plan = plans::good(rng, KINDS[i % KINDS.len()]);
+        let other = plans::good(rng, if i % 2 == 0 { "small" } else { "single" });
+        points::told(tools.any(i), rng, &[&plan, &other, &plan], &mut tally);
+    }
+    let answers = [("find", 0), ("find", 76), ("find", 77), ("restore", 0), ("restore", 77), ("save", 0), ("save", 78)];
+    assert!(answers.iter().all(|answer| tally.0.get(answer).is_some_and(|times| *times > 5)), "{:?}", tally.0);
+    let places = points::places(&tools.plain) + points::places(&tools.checked);
+    format!("{} calls on stores", tally.0.values().sum::<usize>() + places)
+}
+
 /// Nobody reads what is printed: 2, and no signal.
 fn unread(tools: &Tools, rng: &mut Rng) {
     let bytes = plans::good(rng, "full").encode();
@@ -240,6 +255,7 @@ fn main() {
         lines(&tools, &mut rng, count / 2),
         schedules(&tools, &mut rng, count / 15),
         shown(&tools, &mut rng, count / 5),
+        stores(&tools, &mut rng, count / 5),
     ];
     unread(&tools, &mut rng);
     let blank = blank::all(&tools.plain) + blank::all(&tools.checked);

@@ -1,7 +1,7 @@
 //! `rehearse` and `replay`: the schedules that are written, run by the oracle, and each line that is told of them.
 
 use crate::told::{self, Replayed};
-use crate::tool::Tool;
+use crate::tool::{Ran, Tool};
 use oracle::field::{setup_value, waiting, Field, HAND_OVER, SERVE, WAKE};
 use oracle::kruskal;
 use oracle::plan::Plan;
@@ -29,13 +29,7 @@ pub fn replayed(tool: &Tool, plan: &Plan, schedules: &[Vec<Step>], tally: &mut T
     let args: Vec<&str> = ["replay", "-"].into_iter().chain(named.iter().map(|(name, _)| name.as_str())).collect();
     let ran = tool.run(&args, &plan.encode());
     let told = told::replay(plan, &named);
-    let out = String::from_utf8(ran.out).unwrap();
-    assert!(out.starts_with(&told.steps), "first different line: {:?}", different(&out, &told.steps));
-    let rest = &out[told.steps.len()..];
-    // a refused step has its sentence, then comes the field
-    let lines = if told.refusal.is_some() { rest.split_once('\n').expect("a sentence").1 } else { rest };
-    assert_eq!(lines, told.lines);
-    assert_eq!((ran.code, ran.err.as_str()), (told.refusal.is_some() as i32, ""));
+    agree(ran, &told);
     tally.steps += told.steps.lines().count();
     if let Some(number) = told.refusal {
         *tally.refused.entry(number).or_default() += 1;
@@ -44,6 +38,17 @@ pub fn replayed(tool: &Tool, plan: &Plan, schedules: &[Vec<Step>], tally: &mut T
         *tally.held.entry(why.into()).or_default() += told.steps.lines().filter(|l| l.contains(why)).count();
     }
     told
+}
+
+/// What ran printed what is told, and exited by it.
+pub fn agree(ran: Ran, told: &Replayed) {
+    let out = String::from_utf8(ran.out).unwrap();
+    assert!(out.starts_with(&told.steps), "first different line: {:?}", different(&out, &told.steps));
+    let rest = &out[told.steps.len()..];
+    // a refused step has its sentence, then comes the field
+    let lines = if told.refusal.is_some() { rest.split_once('\n').expect("a sentence").1 } else { rest };
+    assert_eq!(lines, told.lines);
+    assert_eq!((ran.code, ran.err.as_str()), (told.refusal.is_some() as i32, ""));
 }
 
 fn different<'a>(a: &'a str, b: &'a str) -> Option<(&'a str, &'a str)> {

@@ -120,8 +120,14 @@ fn field_lines(field: &Field, words: &[u64]) -> String {
         let place = if w.handed { "handed over" } else { "in the air" };
         out += &format!("waiting: {} {ends}, {place}\n", message(&w));
     }
+    out + &messages(field, words)
+}
+
+/// The line on what waits and was sent.
+pub fn messages(field: &Field, words: &[u64]) -> String {
+    let count = waiting(words);
     let rest = if count == 0 { ", at rest" } else { "" };
-    out + &format!("{count} waiting, {} messages sent of {} at most{rest}\n", field.sent, field.plan.ceiling())
+    format!("{count} waiting, {} messages sent of {} at most{rest}\n", field.sent, field.plan.ceiling())
 }
 
 /// What `replay` has to print, up to a refused step's sentence; that step's refusal; the field and words that are left.
@@ -133,10 +139,15 @@ pub struct Replayed {
     pub words: Vec<u64>,
 }
 
-/// The schedules with their names, one after the other.
+/// The schedules with their names, one after the other, from setup.
 pub fn replay(plan: &Plan, schedules: &[(String, Vec<Step>)]) -> Replayed {
     let mut words = vec![0; plan.ceiling() as usize];
-    let mut field = setup_value(plan.clone(), &mut words).expect("the plan is good");
+    let field = setup_value(plan.clone(), &mut words).expect("the plan is good");
+    go_on(field, words, schedules)
+}
+
+/// The same from any field.
+pub fn go_on(mut field: Field, mut words: Vec<u64>, schedules: &[(String, Vec<Step>)]) -> Replayed {
     let (mut told, mut refusal) = (String::new(), None);
     let each = schedules.iter().flat_map(|(name, steps)| steps.iter().enumerate().map(move |(at, s)| (name, at, s)));
     for (i, (name, at, step)) in each.enumerate() {

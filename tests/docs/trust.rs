@@ -6,7 +6,7 @@ use scan::{Target, Tree};
 use std::collections::{BTreeMap, BTreeSet};
 
 /// The claims: in words, its file, its name.
-const CLAIMS: [(&str, &str, &str); 7] = [
+const CLAIMS: [(&str, &str, &str); 12] = [
     ("What is claimed of the central tree", "crates/plan_tree/specs/Claim.antt", "TreeClaim"),
     ("Demand 3", "crates/field_calls/specs/Demand.antt", "Demand3"),
     ("What request 01 claims of a cue", "crates/cue/specs/Claims.antt", "CueClaim"),
@@ -14,10 +14,15 @@ const CLAIMS: [(&str, &str, &str); 7] = [
     ("What request 02 claims of a preview", "crates/preview/specs/Claim.antt", "PreviewClaim"),
     ("What request 04 claims of a plan with nobody in it", "crates/blank/specs/Claim.antt", "BlankClaim"),
     ("What request 05 claims of who woke whom", "crates/waking/specs/Claim.antt", "WhoWokeWhom"),
+    ("That one field has one layout, request 06", "crates/store/specs/Claims.antt", "OneLayout"),
+    ("What a save leaves, request 06", "crates/store/specs/Claims.antt", "TakenSaves"),
+    ("That a store stays whole, request 06", "crates/store/specs/Claims.antt", "StaysWhole"),
+    ("What a restore comes back to, request 06", "crates/store/specs/Claims.antt", "ComesBack"),
+    ("How rehearsals with named points are judged, request 06", "crates/store/specs/Console.antt", "Rehearsals"),
 ];
 
 /// The functions that a host or one of the two programs calls, by crate; no names: all public ones of the crate.
-const CALLED: [(&str, &[&str]); 15] = [
+const CALLED: [(&str, &[&str]); 16] = [
     ("plan", &["ceiling", "ceiling_of"]),
     ("plan_file", &["check", "read", "write"]),
     ("plan_check", &["check"]),
@@ -32,6 +37,7 @@ const CALLED: [(&str, &[&str]); 15] = [
     ("host_schedule", &["check"]),
     ("host_reader", &["open", "left", "next"]),
     ("host_cue", &["start", "deliver"]),
+    ("host_store", &["save", "save_parts", "find", "find_at", "restore"]),
     ("format_text", &[]),
 ];
 
@@ -42,9 +48,11 @@ const EXPORTS: &str = "library_";
 /// spared here.
 const OFFERED: [&str; 4] = ["plan_file", "plan_check", "plan_tree", "format_frame"];
 
-const SPARED: [(&str, &[&str]); 2] = [
+const SPARED: [(&str, &[&str]); 3] = [
     // 14 and 15 alone, told whether L fits a length: for plan_file, which has the length
     ("plan_check", &["counts_check"]),
+    // parts of setup that restoring a point has a use for
+    ("host_setup", &["refused_by", "zero_all"]),
     // what open, left and next are made of, on bytes
     ("host_reader", &["left_from", "step_from", "place_after"]),
 ];
@@ -52,7 +60,7 @@ const SPARED: [(&str, &[&str]); 2] = [
 const HEAD: &str = "\
 # What must be believed
 
-To know what the claims (the central tree, demand 3, requests 01, 02 and 04) and the functions that a host calls say, read the contracts of the first table and the definitions of the second: they
+To know what the claims (the central tree, demand 3, requests 01, 02, 04, 05 and 06) and the functions that a host calls say, read the contracts of the first table and the definitions of the second: they
 are made of these and of the names of the toolchain's libraries below. Theorems and proofs are not among them, since the prover checks those.
 Then read what else is assumed, at the end. (Made by `tools/trust`; the tests compare it with the tree.)
 ";

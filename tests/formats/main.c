@@ -33,12 +33,14 @@ static void same(const char *what, unsigned long got, unsigned long said)
 /* ---- how many examples there are, by sort and number ---- */
 
 enum sort {
-    PLAN, FRAME, SCHEDULE, STEP, CALL, VALUES, PREVIEW, START, DELIVERY, CEILING, ORDER, HEADER, WORD, REPORT, SORTS
+    PLAN, FRAME, SCHEDULE, STEP, CALL, VALUES, PREVIEW, START, DELIVERY, SAVE, FIND, RESTORE, STORED, CEILING, ORDER,
+    HEADER, WORD, REPORT, SORTS
 };
 
 static const char *const names[SORTS] = {
     "plan",           "frame",    "schedule", "step",           "run or rounds", "values", "preview",
-    "start of a cue", "delivery", "ceiling",  "order of links", "header",        "word",   "report",
+    "start of a cue", "delivery", "save",     "find",           "restore",       "bytes of a store", "ceiling",
+    "order of links", "header",   "word",     "report",
 };
 static unsigned long seen[SORTS][100];
 
@@ -52,7 +54,9 @@ static const struct least {
     {CALL, 41, 41, 2}, {CALL, 54, 54, 1},     {CEILING, 0, 0, 8}, {HEADER, 0, 0, 6}, {WORD, 0, 0, 4},
     {ORDER, 0, 0, 5},   {REPORT, 0, 0, 3},    {START, 0, 0, 2},  {START, 71, 73, 1}, {DELIVERY, 0, 0, 5},
     {DELIVERY, 42, 42, 1}, {PREVIEW, 0, 0, 8}, {PREVIEW, 41, 45, 1}, {PREVIEW, 54, 54, 1},
-    {PREVIEW, 75, 75, 4}, {VALUES, 0, 0, 8},
+    {PREVIEW, 75, 75, 4}, {VALUES, 0, 0, 8}, {SAVE, 0, 0, 8}, {SAVE, 31, 31, 1}, {SAVE, 76, 76, 3}, {SAVE, 77, 77, 3},
+    {SAVE, 78, 78, 3}, {FIND, 0, 0, 7},       {FIND, 76, 77, 2}, {RESTORE, 0, 0, 2}, {RESTORE, 21, 21, 1},
+    {RESTORE, 76, 77, 1}, {STORED, 0, 0, 15},
     /* those of the blank plan among them */
     {PLAN, 15, 15, 2}, {PLAN, 16, 16, 3},     {STEP, 41, 41, 4}, {STEP, 42, 42, 2}, {PREVIEW, 41, 41, 3},
     {PREVIEW, 42, 42, 2}, {START, 72, 72, 5}, {DELIVERY, 73, 73, 9},
@@ -511,6 +515,139 @@ static int cue_line(const char *call, char *line)
     return 1;
 }
 
+/* The store that is lent. */
+static struct bytes stored;
+
+static void lend_store(char **line)
+{
+    free(stored.at);
+    stored.length = (size_t)number(line, 10);
+    stored.at = memory(stored.length);
+    memset(stored.at, 0, stored.length);
+    no_more(line);
+}
+
+/* Puts a byte into the store, or leaves so many bytes of it. False for another line. */
+static int store_changes(const char *call, char *line)
+{
+    int cut = strcmp(call, "cut") == 0;
+    if (!cut && strcmp(call, "byte") != 0)
+        return 0;
+    size_t place = (size_t)number(&line, 10);
+    if (place >= stored.length)
+        fault("the store has no byte %lu", (unsigned long)place);
+    if (cut)
+        stored.length = place;
+    else
+        stored.at[place] = (uint8_t)number(&line, 16);
+    no_more(&line);
+    return 1;
+}
+
+static void stored_byte(size_t place, unsigned long said)
+{
+    if (place >= stored.length || stored.at[place] != said)
+        fault("byte %lu of the store is another", (unsigned long)place);
+}
+
+/* The store's bytes from a place on: those of the line, of `zeros` nothing else to the end. False for another line. */
+static int stored_line(const char *call, char *line)
+{
+    int zeros = strcmp(call, "zeros") == 0;
+    if (!zeros && strcmp(call, "holds") != 0)
+        return 0;
+    size_t place = (size_t)number(&line, 10);
+    for (char *text = word(&line); text; text = word(&line))
+        stored_byte(place++, (unsigned long)number(&text, 16));
+    for (; zeros && place < stored.length; place++)
+        stored_byte(place, 0);
+    count(STORED, 0);
+    return 1;
+}
+
+/* A name, - for one without letters. */
+static struct bytes point_name(char **line)
+{
+    char *text = word(line);
+    if (!text)
+        fault("a name is missing");
+    return (struct bytes){(uint8_t *)text, strcmp(text, "-") == 0 ? 0 : strlen(text)};
+}
+
+/* A copy of the store with nothing behind it, which a call that may not write must leave as it is. */
+static uint8_t *lent_store(void)
+{
+    return memcpy(memory(stored.length), stored.at, stored.length);
+}
+
+static void save_line(struct bytes name, char **line)
+{
+    uint8_t *lent = lent_store();
+    uint32_t refusal = muruapy_save(&field, words, room, name.at, name.length, lent, stored.length);
+    expect(line, "->");
+    same("the save's answer", refusal, (unsigned long)number(line, 10));
+    if (refusal != 0 && memcmp(lent, stored.at, stored.length) != 0)
+        fault("a refused save has altered the store");
+    free(stored.at);
+    stored.at = lent;
+    count(SAVE, refusal);
+}
+
+static void find_line(struct bytes name, char **line)
+{
+    muruapy_found found = muruapy_find(stored.at, stored.length, name.at, name.length);
+    expect(line, "->");
+    same("the find's answer", found.refusal, (unsigned long)number(line, 10));
+    same("the record's place", found.at, (unsigned long)number(line, 10));
+    same("the record's bytes", found.size, (unsigned long)number(line, 10));
+    if (muruapy_shown(stored.at, found) != stored.at + found.at)
+        fault("another part is shown");
+    count(FIND, found.refusal);
+}
+
+/* Into so many words, none of which is 0 before; on a refusal field and words keep. */
+static void restore_line(struct bytes name, char **line)
+{
+    static muruapy_field before;
+    size_t lent = (size_t)number(line, 10);
+    uint64_t *fresh = memory(lent * sizeof *fresh);
+    memset(fresh, 9, lent * sizeof *fresh);
+    memcpy(&before, &field, sizeof field);
+    uint32_t refusal = muruapy_restore(stored.at, stored.length, name.at, name.length, &field, fresh, lent);
+    expect(line, "->");
+    same("the restore's answer", refusal, (unsigned long)number(line, 10));
+    for (size_t i = 0; refusal != 0 && i < lent; i++)
+        if (fresh[i] != UINT64_C(0x0909090909090909) || memcmp(&before, &field, sizeof field) != 0)
+            fault("a refused restore has altered the field or the words");
+    if (refusal == 0) {
+        free(words);
+        words = fresh;
+        room = lent;
+    } else {
+        free(fresh);
+    }
+    compare_words(line);
+    count(RESTORE, refusal);
+}
+
+/* A point is saved, found or restored. False for another call. */
+static int point_line(const char *call, char *line)
+{
+    static const struct {
+        const char *call;
+        void (*run)(struct bytes name, char **line);
+    } calls[] = {{"save", save_line}, {"find", find_line}, {"restore", restore_line}};
+    for (int i = 0; i < 3; i++)
+        if (strcmp(call, calls[i].call) == 0) {
+            if (!stored.at)
+                fault("no store is lent");
+            calls[i].run(point_name(&line), &line);
+            no_more(&line);
+            return 1;
+        }
+    return 0;
+}
+
 /* A step, a run of rounds or of a schedule. */
 static void field_line(const char *call, char *line)
 {
@@ -567,11 +704,22 @@ static void calls_line(char *line)
         lend_records(&line);
         return;
     }
+    if (strcmp(call, "store") == 0) {
+        lend_store(&line);
+        return;
+    }
+    if (strcmp(call, "sent") == 0) {
+        field.sent = (uint32_t)number(&line, 10);
+        return;
+    }
+    if (store_changes(call, line))
+        return;
     if (!colon)
         fault("a colon is missing");
     *colon = ' ';
     set_up();
-    if (!values_line(call, line) && !preview_line(call, line) && !cue_line(call, line))
+    if (!values_line(call, line) && !preview_line(call, line) && !cue_line(call, line) && !stored_line(call, line) &&
+        !point_line(call, line))
         field_line(call, line);
 }
 
@@ -581,9 +729,11 @@ static void calls_end(void)
     free(words);
     free(cues);
     free(lent_buffer);
+    free(stored.at);
     words = NULL;
     cues = NULL;
     lent_buffer = NULL;
+    stored.at = NULL;
     planned.length = 0;
 }
 
@@ -629,7 +779,7 @@ static const struct limit {
     LIMIT(MURUAPY_MODULES), LIMIT(MURUAPY_LINKS),       LIMIT(MURUAPY_WIDTH),      LIMIT(MURUAPY_READING),
     LIMIT(MURUAPY_NONE),    LIMIT(MURUAPY_WORDS),       LIMIT(MURUAPY_PLAN_BYTES),
     LIMIT(MURUAPY_FRAME_BYTES), LIMIT(MURUAPY_STEPS),   LIMIT(MURUAPY_SENDS),
-    LIMIT(MURUAPY_REPORT_BYTES),
+    LIMIT(MURUAPY_REPORT_BYTES), LIMIT(MURUAPY_NAME),   LIMIT(MURUAPY_RECORD_BYTES),
 };
 
 enum { LIMITS = sizeof limits / sizeof limits[0] };

@@ -21,7 +21,7 @@ static const uint8_t blank_bytes[BYTES + 1] = {1, 0, 4, 0, 0, 0, 0, 0}; /* and a
 static const muruapy_plan zeros;
 
 static bool as_whole;
-static struct state state;
+static struct state state, back;
 
 /* ---- bytes ---- */
 
@@ -242,6 +242,41 @@ static void deliver_gives(uint16_t link, const muruapy_cue *cues, size_t count, 
     take_back();
 }
 
+/* A point is saved in so many bytes, 16 with a name of one letter, found and restored; a field of nobody needs no word. */
+static void point_gives(size_t size, size_t room, uint32_t refusal)
+{
+    static const uint8_t want[16] = {1, 0, 0, 0, 11, 1, 'a', 1, 0, 4, 0, 0, 0, 0, 0, 0};
+    static uint8_t stored[20];
+    struct site s = lend_site(&state, as_whole, READ);
+    const uint8_t *name = show("a", 1);
+    uint8_t *store;
+    muruapy_found found;
+    memset(stored, 0, sizeof stored);
+    store = lend(stored, size);
+    answered("save", do_save(&s, name, 1, store, size), refusal, NULL);
+    if (size > 0)
+        memcpy(stored, store, size);
+    take_back();
+    name = show("a", 1);
+    store = (uint8_t *)(uintptr_t)show(stored, size);
+    found = muruapy_find(store, size, name, 1);
+    must(found.at == 0 && found.size == (refusal ? 0 : 16) && muruapy_shown(store, found) == store, "another place");
+    gave("find", found.refusal, refusal ? 77 : 0, true);
+    take_back();
+    if (refusal)
+        return;
+    must(memcmp(stored, want, sizeof want) == 0, "other bytes are saved");
+    memset(&back, FILL, sizeof back);
+    back.room = room;
+    name = show("a", 1);
+    store = (uint8_t *)(uintptr_t)show(stored, size);
+    s = lend_site(&back, as_whole, NEW);
+    answered("restore", do_restore(store, size, name, 1, &s), 0, NULL);
+    fetch(&s, &back);
+    take_back();
+    is_fresh(&back, &zeros);
+}
+
 /* ---- all of them, refused by the number, or each by its own where that is 0 ---- */
 
 static uint32_t or_own(uint32_t number, uint32_t own)
@@ -303,12 +338,20 @@ static void cues(uint32_t number)
         }
 }
 
+static void points(uint32_t number)
+{
+    size_t size;
+    for (size = 0; size <= 20; size++)
+        point_gives(size, size % 3, or_own(number, size < 16 ? 78 : 0));
+}
+
 static void every_call(uint32_t number)
 {
     check_gives(&state, as_whole, number);
     steps(number);
     runs(number);
     cues(number);
+    points(number);
 }
 
 /* ---- the report ---- */

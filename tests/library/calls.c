@@ -76,7 +76,7 @@ void sample(const char *name, muruapy_plan *plan)
 static unsigned sentences(void)
 {
     static const uint32_t numbers[] = {0,  11, 12, 13, 14, 15, 16, 17, 18, 19, 20, 21, 22, 31, 32,
-                                       33, 41, 42, 43, 44, 45, 51, 52, 53, 54, 61, 62, 63, 64, 71, 72, 73, 75};
+                                       33, 41, 42, 43, 44, 45, 51, 52, 53, 54, 61, 62, 63, 64, 71, 72, 73, 75, 76, 77, 78};
     enum { COUNT = sizeof numbers / sizeof *numbers };
     static const char none[] = "no refusal has this number";
     uint32_t n, i = 0, j;
@@ -130,6 +130,7 @@ int main(int argc, char **argv)
             job_calls(whole, argv[1]);
             preview_calls(whole);
             cue_calls(whole);
+            point_calls(whole);
             blank_calls(whole);
             end(&fields);
         }

@@ -32,6 +32,7 @@ void field_calls(bool whole);
 void job_calls(bool whole, const char *reports);
 void preview_calls(bool whole);
 void cue_calls(bool whole);
+void point_calls(bool whole);
 void blank_calls(bool whole);
 
 #endif

@@ -29,7 +29,9 @@ static bool all_there()
            there(&muruapy_field_check) && there(&muruapy_step) && there(&muruapy_run) && there(&muruapy_rounds) &&
            there(&muruapy_job) && there(&muruapy_report) && there(&muruapy_preview_parts) &&
            there(&muruapy_preview) && there(&muruapy_cue_start_value) && there(&muruapy_cue_deliver_value) &&
-           there(&muruapy_cue_start) && there(&muruapy_cue_deliver) && there(&muruapy_refusal_text);
+           there(&muruapy_cue_start) && there(&muruapy_cue_deliver) && there(&muruapy_save_parts) &&
+           there(&muruapy_restore_parts) && there(&muruapy_save) && there(&muruapy_find) && there(&muruapy_shown) &&
+           there(&muruapy_restore) && there(&muruapy_refusal_text);
 }
 
 int main()
@@ -63,6 +65,19 @@ int main()
     const muruapy_previewed previewed = muruapy_preview(field.get(), words.data(), words.size(), MURUAPY_WAKE, 0,
                                                         buffer.data(), buffer.size());
     if (previewed.refusal != MURUAPY_TAKEN || previewed.count != 1 || buffer[0] != UINT64_C(0x20000ffff01))
+        return 1;
+    const std::string name = "go";
+    const uint8_t *const letters = reinterpret_cast<const uint8_t *>(name.data());
+    std::vector<uint8_t> store(69);
+    if (muruapy_save(field.get(), words.data(), words.size(), letters, name.size(), store.data(), store.size()) !=
+        MURUAPY_TAKEN)
+        return 1;
+    const muruapy_found found = muruapy_find(store.data(), store.size(), letters, name.size());
+    if (found.refusal != MURUAPY_TAKEN || found.at != 0 || found.size != 69 ||
+        muruapy_shown(store.data(), found) != store.data())
+        return 1;
+    if (muruapy_restore(store.data(), store.size(), letters, name.size(), field.get(), words.data(), words.size()) !=
+        MURUAPY_TAKEN)
         return 1;
     return 0;
 }

@@ -32,9 +32,14 @@ HOLDS(cue_link, offsetof(muruapy_cue, link) == 4);
 HOLDS(cue_hops, offsetof(muruapy_cue, hops) == 6);
 HOLDS(delivery_size, sizeof(muruapy_delivery) == 8);
 HOLDS(delivery_heard, offsetof(muruapy_delivery, heard) == 4);
+HOLDS(found_size, sizeof(muruapy_found) == 24);
+HOLDS(found_at, offsetof(muruapy_found, at) == 8);
+HOLDS(found_bytes, offsetof(muruapy_found, size) == 16);
 HOLDS(version, MURUAPY_VERSION_MAJOR == 3); /* since a module's record has the waking link */
-HOLDS(minor_version, MURUAPY_VERSION_MINOR == 0);
+HOLDS(minor_version, MURUAPY_VERSION_MINOR == 1); /* named points */
 HOLDS(plan_bytes, MURUAPY_PLAN_BYTES == 7 + 8 * MURUAPY_LINKS);
 HOLDS(ceiling, MURUAPY_WORDS == 5 * MURUAPY_MODULES * 7 + 2 * MURUAPY_LINKS);
 HOLDS(steps, MURUAPY_STEPS == 65535 / 3);
 HOLDS(sends, MURUAPY_SENDS == MURUAPY_MODULES - 1);
+HOLDS(record_bytes, MURUAPY_RECORD_BYTES == 6 + MURUAPY_NAME + MURUAPY_PLAN_BYTES + 2 + 2 * MURUAPY_WIDTH * MURUAPY_MODULES +
+                        4 * MURUAPY_LINKS + 8 * MURUAPY_WORDS);

@@ -44,9 +44,13 @@ void fetch(const struct site *s, struct state *to)
 void is_fresh(const struct state *state, const muruapy_plan *plan)
 {
     static const muruapy_module asleep = {0, 0, 65535, 65535, 65535, 65535, 65535, 0, 0, 65535};
+    static const muruapy_link no_link;
     const muruapy_field *f = &state->field;
     size_t i;
-    must(memcmp(&f->plan, plan, sizeof *plan) == 0, "the field has another plan");
+    must(memcmp(&f->plan, plan, offsetof(muruapy_plan, link) + plan->links * sizeof *plan->link) == 0,
+         "the field has another plan");
+    for (i = plan->links; i < MURUAPY_LINKS; i++)
+        must(memcmp(&f->plan.link[i], &no_link, sizeof no_link) == 0, "a link behind the last one is not 0");
     for (i = 0; i < MURUAPY_MODULES; i++)
         must(memcmp(&f->modules[i], &asleep, sizeof asleep) == 0, "a module is not as at setup");
     for (i = 0; i < MURUAPY_LINKS; i++)
@@ -107,6 +111,20 @@ size_t do_report(const struct site *s, uint16_t rounds, uint8_t *text, size_t ro
     return s->whole ? muruapy_report(s->whole, rounds, text, room)
                     : muruapy_report_parts(s->plan, s->modules, (const uint8_t(*)[2])s->marks, *s->sent, rounds, text,
                                            room);
+}
+
+uint32_t do_save(const struct site *s, const uint8_t *name, size_t letters, uint8_t *store, size_t size)
+{
+    return s->whole ? muruapy_save(s->whole, s->words, s->room, name, letters, store, size)
+                    : muruapy_save_parts(s->plan, s->modules, (const uint8_t(*)[2])s->marks, *s->sent, s->words,
+                                         s->room, name, letters, store, size);
+}
+
+uint32_t do_restore(const uint8_t *store, size_t size, const uint8_t *name, size_t letters, const struct site *s)
+{
+    return s->whole ? muruapy_restore(store, size, name, letters, s->whole, s->words, s->room)
+                    : muruapy_restore_parts(store, size, name, letters, s->plan, s->modules, s->marks, s->sent,
+                                            s->words, s->room);
 }
 
 void setup_gives(struct state *state, bool whole, const muruapy_plan *plan, size_t room, uint32_t number)

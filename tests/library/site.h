@@ -28,7 +28,7 @@ struct site lend_site(const struct state *from, bool whole, enum lent how);
 /* What the call left goes into the state. */
 void fetch(const struct site *s, struct state *to);
 
-/* The state is what setup makes of a plan, all that there is room for and all words. */
+/* The state is what setup makes of a plan, all that there is room for and all words: so the plan has zeros behind its links. */
 void is_fresh(const struct state *state, const muruapy_plan *plan);
 
 uint32_t do_setup(const struct site *s, const muruapy_plan *plan);
@@ -39,6 +39,8 @@ uint32_t do_run(const struct site *s, const uint8_t *bytes, size_t length, size_
 uint32_t do_rounds(const struct site *s, uint16_t limit, uint16_t *rounds);
 uint32_t do_job(const struct site *s, const muruapy_plan *plan, uint16_t *rounds);
 size_t do_report(const struct site *s, uint16_t rounds, uint8_t *text, size_t room);
+uint32_t do_save(const struct site *s, const uint8_t *name, size_t letters, uint8_t *store, size_t size);
+uint32_t do_restore(const uint8_t *store, size_t size, const uint8_t *name, size_t letters, const struct site *s);
 
 /* Setup, into memory that holds anything: it is refused by the number, or leaves what `is_fresh` asks for. */
 void setup_gives(struct state *state, bool whole, const muruapy_plan *plan, size_t room, uint32_t number);

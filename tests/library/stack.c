@@ -116,6 +116,26 @@ static void cues_refused(void)
     bad |= muruapy_cue_deliver(&field, words, MURUAPY_WORDS, cues, MURUAPY_MODULES, 65535).refusal !=
            MURUAPY_NO_DIRECTED_LINK;
 }
+static uint8_t store[3 * MURUAPY_RECORD_BYTES];
+static const uint8_t names[] = "goneon"; /* three of two letters */
+/* What the rehearsal is on its way to, under three names, the first of them twice. */
+static void save(void)
+{
+    int i;
+    for (i = 0; i < 4; i++)
+        bad |= muruapy_save(&field, words, MURUAPY_WORDS, names + 2 * (i % 3), 2, store, sizeof store);
+}
+static void find(void) { bad |= muruapy_find(store, sizeof store, names, 2).refusal; }
+static void restore(void) { bad |= muruapy_restore(store, sizeof store, names, 2, &field, words, MURUAPY_WORDS); }
+static void points_refused(void)
+{
+    bad |= muruapy_save(&field, words, 0, names, 2, store, sizeof store) != MURUAPY_FIELD;
+    bad |= muruapy_save(&field, words, MURUAPY_WORDS, names, 0, store, sizeof store) != MURUAPY_NAME_WRONG;
+    bad |= muruapy_save(&field, words, MURUAPY_WORDS, names, 6, store, 0) != MURUAPY_STORE_FULL;
+    bad |= muruapy_find(store, 9, names, 2).refusal != MURUAPY_STORE;
+    bad |= muruapy_restore(store, 9, names, 2, &field, words, MURUAPY_WORDS) != MURUAPY_STORE;
+    bad |= muruapy_restore(store, sizeof store, names, 2, &field, words, 9) != MURUAPY_TOO_FEW_WORDS;
+}
 static void report(void) { bad |= muruapy_report(&field, number, text, sizeof text) == 0; }
 
 /* In this order: a call finds what those before it left. */
@@ -141,6 +161,10 @@ static const struct measured {
     {"previews, refused", preview_refused, MURUAPY_STACK_FIELD},
     {"muruapy_step, some", some_steps, MURUAPY_STACK_FIELD},
     {"muruapy_preview", preview, MURUAPY_STACK_FIELD},
+    {"muruapy_save", save, MURUAPY_STACK_POINT},
+    {"muruapy_find", find, MURUAPY_STACK_POINT},
+    {"muruapy_restore", restore, MURUAPY_STACK_POINT},
+    {"named points, refused", points_refused, MURUAPY_STACK_POINT},
     {"muruapy_setup once more", setup, MURUAPY_STACK_FIELD},
     {"muruapy_run", run, MURUAPY_STACK_FIELD},
     {"muruapy_rounds", rounds, MURUAPY_STACK_FIELD},

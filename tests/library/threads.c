@@ -23,7 +23,8 @@ struct left {
     uint16_t rounds;
 };
 struct result {
-    struct left job, steps, rounds;
+    struct left job, steps, rounds, restored;
+    uint8_t store[MURUAPY_RECORD_BYTES];
     uint32_t previewed;
     uint8_t tree[MURUAPY_LINKS], text[MURUAPY_REPORT_BYTES];
     size_t length;
@@ -51,6 +52,21 @@ static uint32_t by_steps(const muruapy_plan *plan, struct left *l, size_t room, 
             break;
         kind = step_for(plan, l->words[0], &number);
     }
+    return refusal;
+}
+
+/* The field half way, saved, run to rest, found, restored: it is again as it was. */
+static uint32_t come_back(const muruapy_plan *plan, struct result *r, size_t room)
+{
+    static const uint8_t name[] = {'g', 'o'};
+    struct left *l = &r->restored;
+    uint32_t refusal = muruapy_setup(plan, &l->field, l->words, room);
+    refusal |= muruapy_step(&l->field, l->words, room, MURUAPY_WAKE, 0);
+    refusal |= muruapy_rounds(&l->field, l->words, room, 3, &l->rounds);
+    refusal |= muruapy_save(&l->field, l->words, room, name, sizeof name, r->store, sizeof r->store);
+    refusal |= muruapy_rounds(&l->field, l->words, room, 65535, &l->rounds);
+    refusal |= muruapy_find(r->store, sizeof r->store, name, sizeof name).refusal;
+    refusal |= muruapy_restore(r->store, sizeof r->store, name, sizeof name, &l->field, l->words, room);
     return refusal;
 }
 
@@ -85,6 +101,7 @@ static void work(const muruapy_plan *plan, struct result *r)
     bad |= r->previewed != r->steps.field.sent;
     bad |= muruapy_tree(plan, r->tree, plan->links);
     bad |= send_cue(r, room);
+    bad |= come_back(plan, r, room);
     r->length = muruapy_report(&r->job.field, r->job.rounds, r->text, sizeof r->text);
     need(bad == 0, "threads: a call is refused");
 }

@@ -47,6 +47,13 @@ impl Module {
         waking: NONE,
     };
 
+    /// The module of these values, in the same order.
+    pub fn of(values: [u16; WIDTH]) -> Module {
+        let [status, level, identity, best_weight, best_edge, test_edge, in_branch, find_count, halted, waking] =
+            values;
+        Module { status, level, identity, best_weight, best_edge, test_edge, in_branch, find_count, halted, waking }
+    }
+
     pub fn values(&self) -> [u16; WIDTH] {
         [
             self.status,

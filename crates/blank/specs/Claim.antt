@@ -11,6 +11,7 @@ use Rattle.base.specs.Loop.{takenTo, refusedBy}
 use Rattle.base.specs.Refuse.{firstRefusal}
 use Rattle.format_text.specs.Ascii.{ascii}
 use Rattle.plan.specs.Links.{Plan, modulesOf, linksOf}
+use Rattle.plan.specs.Trimmed.{trimmed}
 use Rattle.plan.specs.Refusal.{planRefusal}
 use Rattle.plan_file.specs.Layout.{numberAt}
 use Rattle.plan_file.specs.Reading.{headVerdict, readRefusal, readPlan}
@@ -90,7 +91,7 @@ pub record BlankPlan (p : Plan) : Type 0 where
   -- "Its ceiling is 0", and so is its highest level, the logarithm of 0: however few words are lent, they are enough
   pub ceiling : ceilingOf p ≡ 0
   pub limit : limitOf p ≡ 0
-  pub set : (lent : List ℕ) → setUp p lent ≡ takenTo (record { field = fresh p; words = zeroWords (length lent) })
+  pub set : (lent : List ℕ) → setUp p lent ≡ takenTo (record { field = fresh (trimmed p); words = zeroWords (length lent) })
   -- 31 lets pass whatever has nothing sent and nothing waiting
   pub field : (h : Held) → h .field .plan ≡ p → (valid h ≡ true) ↔ ((h .field .sent ≡ 0) × (h .words ≡ zeroWords (length (h .words))))
   pub calls : (h : Held) → h .field .plan ≡ p → valid h ≡ true → OnBlankField h

@@ -8,6 +8,7 @@ use Rattle.base.specs.Limits.{maxModules, maxEnds}
 use Rattle.base.specs.Loop.{After, takenTo, refusedBy}
 use Rattle.plan.specs.Refusal.{planRefusal}
 use Rattle.plan.specs.Links.{Plan, blank}
+use Rattle.plan.specs.Trimmed.{trimmed}
 use Rattle.node.specs.Work.{setup}
 use Rattle.field.specs.declared.Field.{Field}
 use Rattle.field.specs.Edges.{ceilingOf}
@@ -60,19 +61,20 @@ unmarked p cells = record { plan = p; cells = cells; marks = replicate maxEnds 0
 abbrev pub fresh : Plan → Field
 fresh p = unmarked p (freshCells maxModules)
 
--- "every refusal answers its number alone": a field of zeros beside it, and the words as they were
+-- "every refusal answers its number alone": a field of zeros beside it, and the words as they were; of setup, and of restoring (request 06)
 abbrev pub blankField : Field
 blankField = unmarked blank (replicate CELLS 0)
 
 abbrev pub notSetUp : ℕ → List ℕ → After Held
 notSetUp number lent = refusedBy number (record { field = blankField; words = lent })
 
--- "Setup needs M words or more and zeroes all of them". "21 fewer words than M .. (.. after the plan's checks)"
+-- "Setup needs M words or more and zeroes all of them". "21 fewer words than M .. (.. after the plan's checks)". "The field holds its plan": with zeros
+-- past the links, where a plan's numbers mean nothing, so that a saved field comes back whole (request 06)
 unfoldable pub setUp : Plan → List ℕ → After Held
 setUp p lent =
     cond (not (eqb (planRefusal p) 0)) (notSetUp (planRefusal p) lent)
     (cond (ltb (length lent) (ceilingOf p)) (notSetUp 21 lent)
-    (takenTo (record { field = fresh p; words = replicate (length lent) 0 })))
+    (takenTo (record { field = fresh (trimmed p); words = replicate (length lent) 0 })))
 
 -- A step given alone: 31 "before all else", then 54, 41 to 45, 32, 33.
 unfoldable pub stepAlone : ℕ → ℕ → Held → After Held

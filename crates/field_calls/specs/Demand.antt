@@ -8,6 +8,7 @@ use Rattle.base.specs.Pool.{All}
 use Rattle.base.specs.Loop.{Ran}
 use Rattle.graph.specs.Order.{InTree}
 use Rattle.plan.specs.Links.{graphOf, Plan, modulesOf, linksOf, lowerOf, higherOf}
+use Rattle.plan.specs.Trimmed.{trimmed}
 use Rattle.plan.specs.Weights.{earlier}
 use Rattle.node.specs.Work.{BRANCH, REJECTED}
 use Rattle.field.specs.Edges.{ceilingOf}
@@ -74,6 +75,7 @@ pub record Claim (p : Plan) (start : Held) (calls : List Call) : Type 0 where
   pub rests : (limit : ℕ) → ceilingOf p + modulesOf p ≤ limit → ComesToRest p (runRounds limit (after calls start))
 
 -- "For every accepted plan of N modules and L links, and every list of wakeups, hand-overs and services from its setup on, given singly or in
--- runs, refused ones included": accepted, and lent M words or more, is a setup that is not refused.
+-- runs, refused ones included": accepted, and lent M words or more, is a setup that is not refused. The claim is of the plan as the field holds it, the same
+-- plan with zeros past its links (`trimmed-same`, plan/laws/Trimmed), which has the same tree (`tree-same`, plan/laws/Same).
 abbrev pub Demand3 : Type 0
-Demand3 = (p : Plan) (lent : List ℕ) → setUp p lent .refusal ≡ 0 → (calls : List Call) → Claim p (setUp p lent .state) calls
+Demand3 = (p : Plan) (lent : List ℕ) → setUp p lent .refusal ≡ 0 → (calls : List Call) → Claim (trimmed p) (setUp p lent .state) calls

@@ -1,4 +1,5 @@
-// The cells and marks of a field: one module's values at setup, read and written; one mark written.
+// The cells and marks of a field: one module's values at setup, read and written, all modules' at setup; one mark written.
+use base::MAX_MODULES;
 use base::NONE;
 use field::Cells;
 use field::Marks;
@@ -10,7 +11,9 @@ use plan::Plan;
 ghost use Prim.Native.Nat.{_<_, _≤_};
 ghost use mathlib.Core.Path.{_≡_};
 ghost use Rattle.node.specs.Work.{setup};
-ghost use Rattle.field.specs.State.{nodeIn, putNode};
+ghost use lib.ListN.{replicate};
+ghost use Rattle.field.specs.State.{CELLS, nodeIn, putNode};
+ghost use Rattle.field.specs.Held.{freshCells};
 ghost use Rattle.field_cells.specs.Marks.{markPut};
 ghost use Rattle.base.specs.Limits.{maxModules, maxLinks};
 ghost use Rattle.plan.specs.Links.{linksOf};
@@ -75,6 +78,19 @@ pub fn put_node(cells: &mut Cells, v: u16, n: Node)
     while j < WIDTH {
         cells[c + j] = values[j];
         j += 1;
+    }
+}
+
+// Each module's values at setup, in cells of zeros.
+pub fn lay_cells(cells: &mut Cells)
+    requires { ⌜ now cells ≡ replicate CELLS 0 ⌝ }
+    ensures { λ _. ⌜ now (cells .exit) ≡ freshCells maxModules ⌝ }
+{
+    let n = fresh_node();
+    let mut v: u16 = 0;
+    while v < MAX_MODULES {
+        put_node(cells, v, n);
+        v += 1;
     }
 }
 

@@ -122,7 +122,7 @@ fn nodes_fit<'a>(plan: &'a Plan, degrees: &'a Degrees, cells: &'a Cells) -> bool
 }
 
 // All that 31 asks of the state of an accepted plan.
-fn state_fits<'a>(
+pub fn state_fits<'a>(
     plan: &'a Plan,
     cells: &'a Cells,
     marks: &'a Marks,

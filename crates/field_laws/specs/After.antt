@@ -12,12 +12,15 @@ use lib.Seq.{getD-append-add}
 use lib.Dec.{ltb}
 use borrow.Author.Tests.{le-leb, eq-eqb}
 use Rattle.base.specs.laws.Cond.{eqb-cases, ltb-cases}
+use Rattle.base.specs.Ceiling.{ceiling}
 use Rattle.base.specs.Limits.{maxModules, maxEnds}
 use Rattle.base.specs.Loop.{After, takenTo}
 use Rattle.base.specs.Pool.{nil}
 use Rattle.plan.specs.Refusal.{planRefusal}
 use Rattle.plan.specs.laws.Accepted.{Accepted, accepted}
 use Rattle.plan.specs.Links.{Plan}
+use Rattle.plan.specs.Trimmed.{trimmed}
+use Rattle.plan.specs.laws.Trimmed.{trimmed-same, trimmed-taken}
 use Rattle.node.specs.Work.{setup, ASLEEP}
 use Rattle.field.specs.Edges.{ownOf, limitOf, ceilingOf}
 use Rattle.node.specs.laws.Values.{node-by}
@@ -49,23 +52,26 @@ fresh-at (suc n) (suc v) l j h =
 pub fresh-node : (v : ℕ) → v < maxModules → nodeIn (freshCells maxModules) v ≡ setup
 fresh-node v l = node-by (λ j. getD (freshCells maxModules) (cellOf v j) 0) (λ j. getD (values setup) j 0) (fresh-at maxModules v l)
 
--- what a setup that is not refused leaves
+pub trimmed-ceiling : (p : Plan) → ceilingOf (trimmed p) ≡ ceilingOf p
+trimmed-ceiling p = sym (ap₂ ceiling (trimmed-same p .modules) (trimmed-same p .links))
+
+-- what a setup that is not refused leaves, by the plan that the field then holds
 pub record Started (p : Plan) (lent : List ℕ) (h : Held) : Type 0 where
   pub plan : planRefusal p ≡ 0
   pub room : ceilingOf p ≤ length lent
   pub is : h ≡ record { field = fresh p; words = replicate (length lent) 0 }
 
-pub started : (p : Plan) (lent : List ℕ) → setUp p lent .refusal ≡ 0 → Started p lent (setUp p lent .state)
+pub started : (p : Plan) (lent : List ℕ) → setUp p lent .refusal ≡ 0 → Started (trimmed p) lent (setUp p lent .state)
 unfolding setUp
 started p lent = eqb-cases (planRefusal p) 0
-    (λ b. (cond (not b) (notSetUp (planRefusal p) lent) rest) .refusal ≡ 0 → Started p lent ((cond (not b) (notSetUp (planRefusal p) lent) rest) .state))
-    (λ e. ltb-cases (length lent) (ceilingOf p) (λ b. (enoughOr b) .refusal ≡ 0 → Started p lent ((enoughOr b) .state))
+    (λ b. (cond (not b) (notSetUp (planRefusal p) lent) rest) .refusal ≡ 0 → Started (trimmed p) lent ((cond (not b) (notSetUp (planRefusal p) lent) rest) .state))
+    (λ e. ltb-cases (length lent) (ceilingOf p) (λ b. (enoughOr b) .refusal ≡ 0 → Started (trimmed p) lent ((enoughOr b) .state))
     (λ l z. absurd (omega arith))
-    (λ l z. record { plan = e; room = l; is = refl }))
+    (λ l z. record { plan = trimmed-taken p e; room = omega (arith, l, trimmed-ceiling p); is = refl }))
     (λ n z. absurd (n z))
   where
     enoughOr : Bool → After Held
-    enoughOr b = cond b (notSetUp 21 lent) (takenTo (record { field = fresh p; words = replicate (length lent) 0 }))
+    enoughOr b = cond b (notSetUp 21 lent) (takenTo (record { field = fresh (trimmed p); words = replicate (length lent) 0 }))
 
     rest : After Held
     rest = enoughOr (ltb (length lent) (ceilingOf p))

@@ -44,13 +44,13 @@ waiting-zeros zero = refl
 waiting-zeros (suc k) = refl
 
 -- words that are not 0 are read back ..
-waiting-back : (n : ℕ) {l : List ℕ} → All (λ x. x ≢ 0) l → waitingIn (l ++ replicate n 0) ≡ l
+pub waited-back : (n : ℕ) {l : List ℕ} → All (λ x. x ≢ 0) l → waitingIn (l ++ replicate n 0) ≡ l
 unfolding waitingIn
-waiting-back n nil = waiting-zeros n
-waiting-back n (con {x} {xs} h t) = rw (eqb-diff x 0 h) (ap (λ r. x ∷ r) (waiting-back n t))
+waited-back n nil = waiting-zeros n
+waited-back n (con {x} {xs} h t) = rw (eqb-diff x 0 h) (ap (λ r. x ∷ r) (waited-back n t))
 
 -- (and words that wait are not 0)
-waiting-nonzero : (l : List ℕ) → All (λ x. x ≢ 0) (waitingIn l)
+pub waiting-nonzero : (l : List ℕ) → All (λ x. x ≢ 0) (waitingIn l)
 unfolding waitingIn
 waiting-nonzero [] = nil
 waiting-nonzero (x ∷ l) = eqb-cases x 0 (λ b. All (λ y. y ≢ 0) (cond b [] (x ∷ waitingIn l))) (λ e. nil) (λ n. con n (waiting-nonzero l))
@@ -60,7 +60,7 @@ unfolding allOf
 zeros-all zero = refl
 zeros-all (suc k) = zeros-all k
 
-all-zeros : (l : List ℕ) → allOf (λ x. eqb x 0) l ≡ true → l ≡ replicate (length l) 0
+pub all-zeros : (l : List ℕ) → allOf (λ x. eqb x 0) l ≡ true → l ≡ replicate (length l) 0
 unfolding allOf
 all-zeros [] e = refl
 all-zeros (x ∷ l) e = let h = and-eq-true-iff (eqb x 0) (allOf (λ y. eqb y 0) l) .0 e in ap₂ _∷_ (eqb-true x 0 (h .0)) (all-zeros l (h .1))
@@ -79,11 +79,11 @@ layout-back lent e =
     ap (λ x. waitingIn lent ++ x) (ap (λ k. replicate k 0) n ∙ sym (all-zeros r e)) ∙ waiting-front lent
 
 module _ (n : ℕ) (words : List ℕ) (l : length words ≤ n) where
-  layout-length : length (layout n words) ≡ n
-  layout-length = omega (arith, length-append words (replicate (n - length words) 0), length-replicate {A = ℕ} (n - length words) 0)
+  pub laid-length : length (layout n words) ≡ n
+  laid-length = omega (arith, length-append words (replicate (n - length words) 0), length-replicate {A = ℕ} (n - length words) 0)
 
   pub layout-zeros : All (λ x. x ≢ 0) words → zeroAfter (layout n words) ≡ true
-  layout-zeros h = rw (waiting-back (n - length words) h) (ap (allOf (λ x. eqb x 0)) (drop-append-seam words (replicate (n - length words) 0)) ∙ zeros-all (n - length words))
+  layout-zeros h = rw (waited-back (n - length words) h) (ap (allOf (λ x. eqb x 0)) (drop-append-seam words (replicate (n - length words) 0)) ∙ zeros-all (n - length words))
 
 -- ---- a step given alone, on any field and words
 
@@ -103,7 +103,7 @@ module _ (p : Plan) where
 
 -- so what it leaves is read back from where it is laid, no matter how the field was made
 pub step-back : (h : Held) {kind number : ℕ} {s : State} → FieldStep (h .field .plan) (stateOf h) kind number s → waitingIn (heldOf h s .words) ≡ s .words
-step-back h {s} t = waiting-back (length (h .words) - length (s .words)) (step-nonzero (h .field .plan) (stateOf h) (waiting-nonzero (h .words)) t)
+step-back h {s} t = waited-back (length (h .words) - length (s .words)) (step-nonzero (h .field .plan) (stateOf h) (waiting-nonzero (h .words)) t)
 
 -- what 31 checks
 pub valid-parts : (h : Held) → valid h ≡ true
@@ -176,7 +176,7 @@ module _ (h : Held) (i : Live h) where
     short = omega (arith, sound .fits .waiting, sound .fits .ceiling, leb-true (ceilingOf plan) (length (h .words)) (checks .1))
 
     pub state-back : stateOf (heldOf h s) ≡ s
-    state-back = ap (λ w. record { cells = s .cells; marks = s .marks; words = w; sent = s .sent }) (waiting-back (length (h .words) - length (s .words)) nonzero)
+    state-back = ap (λ w. record { cells = s .cells; marks = s .marks; words = w; sent = s .sent }) (waited-back (length (h .words) - length (s .words)) nonzero)
 
     pub held-live : Live (heldOf h s)
     unfolding valid
@@ -185,7 +185,7 @@ module _ (h : Held) (i : Live h) where
       marks = omega (arith, alike .marks, i .marks);
       valid =
           ap₂ _&&_
-          (ap₂ _&&_ (ap₂ _&&_ (eq-eqb _ _ (checks .0)) (ap (leb (ceilingOf plan)) (layout-length (length (h .words)) (s .words) short) ∙ checks .1))
+          (ap₂ _&&_ (ap₂ _&&_ (eq-eqb _ _ (checks .0)) (ap (leb (ceilingOf plan)) (laid-length (length (h .words)) (s .words) short) ∙ checks .1))
           (layout-zeros (length (h .words)) (s .words) short nonzero))
           (ap (fits plan) state-back ∙ facts-fits plan s (sound .fits));
     }

@@ -23,7 +23,7 @@ use Rattle.field.specs.laws.Edges.{own-lower, own-higher, mark-own, mark-not, e
 -- ---- a run of stores
 
 module _ (d : ℕ) where
-  sets-out : (vs l : List ℕ) (i k : ℕ) → (k < i) ⊎ (i + length vs ≤ k) → getD (sets l i vs) k d ≡ getD l k d
+  pub sets-out : (vs l : List ℕ) (i k : ℕ) → (k < i) ⊎ (i + length vs ≤ k) → getD (sets l i vs) k d ≡ getD l k d
   sets-out [] l i k h = refl
   sets-out (a ∷ vs) l i k h = sets-out vs (set l i a) (suc i) k (on h) ∙ getD-set-other l i k a d (apart h)
     where

@@ -18,6 +18,7 @@ use Rattle.format_message.specs.Header.{kindAt, levelAt, findAt}
 use Rattle.format_word.specs.Word.{headerIn, carriedIn, linkIn}
 use Rattle.plan.specs.laws.Accepted.{Accepted, accepted}
 use Rattle.plan.specs.Links.{Plan, modulesOf}
+use Rattle.plan.specs.Trimmed.{trimmed}
 use Rattle.node.specs.declared.Node.{Node}
 use Rattle.node.specs.Work.{ASLEEP, start}
 use Rattle.field.specs.Edges.{ownOf, linkOf, limitOf}
@@ -158,18 +159,19 @@ all-member (con h t) (List·Memᴰ·tail m) = all-member t m
 
 -- THE LAW: after a list of calls from a setup the modules that are awake are exactly those that were woken in it
 pub exactly-woken : (p : Plan) (lent : List ℕ) → setUp p lent .refusal ≡ 0 → (cs : List Call) (v : ℕ)
-    → Awake p (stateOf (after cs (setUp p lent .state))) v ↔ List·Memᴰ v (wokenIn p (trail cs (setUp p lent .state)))
+    → Awake (trimmed p) (stateOf (after cs (setUp p lent .state))) v ↔ List·Memᴰ v (wokenIn (trimmed p) (trail cs (setUp p lent .state)))
 exactly-woken p lent z cs v =
+    let q = trimmed p in
     let s = started p lent z in
-    let a = accepted p (s .plan) in
-    subst (λ h. Awake p (stateOf (after cs h)) v ↔ List·Memᴰ v (wokenIn p (trail cs h))) (sym (s .is))
-    (let w = list-wakes p a cs _ (begun-live p lent (s .plan) (s .room)) refl in (
+    let a = accepted q (s .plan) in
+    subst (λ h. Awake q (stateOf (after cs h)) v ↔ List·Memᴰ v (wokenIn q (trail cs h))) (sym (s .is))
+    (let w = list-wakes q a cs _ (begun-live q lent (s .plan) (s .room)) refl in (
       λ k. ⊎-elim (λ q. absurd (q .awake (ap (λ (n : Node). n .status) (fresh-node v (omega (arith, k .within, a .modulesOk)))))) (λ m. m) (w .only v k),
       all-member (w .woken),
     ))
 
 -- so whoever was not woken is asleep
-pub others-asleep : (p : Plan) (lent : List ℕ) → setUp p lent .refusal ≡ 0 → (cs : List Call) (v : ℕ) → v < modulesOf p
-    → ¬ List·Memᴰ v (wokenIn p (trail cs (setUp p lent .state))) → nodeAt (stateOf (after cs (setUp p lent .state))) v .status ≡ ASLEEP
+pub others-asleep : (p : Plan) (lent : List ℕ) → setUp p lent .refusal ≡ 0 → (cs : List Call) (v : ℕ) → v < modulesOf (trimmed p)
+    → ¬ List·Memᴰ v (wokenIn (trimmed p) (trail cs (setUp p lent .state))) → nodeAt (stateOf (after cs (setUp p lent .state))) v .status ≡ ASLEEP
 others-asleep p lent z cs v l n = by-eq (nodeAt (stateOf (after cs (setUp p lent .state))) v .status) ASLEEP (λ e. e)
     (λ m. absurd (n (exactly-woken p lent z cs v .0 (record { within = l; awake = m }))))

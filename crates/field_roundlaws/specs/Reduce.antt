@@ -14,6 +14,7 @@ use Rattle.base.specs.Pool.{All, nil, con}
 use Rattle.base.specs.Test.{every}
 use Rattle.plan.specs.laws.Accepted.{Accepted, accepted}
 use Rattle.plan.specs.Links.{Plan, modulesOf}
+use Rattle.plan.specs.Trimmed.{trimmed}
 use Rattle.node.specs.Work.{BRANCH}
 use Rattle.field.specs.Edges.{ceilingOf}
 use Rattle.field.specs.State.{State, markAt}
@@ -164,7 +165,8 @@ module _ (p : Plan) (a : Accepted p) (Good : State → Type 0) (proto : Protocol
 -- THE REDUCTION
 pub demand3-from : ((p : Plan) → Accepted p → (Good : State → Type 0) × Protocol p Good) → Demand3
 demand3-from proto p lent z cs =
+    let q = trimmed p in
     let s = started p lent z in
-    let a = accepted p (s .plan) in
-    let g = proto p a in
-    subst (λ h. Claim p h cs) (sym (s .is)) (claim p a (g .0) (g .1) _ (begun-live p lent (s .plan) (s .room)) refl (g .1 .start lent) refl (waiting-zeros (length lent)) cs)
+    let a = accepted q (s .plan) in
+    let g = proto q a in
+    subst (λ h. Claim q h cs) (sym (s .is)) (claim q a (g .0) (g .1) _ (begun-live q lent (s .plan) (s .room)) refl (g .1 .start lent) refl (waiting-zeros (length lent)) cs)

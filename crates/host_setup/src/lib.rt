@@ -1,6 +1,5 @@
 // Setup: the field of a plan, all modules asleep, no word waiting.
 use base::MAX_ENDS;
-use base::MAX_MODULES;
 use field::CELLS;
 use field::Cells;
 use field::Field;
@@ -9,27 +8,17 @@ use plan::NUMBERS;
 use plan::Plan;
 ghost use mathlib.Core.Path.{_≡_};
 ghost use lib.ListN.{length, replicate};
-ghost use Rattle.base.specs.Limits.{maxModules};
-ghost use Rattle.field.specs.State.{CELLS};
-ghost use Rattle.field.specs.Held.{freshCells, unmarked, fresh, blankField, setUp};
+ghost use Prim.Native.Nat.{_≤_};
+ghost use Rattle.base.specs.Limits.{maxLinks};
+ghost use Rattle.plan.specs.Links.{linksOf};
+ghost use Rattle.plan.specs.Trimmed.{trimmed};
+ghost use Rattle.field.specs.Held.{unmarked, fresh, blankField, setUp};
 
-// What setup answers: the refusal, 14 to 19 or 21, or 0 and the plan's field.
+// What a call that makes a field answers: the refusal, or 0 and the field; a field of zeros beside a refusal. Setup refuses by 14 to 19 and 21, restoring a
+// point by 76, 77 and 21.
 pub struct NewField {
     pub refusal: u32,
     pub field: Field,
-}
-
-// Each module's values at setup, in cells of zeros.
-fn lay_cells(cells: &mut Cells)
-    requires { ⌜ now cells ≡ replicate CELLS 0 ⌝ }
-    ensures { λ _. ⌜ now (cells .exit) ≡ freshCells maxModules ⌝ }
-{
-    let n = field_cells::fresh_node();
-    let mut v: u16 = 0;
-    while v < MAX_MODULES {
-        field_cells::put_node(cells, v, n);
-        v += 1;
-    }
 }
 
 // The field of a plan and cells, all marks Basic, nothing sent.
@@ -44,17 +33,18 @@ fn unmarked(p: Plan, cells: Cells) -> Field
     }
 }
 
-// The field of a plan at setup.
+// The field of a plan at setup, which holds the plan with zeros past its links.
 fn fresh_field(p: &Plan) -> Field
-    ensures { λ r. ⌜ r ≡ fresh (now (p .entry)) ⌝ }
+    requires { ⌜ linksOf (now p) ≤ maxLinks ⌝ }
+    ensures { λ r. ⌜ r ≡ fresh (trimmed (now (p .entry))) ⌝ }
 {
     let mut cells = [0u16; CELLS];
-    lay_cells(&mut cells);
-    unmarked(*p, cells)
+    field_cells::lay_cells(&mut cells);
+    unmarked(plan::trimmed(p), cells)
 }
 
 // A refusal's number, beside a field of zeros.
-fn refused_by(number: u32) -> NewField
+pub fn refused_by(number: u32) -> NewField
     ensures { λ r. ⌜ r ≡ record { refusal = number; field = blankField } ⌝ }
 {
     NewField {
@@ -64,7 +54,7 @@ fn refused_by(number: u32) -> NewField
 }
 
 // All lent words become zero.
-fn zero_all(words: &mut [u64])
+pub fn zero_all(words: &mut [u64])
     ensures { λ _. ⌜ now (words .exit) ≡ replicate (length (now (words .entry))) 0 ⌝ }
 {
     let mut i: usize = 0;

@@ -1,4 +1,4 @@
--- A field in lent memory: what setup leaves there.
+-- A field in lent memory: what a call that makes a field leaves there, and setup.
 use Prim.Native.Nat.{ℕ}
 use mathlib.Core.Bool.{cond}
 use lib.Dec.{eqb}
@@ -12,6 +12,9 @@ use Rattle.field.specs.Held.{Held, setUp}
 abbrev pub keptUnless : ℕ → Field → Held → Held
 keptUnless refusal old h = record { field = cond (eqb refusal 0) (h .field) old; words = h .words }
 
-unfoldable pub setUpInto : Plan → Held → After Held
-setUpInto p h =
-    let a = setUp p (h .words) in record { refusal = a .refusal; state = keptUnless (a .refusal) (h .field) (a .state) }
+-- what such a call leaves, where it answers a by value
+unfoldable pub madeInto : After Held → Held → After Held
+madeInto a h = record { refusal = a .refusal; state = keptUnless (a .refusal) (h .field) (a .state) }
+
+abbrev pub setUpInto : Plan → Held → After Held
+setUpInto p h = madeInto (setUp p (h .words)) h

@@ -3,4 +3,5 @@ pub mod Keys
 pub mod Weights
 pub mod Refusal
 pub mod Same
+pub mod Trimmed
 pub mod laws

@@ -3,12 +3,13 @@ use base::MAX_LINKS;
 use base::NONE;
 ghost use mathlib.Core.Path.{_≡_};
 ghost use mathlib.Core.Logic.{_⊎_};
-ghost use Prim.Native.Nat.{_<_};
+ghost use Prim.Native.Nat.{_<_, _≤_};
 ghost use Rattle.base.specs.Log.{log2};
 ghost use Rattle.base.specs.Limits.{maxLinks};
 ghost use Rattle.base.specs.Ceiling.{firstTerm, ceiling};
 ghost use Rattle.base.specs.None.{none, beforeBy};
 ghost use Rattle.plan.specs.Links.{modulesOf, linksOf, lowerOf, higherOf, nearOf, farOf};
+ghost use Rattle.plan.specs.Trimmed.{trimmed};
 ghost use Rattle.plan.specs.Weights.{costOf, cost, readingSum, earlier};
 
 // A plan in file order: N modules, L links; then of each link the lower and the higher module and the readings (path loss), near at the
@@ -55,6 +56,21 @@ pub fn far(p: &Plan, k: usize) -> u16
     ensures { λ r. ⌜ r ≡ farOf (now (p .entry)) k ⌝ }
 {
     p[5 + 4 * k]
+}
+
+// The same plan, zeros past its links.
+pub fn trimmed(p: &Plan) -> Plan
+    requires { ⌜ linksOf (now p) ≤ maxLinks ⌝ }
+    ensures { λ r. ⌜ r ≡ trimmed (now (p .entry)) ⌝ }
+{
+    let end = 2 + 4 * (links(p) as usize);
+    let mut q = [0u16; NUMBERS];
+    let mut i: usize = 0;
+    while i < end {
+        q[i] = p[i];
+        i += 1;
+    }
+    q
 }
 
 // The whole part of the binary logarithm, and 0 for 0.

@@ -22,7 +22,7 @@ use Rattle.plan_file.specs.Layout.{planNumbers, bytesOf, encode}
 use Rattle.plan_file.specs.Writing.{size, writeRefusal, writePlan}
 use Rattle.plan_file.specs.laws.Lengths.{bytesOf-append, length-bytesOf, length-encode}
 
-tabulate-next : (n : ℕ) (f : ℕ → ℕ) → tabulate (suc n) f ≡ tabulate n f ++ (f n ∷ [])
+pub tabulate-next : (n : ℕ) (f : ℕ → ℕ) → tabulate (suc n) f ≡ tabulate n f ++ (f n ∷ [])
 unfolding tabulate
 tabulate-next zero f = refl
 tabulate-next (suc n) f = ap (λ xs. f zero ∷ xs) (tabulate-next n (λ i. f (suc i)))

@@ -1,10 +1,11 @@
 -- The bytes of a plan, a version byte and then integers: of a plan value (`encode`), and back (`decode`, with zeros past the links).
-use Prim.Native.Nat.{ℕ, suc, _+_, _*_, _-_}
+use Prim.Native.Nat.{ℕ, suc, _+_, _*_}
 use mathlib.Core.List.{List, [], _∷_, _++_}
-use lib.ListN.{getD, replicate}
+use lib.ListN.{getD}
 use Rattle.base.specs.Table.{tabulate}
 use Rattle.format_int16.specs.Int16.{at16, bytes16}
-use Rattle.plan.specs.Links.{Plan, linksOf, planSize}
+use Rattle.plan.specs.Links.{Plan, linksOf}
+use Rattle.plan.specs.Trimmed.{padded}
 pub use Rattle.plan.specs.Links.{blank, planNumbers}
 
 -- "Integers are 16-bit big-endian."
@@ -20,16 +21,7 @@ encode p = 1 ∷ bytesOf ((4 + 8 * linksOf p) ∷ tabulate (planNumbers (linksOf
 abbrev pub numberAt : List ℕ → ℕ → ℕ
 numberAt s i = at16 s (1 + 2 * i)
 
--- a plan value of n numbers, zeros past them
-unfoldable pub padded : ℕ → (ℕ → ℕ) → Plan
-padded n f = tabulate n f ++ replicate (planSize - n) 0
-
 -- the plan that bytes mean: the numbers after the length
 unfoldable pub decode : List ℕ → Plan
 unfolding padded
 decode s = padded (planNumbers (numberAt s 2)) (λ i. numberAt s (suc i))
-
--- a plan with zeros past its links: the form in which it is read back
-unfoldable pub trimmed : Plan → Plan
-unfolding padded
-trimmed p = padded (planNumbers (linksOf p)) (λ i. getD p i 0)

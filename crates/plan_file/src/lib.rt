@@ -61,7 +61,7 @@ fn fill(s: &[u8], plan: &mut Plan)
 }
 
 // The check of the bytes, which leaves a plan that is taken in `plan`.
-fn load(s: &[u8], plan: &mut Plan) -> u32
+pub fn load(s: &[u8], plan: &mut Plan) -> u32
     requires { ⌜ now plan ≡ blank ⌝ }
     ensures { λ r. ⌜ Loaded (now (s .entry)) r (now (plan .exit)) ⌝ }
 {
@@ -100,7 +100,7 @@ pub fn read(s: &[u8]) -> Outcome
 }
 
 // Writes a plan at the front.
-fn put_plan(p: &Plan, out: &mut [u8])
+pub fn put_plan(p: &Plan, out: &mut [u8])
     requires { ⌜ (linksOf (now p) ≤ maxLinks) × (size (now p) ≤ length (now out)) ⌝ }
     ensures { λ _. ⌜ now (out .exit) ≡ sets (now (out .entry)) 0 (encode (now (p .entry))) ⌝ }
 {

@@ -9,15 +9,16 @@ use Rattle.base.specs.Loop.{Ran}
 use Rattle.format_text.specs.Lines.{refusedText}
 use Rattle.plan_file.specs.Reading.{readPlan}
 use Rattle.plan.specs.Links.{Plan}
+use Rattle.plan.specs.Trimmed.{trimmed}
 use Rattle.field.specs.Edges.{ceilingOf}
 use Rattle.field.specs.Valid.{waitingIn}
 use Rattle.field.specs.Held.{Held, fresh}
 use Rattle.field_calls.specs.Call.{runBytes}
 use Rattle.text_trace.specs.Text.{traceText}
 
--- "It sets up with exactly M words"
+-- "It sets up with exactly M words"; the field holds the plan with zeros past its links
 abbrev pub freshHeld : Plan → Held
-freshHeld p = record { field = fresh p; words = replicate (ceilingOf p) 0 }
+freshHeld p = record { field = fresh (trimmed p); words = replicate (ceilingOf p) 0 }
 
 -- of what a run answers and leaves
 unfoldable pub ranText : Plan → Ran Held → List ℕ

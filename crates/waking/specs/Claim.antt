@@ -13,6 +13,7 @@ use Rattle.base.specs.Twice.{NoTwice}
 use Rattle.format_word.specs.Word.{linkIn}
 use Rattle.graph.specs.Graph.{Joins}
 use Rattle.plan.specs.Links.{Plan, modulesOf, graphOf}
+use Rattle.plan.specs.Trimmed.{trimmed}
 use Rattle.field.specs.Edges.{linkOf, endOf, dest}
 use Rattle.field.specs.State.{State, nodeAt}
 use Rattle.field.specs.Step.{WAKE}
@@ -70,6 +71,6 @@ pub record WakingClaim (p : Plan) (start : Held) (calls : List Call) : Type 0 wh
   pub traced : (v : ℕ) → Awake p (stateOf (after calls start)) v
       → Chain p (stateOf (after calls start)) (trail calls start) (chainFrom p (stateOf (after calls start)) (modulesOf p) v)
 
--- for every setup that is not refused, and every list of calls from it
+-- for every setup that is not refused, and every list of calls from it: of the plan as the field holds it, zeros past its links
 abbrev pub WhoWokeWhom : Type 0
-WhoWokeWhom = (p : Plan) (lent : List ℕ) → setUp p lent .refusal ≡ 0 → (calls : List Call) → WakingClaim p (setUp p lent .state) calls
+WhoWokeWhom = (p : Plan) (lent : List ℕ) → setUp p lent .refusal ≡ 0 → (calls : List Call) → WakingClaim (trimmed p) (setUp p lent .state) calls

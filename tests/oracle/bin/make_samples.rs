@@ -1,9 +1,13 @@
-//! Writes the plans of samples/. `make_samples FOLDER`, by samples/make.
+//! Writes the plans and the store of samples/. `make_samples FOLDER`, by samples/make.
 
+use oracle::field::{setup_value, WAKE};
 use oracle::plan::{Link, Plan};
 use oracle::plans::{blank, complete, connected, path, plan, ring, star, worse_reading, Readings};
+use oracle::points::{points, save};
 use oracle::report::report;
 use oracle::rng::Rng;
+use oracle::rounds;
+use oracle::schedule::Step;
 
 fn two_modules() -> Plan {
     Plan { modules: 2, links: vec![Link { lower: 0, higher: 1, at_lower: 3, at_higher: 4 }] }
@@ -17,6 +21,34 @@ fn triangle() -> Plan {
 fn mesh(rng: &mut Rng, n: u16, l: usize) -> Plan {
     let pairs = connected(rng, n, l);
     plan(rng, n, pairs, Readings::Wide)
+}
+
+/// The steps from a wake of module 0 to rest, by rounds, as `muruapy rehearse` takes them.
+fn rehearsed(plan: &Plan) -> Vec<Step> {
+    let mut words = vec![0; plan.ceiling() as usize];
+    let mut field = setup_value(plan.clone(), &mut words).expect("a good plan");
+    let mut steps = vec![Step { kind: WAKE, number: 0 }];
+    field.step(&mut words, WAKE, 0).expect("module 0 sleeps");
+    rounds::run_seen(&mut field, &mut words, 65535, &mut |step, _| steps.push(step));
+    steps
+}
+
+/// A store of three moments of the rehearsal of a plan.
+fn moments(plan: &Plan) -> Vec<u8> {
+    let (steps, mut store) = (rehearsed(plan), vec![0; 10_000]);
+    for (name, count) in [("woken", 1), ("half", 120), ("rest", steps.len())] {
+        let mut words = vec![0; plan.ceiling() as usize];
+        let mut field = setup_value(plan.clone(), &mut words).expect("a good plan");
+        for step in &steps[..count] {
+            field.step(&mut words, step.kind, step.number).expect("a step of the rehearsal");
+        }
+        save(&mut store, name.as_bytes(), &field, &words).expect("a small field");
+    }
+    let all = points(&store).expect("what was saved");
+    let end = all.last().map_or(0, |point| point.at + point.size);
+    store.truncate(end);
+    println!("mesh-9.store: {} steps, {} points, {end} bytes", steps.len(), all.len());
+    store
 }
 
 fn main() {
@@ -43,6 +75,8 @@ fn main() {
         ("refused-18-reading-2001", reading_2001),
         ("refused-19-two-parts", Plan { modules: 2, links: vec![] }),
     ];
+    let mesh = &plans.iter().find(|(name, _)| *name == "mesh-9").expect("a sample").1;
+    std::fs::write(format!("{folder}/mesh-9.store"), moments(mesh)).expect("the folder can be written to");
     for (name, plan) in plans {
         let bytes = plan.encode();
         std::fs::write(format!("{folder}/{name}.plan"), &bytes).expect("the folder can be written to");

@@ -4,12 +4,13 @@ use mathlib.Core.Path.{_≡_, refl, sym, ap, subst, _∙_}
 use mathlib.Core.List.{List, []}
 use Rattle.base.specs.Loop.{After}
 use Rattle.plan.specs.Links.{Plan}
+use Rattle.plan.specs.Trimmed.{trimmed}
 use Rattle.plan_file.specs.laws.RoundTrip.{read-refusal}
 use Rattle.field.specs.Held.{Held, setUp}
 use Rattle.field_calls.specs.Call.{Call}
 use Rattle.field_calls.specs.Trail.{trail, wokenIn}
 use Rattle.blank.specs.Claim.{Blank, BlankPlan, BlankClaim}
-use Rattle.blank.specs.laws.Plans.{blank-taken, blank-ceiling, blank-limit, blank-written, blank-short, blank-tree, blank-tree-20, read-blank, above-192, bytes-above-192, link-meets-16, bytes-meet-16, links-meet-15, bytes-meet-15}
+use Rattle.blank.specs.laws.Plans.{trimmed-blank, blank-taken, blank-ceiling, blank-limit, blank-written, blank-short, blank-tree, blank-tree-20, read-blank, above-192, bytes-above-192, link-meets-16, bytes-meet-16, links-meet-15, bytes-meet-15}
 use Rattle.blank.specs.laws.Fields.{blank-set, blank-valid, blank-field}
 use Rattle.blank.specs.laws.Program.{blankBegun, blank-begun, blank-job, blank-prints, blank-traces}
 
@@ -48,5 +49,5 @@ module _ (p : Plan) (b : Blank p) (lent : List ℕ) where
   pub nobody-woken : (calls : List Call) → wokenIn p (trail calls (setUp p lent .state)) ≡ []
   unfolding wokenIn
   nobody-woken calls =
-      let c = blank-claim .blank p b in
-      ap (λ (a : After Held). wokenIn p (trail calls (a .state))) (c .set lent) ∙ ap (wokenIn p) (c .calls (blankBegun p b lent) refl (blank-begun p b lent) .still calls)
+      let held = blank-claim .blank (trimmed p) (trimmed-blank p b) in
+      ap (λ (a : After Held). wokenIn p (trail calls (a .state))) (blank-claim .blank p b .set lent) ∙ ap (wokenIn p) (held .calls (blankBegun p b lent) refl (blank-begun p b lent) .still calls)

@@ -18,6 +18,7 @@ use Rattle.base.specs.Test.{every}
 use Rattle.base.specs.Loop.{After, takenTo, refusedBy, then, loop, runs, loopTrace, runsTrace}
 use Rattle.base.specs.laws.Loop.{runs-keep, runs-rest, runs-refused}
 use Rattle.plan.specs.Links.{Plan, modulesOf}
+use Rattle.plan.specs.Trimmed.{trimmed}
 use Rattle.field.specs.Edges.{ceilingOf}
 use Rattle.field.specs.State.{State}
 use Rattle.field.specs.Step.{WAKE, HAND, SERVE, wake, hand, serve, step}
@@ -40,7 +41,7 @@ use Rattle.blank.specs.laws.Plans.{blank-taken, blank-ceiling}
 
 -- SETUP
 
-pub blank-set : (p : Plan) → Blank p → (lent : List ℕ) → setUp p lent ≡ takenTo (record { field = fresh p; words = zeroWords (length lent) })
+pub blank-set : (p : Plan) → Blank p → (lent : List ℕ) → setUp p lent ≡ takenTo (record { field = fresh (trimmed p); words = zeroWords (length lent) })
 unfolding setUp
 blank-set p b lent = rw (blank-taken p b, blank-ceiling p b, le-ltb (length lent) 0 (omega arith)) refl
 

@@ -22,10 +22,12 @@ use Rattle.plan.specs.Links.{Plan, modulesOf, linksOf, lowerOf, higherOf, nearO
 use Rattle.plan.specs.Refusal.{countsRefusal, inOrder, linkVerdict, linkRefusal, linksRefusal, planRefusal}
 use Rattle.plan.specs.laws.Accepted.{counted-back, accepted-back}
 use Rattle.plan_file.specs.declared.Outcome.{Outcome}
-use Rattle.plan_file.specs.Layout.{bytesOf, encode, numberAt, decode, trimmed, blank}
+use Rattle.plan.specs.Trimmed.{trimmed}
+use Rattle.plan.specs.laws.Trimmed.{trimmed-same}
+use Rattle.plan_file.specs.Layout.{bytesOf, encode, numberAt, decode, blank}
 use Rattle.plan_file.specs.Reading.{headVerdict, headRefusal, readRefusal, readPlan}
 use Rattle.plan_file.specs.Writing.{writeRefusal, writePlan}
-use Rattle.plan_file.specs.laws.RoundTrip.{trimmed-same, written-read, number-decode, read-written, read-refusal, read-plan}
+use Rattle.plan_file.specs.laws.RoundTrip.{written-read, number-decode, read-written, read-refusal, read-plan}
 use Rattle.plan_tree.specs.Tree.{treeBytes, treeRefusal, centralTree}
 use Rattle.field.specs.Edges.{limitOf, ceilingOf}
 use Rattle.blank.specs.Claim.{Blank, blankBytes, HeadTaken, linksLength}
@@ -76,8 +78,11 @@ zeros-blank = record { nobody = refl; unlinked = refl }
 pub blank-read : readPlan blankBytes ≡ record { refusal = 0; plan = trimmed blank }
 blank-read = ap readPlan (sym (blank-bytes blank zeros-blank)) ∙ written-read blank (blank-taken blank zeros-blank)
 
-pub trimmed-blank : Blank (trimmed blank)
-trimmed-blank = record { nobody = sym (trimmed-same blank .modules); unlinked = sym (trimmed-same blank .links) }
+pub trimmed-blank : (p : Plan) → Blank p → Blank (trimmed p)
+trimmed-blank p b = record { nobody = sym (trimmed-same p .modules) ∙ b .nobody; unlinked = sym (trimmed-same p .links) ∙ b .unlinked }
+
+pub zeros-trimmed : Blank (trimmed blank)
+zeros-trimmed = trimmed-blank blank zeros-blank
 
 pub read-blank : (s : List ℕ) → AllBytes s → ((readPlan s .refusal ≡ 0) × Blank (readPlan s .plan)) ↔ (s ≡ blankBytes)
 read-blank s b = (
@@ -87,7 +92,7 @@ read-blank s b = (
       sym (read-written s z b) ∙ blank-bytes (decode s) d),
   (λ e.
       let r : readPlan s ≡ record { refusal = 0; plan = trimmed blank } = ap readPlan e ∙ blank-read in
-      (ap (λ (o : Outcome). o .refusal) r, subst Blank (sym (ap (λ (o : Outcome). o .plan) r)) trimmed-blank)),
+      (ap (λ (o : Outcome). o .refusal) r, subst Blank (sym (ap (λ (o : Outcome). o .plan) r)) zeros-trimmed)),
 )
 
 -- 14 AND 16

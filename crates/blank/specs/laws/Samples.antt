@@ -6,7 +6,8 @@ use Rattle.base.specs.Table.{tabulate}
 use Rattle.base.specs.Test.{every}
 use Rattle.graph.specs.Decide.{label, joinedOver, connected}
 use Rattle.plan.specs.Refusal.{ascends, inOrder, linkVerdict, linksRefusal, planRefusal}
-use Rattle.plan_file.specs.Layout.{padded, decode}
+use Rattle.plan.specs.Trimmed.{padded}
+use Rattle.plan_file.specs.Layout.{decode}
 use Rattle.plan_file.specs.Reading.{headVerdict, readRefusal, readPlan}
 use Rattle.blank.specs.Claim.{blankBytes}
 

@@ -2,8 +2,9 @@
 use Prim.Native.Nat.{ℕ}
 use mathlib.Core.Path.{_≡_, refl}
 use mathlib.Core.List.{List, [], _∷_}
-use mathlib.Core.Bool.{Bool, true, false, _&&_}
+use mathlib.Core.Bool.{Bool, true, _&&_}
 use lib.Dec.{eqb}
+use Rattle.base.specs.Test.{sameList}
 use Rattle.format_message.specs.Msg.{Msg, none, connect, initiate, test, report}
 use Rattle.format_message.specs.Header.{partsOf, headerOf, carriedOf}
 use Rattle.format_message.specs.Listed.{bare, listedAs, listed}
@@ -15,14 +16,8 @@ pub data FrameRow : Type 0 where
   -- bytes and what the check answers
   answers : List ℕ → ℕ → FrameRow
 
-unfoldable pub sameBytes : List ℕ → List ℕ → Bool
-sameBytes [] [] = true
-sameBytes (a ∷ s) (b ∷ t) = eqb a b && sameBytes s t
-sameBytes [] (b ∷ t) = false
-sameBytes (a ∷ s) [] = false
-
 unfoldable pub rowHolds : FrameRow → Bool
-rowHolds (says m s) = sameBytes (frameBytes (headerOf m) (carriedOf m)) s && eqb (frameRefusal s) 0
+rowHolds (says m s) = sameList (frameBytes (headerOf m) (carriedOf m)) s && eqb (frameRefusal s) 0
 rowHolds (answers s r) = eqb (frameRefusal s) r
 
 unfoldable pub allHold : List FrameRow → Bool
@@ -49,5 +44,5 @@ frameRows =
     ∷ []
 
 pub all-hold : allHold frameRows ≡ true
-unfolding rowHolds sameBytes frameRefusal listed listedAs bare partsOf allHold
+unfolding rowHolds sameList frameRefusal listed listedAs bare partsOf allHold
 all-hold = refl

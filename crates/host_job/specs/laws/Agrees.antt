@@ -14,7 +14,11 @@ use Rattle.base.specs.Loop.{Ran, countedTurn, runs, runsTrace}
 use Rattle.base.specs.Test.{every}
 use Rattle.base.specs.Pool.{All, con}
 use Rattle.plan.specs.Links.{Plan, modulesOf, linksOf}
+use Rattle.plan.specs.Trimmed.{trimmed}
+use Rattle.plan.specs.Same.{Same}
 use Rattle.plan.specs.laws.Accepted.{Accepted, accepted}
+use Rattle.plan.specs.laws.Same.{same-sym}
+use Rattle.plan.specs.laws.Trimmed.{trimmed-same}
 use Rattle.plan.specs.laws.Ceiling.{ceiling-small}
 use Rattle.node.specs.Work.{Work, ASLEEP, REFUSED, BRANCH, REJECTED}
 use Rattle.field.specs.Edges.{ceilingOf}
@@ -25,12 +29,13 @@ use Rattle.field_calls.specs.Schedule.{scheduleRefusal}
 use Rattle.field_calls.specs.Call.{Call, run, rounds, after, answers, does, laidBack, runBytes, runRounds}
 use Rattle.field_calls.specs.Trail.{stepTaken, trail, stepsOf, ifTaken, messagesSent, wokenIn, wakesOne}
 use Rattle.field_calls.specs.Demand.{BothSay, Agreed, Allowed, ComesToRest, Claim}
-use Rattle.field_laws.specs.After.{started, begun-live, fresh-node}
+use Rattle.field_laws.specs.After.{started, trimmed-ceiling, begun-live, fresh-node}
 use Rattle.field_laws.specs.Laid.{Live}
 use Rattle.demand.specs.Demand.{demand3}
 use Rattle.plan_tree.specs.Tree.{centralTree}
 use Rattle.plan_tree.specs.laws.Theorems.{written-tree, tree-written}
 use Rattle.host_job.specs.Job.{jobWakes, maxRounds, jobRun}
+use Rattle.host_job.specs.laws.Held.{same-agreed}
 
 -- the calls that it makes
 abbrev pub calls : Plan → List Call
@@ -73,9 +78,9 @@ head : {A : Type 0} {P : A → Type 0} {x : A} {l : List A} → All P (x ∷ l) 
 head (con h t) = h
 
 -- then a module was woken
-woken : (p : Plan) (h : Held) → valid h ≡ true → modulesOf p ≢ 0 → step (h .field .plan) WAKE 0 (stateOf h) .refusal ≡ 0 → (cs : List Call) → wokenIn p (trail (run (jobWakes p) ∷ cs) h) ≢ []
+woken : (p q : Plan) (h : Held) → valid h ≡ true → modulesOf p ≢ 0 → step (h .field .plan) WAKE 0 (stateOf h) .refusal ≡ 0 → (cs : List Call) → wokenIn q (trail (run (jobWakes p) ∷ cs) h) ≢ []
 unfolding trail stepsOf ifTaken wokenIn wakesOne scheduleRefusal every runs runsTrace
-woken p h i n z cs e =
+woken p q h i n z cs e =
     let f = rw (i, ne-eqb _ 0 n, eq-eqb _ 0 z) at e in
     omega (arith, ap length f)
 
@@ -91,16 +96,23 @@ module _ (p : Plan) (lent : List ℕ) (ok : setUp p lent .refusal ≡ 0) where
   abbrev start : Held
   start = setUp p lent .state
 
-  live : Live start
-  live = let q = started p lent ok in subst Live (sym (q .is)) (begun-live p lent (q .plan) (q .room))
+  -- the plan as the field holds it
+  abbrev held : Plan
+  held = trimmed p
 
-  first : Claim p start (run (jobWakes p) ∷ [])
+  same : Same p held
+  same = trimmed-same p
+
+  live : Live start
+  live = let q = started p lent ok in subst Live (sym (q .is)) (begun-live held lent (q .plan) (q .room))
+
+  first : Claim held start (run (jobWakes p) ∷ [])
   first = demand3 p lent ok (run (jobWakes p) ∷ [])
 
-  whole : Claim p start (calls p)
+  whole : Claim held start (calls p)
   whole = demand3 p lent ok (calls p)
 
-  own : start .field .plan ≡ p
+  own : start .field .plan ≡ held
   own = ap (λ (h : Held). h .field .plan) (started p lent ok .is)
 
   -- where there is somebody, module 0 is asleep: the wake is taken
@@ -109,7 +121,7 @@ module _ (p : Plan) (lent : List ℕ) (ok : setUp p lent .refusal ≡ 0) where
   taken n =
       let q = started p lent ok in
       let asleep : nodeAt (stateOf start) 0 .status ≡ ASLEEP = ap (λ h. nodeAt (stateOf h) 0 .status) (q .is) ∙ ap (λ n. n .status) (fresh-node 0 (omega arith)) in
-      let some : 0 < modulesOf (start .field .plan) = omega (arith, ap modulesOf own) in
+      let some : 0 < modulesOf (start .field .plan) = omega (arith, ap modulesOf own, same .modules) in
       unrefused _ (jobWakes p) (wake-only (start .field .plan) (stateOf start) some asleep)
       (subst (Allowed (run (jobWakes p))) (ap (λ (r : Ran Held). r .refusal) (wakes-one p start (live .valid) n)) (head (first .refusals)))
 
@@ -119,8 +131,8 @@ module _ (p : Plan) (lent : List ℕ) (ok : setUp p lent .refusal ≡ 0) where
       (λ n. ap (λ (r : Ran Held). r .refusal) (wakes-one p start (live .valid) n) ∙ taken n)
 
   -- M + N is below the limit
-  room : ceilingOf p + modulesOf p ≤ maxRounds
-  room = let k = started p lent ok .plan in omega (arith, ceiling-small p k, accepted p k .modulesOk)
+  room : ceilingOf held + modulesOf held ≤ maxRounds
+  room = let k = started p lent ok .plan in omega (arith, ceiling-small held k, accepted held k .modulesOk)
 
   -- so the job is that list of calls
   pub job-is : jobRun p lent ≡ runRounds maxRounds (runBytes (jobWakes p) start .state)
@@ -135,7 +147,8 @@ module _ (p : Plan) (lent : List ℕ) (ok : setUp p lent .refusal ≡ 0) where
     -- "wakes module 0"; request 04: "skips the wake" where there is nobody
     pub wakes : trail (run (jobWakes p) ∷ []) start ≡ cond (eqb (modulesOf p) 0) [] (stepTaken WAKE 0 (stateOf start) ∷ [])
     pub rests : ComesToRest p (jobRun p lent)
-    pub exact : stateOf (jobRun p lent .state) .sent ≡ messagesSent p (trail (calls p) start)
+    -- (sends are those of the plan as the field holds it)
+    pub exact : stateOf (jobRun p lent .state) .sent ≡ messagesSent held (trail (calls p) start)
     pub ceiling : stateOf (jobRun p lent .state) .sent ≤ ceilingOf p
     pub agreed : Agreed p (stateOf (jobRun p lent .state))
 
@@ -148,11 +161,11 @@ module _ (p : Plan) (lent : List ℕ) (ok : setUp p lent .refusal ≡ 0) where
   job-outcome = record {
     is = job-is;
     wakes = waking;
-    rests = rw job-is (first .rests maxRounds room);
+    rests = let r = first .rests maxRounds room in rw job-is (record { rest = r .rest; unrefused = r .unrefused; within = omega (arith, r .within, trimmed-ceiling p, same .modules) });
     exact = rw job-is (whole .exact);
-    ceiling = rw job-is (whole .ceiling);
-    agreed = by-eq (modulesOf p) 0 (nobody-agrees p _ (accepted p (started p lent ok .plan)))
-        (λ n. rw job-is (whole .agreed (woken p start (live .valid) n (taken n) _) (first .rests maxRounds room .rest)));
+    ceiling = rw job-is (omega (arith, whole .ceiling, trimmed-ceiling p));
+    agreed = same-agreed (same-sym same) _ (by-eq (modulesOf p) 0 (λ e. nobody-agrees held _ (accepted held (started p lent ok .plan)) (sym (same .modules) ∙ e))
+        (λ n. rw job-is (whole .agreed (woken p held start (live .valid) n (taken n) _) (first .rests maxRounds room .rest))));
   }
 
   -- THE TREE OF THE CENTRAL BUILDER: both ends of a link say branch where its byte is 1, rejected where it is 0

@@ -2,7 +2,7 @@
 use native.Mathlib.Omega.{arith}
 use mathlib.Core.Path.{refl}
 use borrow.Author.Needs.{needs}
-use Rattle.host_setup.proofs.Outcomes.{setup-bad, setup-few, setup-done}
+use Rattle.host_setup.proofs.Outcomes.{setup-bad, setup-few, setup-links, setup-done}
 use Rattle.host_setup.proofs.setup.Statement.{statement}
 use Rattle.host_setup.proofs.setup.Tie as tie
 
@@ -13,6 +13,11 @@ returns-2 : tie.Need-returns-2
 returns-2 c =
     let m = c .before .before in
     setup-few _ _ _ (m .before .before .check .ensures) _ (m .before .if1 .left) (omega (arith, m .ceiling-of .ensures, c .before .if2 .taken)) (c .refused-by2 .ensures)
+
+fresh-field-requires : tie.Need-fresh-field-requires
+fresh-field-requires c κs =
+    let m = c .before .before .before .before .before in
+    setup-links _ _ (m .before .before .check .ensures) (m .before .if1 .left)
 
 returns-3 : tie.Need-returns-3
 returns-3 c =
@@ -33,6 +38,6 @@ setup-spec =
     (λ c κs. search needs)
     returns-2
     (λ c κs. search needs)
-    (λ c κs. search needs)
+    fresh-field-requires
     (λ c. search needs)
     returns-3)

@@ -4,7 +4,7 @@ use native.Mathlib.Omega.{arith}
 use native.Mathlib.Numerals.{add-one}
 use mathlib.Core.Path.{_≡_, ap, _∙_}
 use Rattle.plan_file.specs.Layout.{planNumbers, numberAt, decode}
-use Rattle.plan_file.proofs.Answers.{readTo, none-read, one-read, all-read}
+use Rattle.plan.specs.laws.Trimmed.{readTo, none-read, one-read, all-read}
 use borrow.Author.Needs.{needs}
 use Rattle.plan_file.proofs.fill.Statement.{statement}
 use Rattle.plan_file.proofs.fill.Tie as tie

@@ -1,18 +1,17 @@
 -- Integers and their bytes determine each other (`number-of`, `bytes-of`).
-use Prim.Native.Nat.{ℕ, zero, suc, _+_, _*_, _/_, _%_, _-_, _<_}
+use Prim.Native.Nat.{ℕ, zero, suc, _+_, _*_, _/_, _%_, _<_}
 use native.Mathlib.Omega.{arith}
 use native.Mathlib.Nat.{not-suc-le-zero}
 use mathlib.Core.Path.{_≡_, refl, ap, _∙_}
 use mathlib.Core.List.{List, [], _∷_}
-use lib.ListN.{length, getD, replicate, List·getD-append}
+use lib.ListN.{length, getD}
 use Rattle.base.specs.Pool.{All, nil, con}
 use Rattle.base.specs.Limits.{AllBytes}
 use Rattle.base.specs.Table.{tabulate}
-use Rattle.base.specs.laws.Table.{tabulate-ext, length-tabulate, getD-tabulate}
+use Rattle.base.specs.laws.Table.{tabulate-ext}
 use Rattle.format_int16.specs.Int16.{at16}
-use Rattle.plan.specs.Links.{planSize}
 use Rattle.format_int16.specs.laws.Int16.{bytes-join, high-byte, low-byte}
-use Rattle.plan_file.specs.Layout.{bytesOf, numberAt, padded}
+use Rattle.plan_file.specs.Layout.{bytesOf, numberAt}
 
 -- each is a byte: said of the list, and by place
 pub all-bytes : (s : List ℕ) → All (λ b. b < 256) s → AllBytes s
@@ -53,8 +52,3 @@ pub All-tabulate : {P : ℕ → Type 0} (n : ℕ) (f : ℕ → ℕ) → ((i : �
 unfolding tabulate
 All-tabulate zero f h = nil
 All-tabulate (suc n) f h = con (h zero (omega arith)) (All-tabulate n (λ i. f (suc i)) (λ i l. h (suc i) (omega arith)))
-
--- number i of a plan value that is padded
-pub padded-at : (n : ℕ) (f : ℕ → ℕ) (i : ℕ) → i < n → getD (padded n f) i 0 ≡ f i
-unfolding padded
-padded-at n f i l = List·getD-append (tabulate n f) (replicate (planSize - n) 0) 0 i (omega (arith, length-tabulate n f)) ∙ getD-tabulate n f i l

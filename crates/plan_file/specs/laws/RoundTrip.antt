@@ -1,5 +1,5 @@
--- Written and read (`written-read`, `left-read`, `trimmed-same`), read and written (`read-written`, `written-again`): each gives back what went in.
--- The reader takes exactly the written plans (`taken-listed`, `listed-taken`).
+-- Written and read (`written-read`, `left-read`), read and written (`read-written`, `written-again`): each gives back what went in.
+-- The reader takes exactly the written plans (`taken-listed`, `listed-taken`). What is read is trimmed (`decode-trimmed`).
 use Prim.Native.Nat.{ℕ, zero, suc, _+_, _*_, _/_, _%_, _-_, _≤_, _<_}
 use native.Mathlib.Omega.{arith}
 use mathlib.Core.Path.{_≡_, refl, sym, ap, ap₂, _∙_}
@@ -18,15 +18,15 @@ use Rattle.base.specs.laws.Table.{length-tabulate, tabulate-ext, getD-tabulate}
 use Rattle.plan.specs.Links.{Plan, linksOf, planSize}
 use Rattle.plan.specs.Refusal.{planRefusal}
 use Rattle.plan.specs.laws.Accepted.{Accepted, accepted}
-use Rattle.plan.specs.Same.{Same}
-use Rattle.plan.specs.laws.Same.{same-taken}
+use Rattle.plan.specs.Trimmed.{padded, trimmed}
+use Rattle.plan.specs.laws.Trimmed.{padded-at, trimmed-taken}
 use Rattle.plan_file.specs.declared.Outcome.{Outcome}
-use Rattle.plan_file.specs.Layout.{planNumbers, bytesOf, encode, numberAt, padded, decode, trimmed, blank}
+use Rattle.plan_file.specs.Layout.{planNumbers, bytesOf, encode, numberAt, decode, blank}
 use Rattle.plan_file.specs.laws.Lengths.{length-encode}
 use Rattle.plan_file.specs.Reading.{headRefusal, readRefusal, readPlan}
 use Rattle.plan_file.specs.Writing.{size, writeRefusal, writePlan}
 use Rattle.plan_file.specs.laws.Head.{HeadOk, head-ok, ok-head}
-use Rattle.plan_file.specs.laws.Numbers.{all-bytes, number-of, bytes-numbers, bytes-of, padded-at, All-tabulate}
+use Rattle.plan_file.specs.laws.Numbers.{all-bytes, number-of, bytes-numbers, bytes-of, All-tabulate}
 
 -- WRITTEN, THEN READ
 
@@ -39,25 +39,10 @@ module _ (p : Plan) where
   number-encode i l = number-of 1 ((4 + 8 * linksOf p) ∷ ownNumbers) (suc i) (omega (arith, length-tabulate (planNumbers (linksOf p)) (λ i. getD p i 0)))
       ∙ getD-tabulate (planNumbers (linksOf p)) (λ i. getD p i 0) i l
 
-  decode-encode : decode (encode p) ≡ trimmed p
+  pub decode-encode : decode (encode p) ≡ trimmed p
   unfolding decode trimmed padded
   decode-encode = rw (number-encode 1 (omega arith))
       (ap (λ xs. xs ++ replicate (planSize - planNumbers (linksOf p)) 0) (tabulate-ext (planNumbers (linksOf p)) (λ i. numberAt (encode p) (suc i)) (λ i. getD p i 0) number-encode))
-
-  -- its numbers up to its links are the plan's
-  pub trimmed-same : Same p (trimmed p)
-  unfolding trimmed
-  trimmed-same = record {
-    modules = entry 0 (omega arith);
-    links = entry 1 (omega arith);
-    lows = λ k l. entry (2 + 4 * k) (omega arith);
-    highs = λ k l. entry (3 + 4 * k) (omega arith);
-    nears = λ k l. entry (4 + 4 * k) (omega arith);
-    fars = λ k l. entry (5 + 4 * k) (omega arith);
-  }
-    where
-      entry : (i : ℕ) → i < planNumbers (linksOf p) → getD p i 0 ≡ getD (trimmed p) i 0
-      entry i l = sym (padded-at (planNumbers (linksOf p)) (λ j. getD p j 0) i l)
 
   encode-head : Accepted p → HeadOk (encode p)
   unfolding encode bytesOf
@@ -72,7 +57,7 @@ module _ (p : Plan) where
   unfolding readRefusal
   written-taken z =
       let a = accepted p z in
-      zero-firstRefusal (ok-head (encode p) (encode-head a)) (ap planRefusal decode-encode ∙ same-taken trimmed-same z)
+      zero-firstRefusal (ok-head (encode p) (encode-head a)) (ap planRefusal decode-encode ∙ trimmed-taken p z)
 
   -- "A plan .. written and read gives its meaning back": an accepted plan, with zeros past its links
   pub written-read : planRefusal p ≡ 0 → readPlan (encode p) ≡ record { refusal = 0; plan = trimmed p }
@@ -116,8 +101,16 @@ pub number-decode : (s : List ℕ) (i : ℕ) → i < planNumbers (numberAt s 2) 
 unfolding decode
 number-decode s i l = padded-at (planNumbers (numberAt s 2)) (λ j. numberAt s (suc j)) i l
 
+-- what is read has zeros past its links
+pub decode-trimmed : (s : List ℕ) → trimmed (decode s) ≡ decode s
+unfolding trimmed padded decode
+decode-trimmed s =
+    let n = planNumbers (numberAt s 2) in
+    ap (λ k. padded (planNumbers k) (λ i. getD (decode s) i 0)) (number-decode s 1 (omega arith))
+    ∙ ap (λ (xs : List ℕ). xs ++ replicate (planSize - n) 0) (tabulate-ext n (λ i. getD (decode s) i 0) (λ i. numberAt s (suc i)) (number-decode s))
+
 module _ (s : List ℕ) (z : readRefusal s ≡ 0) where
-  read-head : HeadOk s
+  pub read-head : HeadOk s
   unfolding readRefusal
   read-head = head-ok s (firstRefusal-zero (headRefusal s) z .0)
 

@@ -18,7 +18,8 @@ use Rattle.format_word.specs.Word.{packWaiting}
 use Rattle.base.specs.Ceiling.{ceiling}
 use Rattle.plan.specs.Refusal.{ascends, inOrder, linkVerdict, linksRefusal, planRefusal}
 use Rattle.plan.specs.Weights.{cost, earlier}
-use Rattle.plan_file.specs.Layout.{padded, decode}
+use Rattle.plan.specs.Trimmed.{padded}
+use Rattle.plan_file.specs.Layout.{decode}
 use Rattle.plan_file.specs.Reading.{readRefusal, headVerdict}
 use Rattle.plan_tree.specs.Tree.{centralTree, treeBytes, treeRefusal}
 use Rattle.node.specs.Rules.{wakeOn, awake, onTest, unlessAsleep, respondTo}

@@ -15,11 +15,13 @@ use Rattle.format_text.specs.Ascii.{ascii}
 use Rattle.graph.specs.laws.Decide.{inTree-tree, tree-inTree}
 use Rattle.graph.specs.Least.{totalCost}
 use Rattle.plan.specs.Links.{graphOf, Plan, modulesOf, linksOf, lowerOf, higherOf}
+use Rattle.plan.specs.Trimmed.{trimmed}
 use Rattle.node.specs.Work.{BRANCH}
 use Rattle.plan.specs.Weights.{cost, earlier}
 use Rattle.plan.specs.laws.Accepted.{Accepted, accepted}
 use Rattle.plan_file.specs.Reading.{readPlan}
-use Rattle.plan_file.specs.laws.RoundTrip.{read-taken}
+use Rattle.plan_file.specs.Layout.{decode}
+use Rattle.plan_file.specs.laws.RoundTrip.{read-taken, read-refusal, read-plan, decode-trimmed}
 use Rattle.plan_tree.specs.Tree.{treeLink}
 use Rattle.field.specs.Edges.{ceilingOf, isOwn, marksIn, endOf}
 use Rattle.field.specs.State.{State, markAt}
@@ -66,8 +68,10 @@ module _ (s : List ℕ) (z : readPlan s .refusal ≡ 0) where
   unfolding after does
   own-plan =
       let q = started p lent set in
-      let live : Live (setUp p lent .state) = subst Live (sym (q .is)) (begun-live p lent (q .plan) (q .room)) in
+      let live : Live (setUp p lent .state) = subst Live (sym (q .is)) (begun-live (trimmed p) lent (q .plan) (q .room)) in
+      let y : p ≡ decode s = read-plan s (sym (read-refusal s) ∙ z) in
       ap (λ (r : Ran Held). r .state .field .plan) (job-is p lent set) ∙ after-plan (calls p) (setUp p lent .state) live ∙ ap (λ (h : Held). h .field .plan) (q .is)
+      ∙ ap trimmed y ∙ decode-trimmed s ∙ sym y
 
   -- the lower end of a link marks it 1 where the tree has it, 2 elsewhere
   marked : MarksTree p (ran .state .field .marks) (linksOf p)

@@ -28,6 +28,7 @@ use Rattle.graph.specs.Decide as graph1
 use Rattle.format_message.specs.Header as message1
 use Rattle.format_message.specs.Listed as message2
 use Rattle.plan.specs.Refusal as plan1
+use Rattle.plan.specs.Trimmed as plan3
 use Rattle.plan.specs.Weights as plan2
 use Rattle.node.specs.Rules as node1
 use Rattle.node.specs.Work as node2
@@ -84,7 +85,7 @@ record Computed : Type 0 where
   shown : jobText (runRounds 4 woken) ≡ printed
 
 computed : Computed
-unfolding jobText text1.decimal report1.total report2.branchText report2.branchLines report2.endText report2.endsText report2.coreText report2.reportText planfile1.padded planfile1.decode planfile2.headVerdict planfile2.readRefusal planfile2.readPlan base6.tabulate base6.upto base1.upd base2.place base3.log2-to base3.log2 base4.then base4.loop base4.runs base5.every graph1.label graph1.joinedOver graph1.connected message1.partsOf message1.msgOf message2.bare message2.listedAs message2.listed plan1.ascends plan1.inOrder plan1.linkVerdict plan1.linksRefusal plan1.planRefusal base7.beforeBy plan2.cost plan2.earlier node1.wakeOn node1.awake node1.doReport node1.testOn node1.changeRoot node1.countUp node1.absorb node1.coreEnd node1.onConnect node1.seek node1.onInitiate node1.onTest node1.childReport node1.coreReport node1.onReport node1.unlessAsleep node1.respondTo node2.earliest node2.number node2.onEach field0.isOwn field0.endOf field0.marksIn field1.newMarks field2.carryOut field2.wake field2.hand field2.backOf field2.serve field2.step field3.allOf field3.waitingIn field3.wordFits field3.nodeFits field3.fits field4.valid field4.freshCells field4.setUp base2.many calls1.scheduleRefusal calls2.handTurn calls2.serveTurn calls2.round calls3.runBytes calls3.runRounds calls3.does
+unfolding jobText text1.decimal report1.total report2.branchText report2.branchLines report2.endText report2.endsText report2.coreText report2.reportText planfile1.decode planfile2.headVerdict planfile2.readRefusal planfile2.readPlan base6.tabulate base6.upto base1.upd base2.place base3.log2-to base3.log2 base4.then base4.loop base4.runs base5.every graph1.label graph1.joinedOver graph1.connected message1.partsOf message1.msgOf message2.bare message2.listedAs message2.listed plan1.ascends plan1.inOrder plan1.linkVerdict plan1.linksRefusal plan1.planRefusal base7.beforeBy plan2.cost plan2.earlier node1.wakeOn node1.awake node1.doReport node1.testOn node1.changeRoot node1.countUp node1.absorb node1.coreEnd node1.onConnect node1.seek node1.onInitiate node1.onTest node1.childReport node1.coreReport node1.onReport node1.unlessAsleep node1.respondTo node2.earliest node2.number node2.onEach field0.isOwn field0.endOf field0.marksIn field1.newMarks field2.carryOut field2.wake field2.hand field2.backOf field2.serve field2.step field3.allOf field3.waitingIn field3.wordFits field3.nodeFits field3.fits field4.valid field4.freshCells field4.setUp plan3.padded plan3.trimmed base2.many calls1.scheduleRefusal calls2.handTurn calls2.serveTurn calls2.round calls3.runBytes calls3.runRounds calls3.does
 computed = record { taken = refl; words = refl; set = refl; four = refl; still = refl; shown = refl }
 
 pub sample : reported given ≡ printed

@@ -13,15 +13,17 @@ use Rattle.format_text.specs.laws.Lines.{line-length}
 use Rattle.plan.specs.Refusal.{planRefusal}
 use Rattle.plan.specs.laws.Accepted.{Accepted, accepted}
 use Rattle.plan.specs.laws.Ceiling.{ceiling-small}
+use Rattle.plan.specs.laws.Trimmed.{trimmed-taken}
 use Rattle.plan_file.specs.Reading.{readPlan}
 use Rattle.plan_file.specs.laws.RoundTrip.{read-taken}
 use Rattle.plan.specs.Links.{Plan}
+use Rattle.plan.specs.Trimmed.{trimmed}
 use Rattle.field.specs.Edges.{ceilingOf}
 use Rattle.field.specs.Valid.{waitingIn}
 use Rattle.field.specs.Held.{Held, fresh}
 use Rattle.field_calls.specs.Call.{run, runBytes, does}
 use Rattle.field_laws.specs.Laid.{Live, live-sound, does-live, plan-of-does}
-use Rattle.field_laws.specs.After.{begun-live}
+use Rattle.field_laws.specs.After.{trimmed-ceiling, begun-live}
 use Rattle.text_trace.specs.laws.Fits.{trace-length}
 use Rattle.text_owed.specs.Traced.{freshHeld, planPart, ranText, traced}
 
@@ -34,14 +36,14 @@ module _ (p : Plan) (a : planRefusal p ≡ 0) where
   begun : Live (freshHeld p)
   begun =
       let n = length-replicate {A = ℕ} (ceilingOf p) 0 in
-      subst (λ k. Live (record { field = fresh p; words = replicate k 0 })) n (begun-live p (replicate (ceilingOf p) 0) a (omega (arith, n)))
+      subst (λ k. Live (record { field = fresh (trimmed p); words = replicate k 0 })) n (begun-live (trimmed p) (replicate (ceilingOf p) 0) (trimmed-taken p a) (omega (arith, n, trimmed-ceiling p)))
 
   waiting-small : (schedule : List ℕ) → length (waitingIn (runBytes schedule (freshHeld p) .state .words)) ≤ maxWords
   unfolding does
   waiting-small schedule =
       let h = does (run schedule) (freshHeld p) .state in
       let left = live-sound h (does-live (freshHeld p) begun (run schedule)) .fits in
-      let most : ceilingOf (h .field .plan) ≤ maxWords = rw (plan-of-does (freshHeld p) begun (run schedule)) (ceiling-small p a) in
+      let most : ceilingOf (h .field .plan) ≤ maxWords = rw (plan-of-does (freshHeld p) begun (run schedule)) (ceiling-small (trimmed p) (trimmed-taken p a)) in
       omega (arith, left .waiting, left .ceiling)
 
 pub traced-length : (s : List ℕ) → length (traced s) ≤ 400000

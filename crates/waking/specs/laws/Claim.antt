@@ -13,6 +13,7 @@ use Rattle.base.specs.Twice.{nobody}
 use Rattle.plan.specs.Refusal.{planRefusal}
 use Rattle.plan.specs.laws.Accepted.{accepted}
 use Rattle.plan.specs.Links.{Plan, linksOf}
+use Rattle.plan.specs.Trimmed.{trimmed}
 use Rattle.node.specs.declared.Node.{Node}
 use Rattle.node.specs.Work.{ASLEEP}
 use Rattle.field.specs.Edges.{ceilingOf}
@@ -75,17 +76,18 @@ module _ (p : Plan) (s : State) (v : ℕ) where
 -- THE CLAIM
 pub who-woke-whom : WhoWokeWhom
 who-woke-whom p lent z calls =
+    let q = trimmed p in
     let y = started p lent z in
-    let few : linksOf p ≤ none = omega (arith, accepted p (y .plan) .linksOk) in
-    subst (λ h. WakingClaim p h calls) (sym (y .is))
-    (let b = list-waking p lent (y .plan) (y .room) calls in
-    let h : Held = record { field = fresh p; words = replicate (length lent) 0 } in
+    let few : linksOf q ≤ none = omega (arith, accepted q (y .plan) .linksOk) in
+    subst (λ h. WakingClaim q h calls) (sym (y .is))
+    (let b = list-waking q lent (y .plan) (y .room) calls in
+    let h : Held = record { field = fresh q; words = replicate (length lent) 0 } in
     let s = stateOf (after calls h) in
     let l = trail calls h in
     record {
-      told = λ v i. told-in p s v l (b .told)
+      told = λ v i. told-in q s v l (b .told)
           (by-eq (nodeAt s v .status) ASLEEP (λ e. inr (b .sound .fits .nodes v i .unwoken e)) (λ n. inl (b .members v (record { within = i; awake = n }))));
       exactly = λ v. (b .members v, all-member (b .awake));
       once = b .once;
-      traced = λ v k. chain-found p few s l v (b .traced v k);
+      traced = λ v k. chain-found q few s l v (b .traced v k);
     })

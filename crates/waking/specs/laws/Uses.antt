@@ -25,6 +25,7 @@ use Rattle.base.specs.Log as base3
 use Rattle.base.specs.Test as base5
 use Rattle.graph.specs.Decide as graph1
 use Rattle.plan.specs.Refusal as plan1
+use Rattle.plan.specs.Trimmed as plan3
 use Rattle.field.specs.Held as field4
 
 -- woken over its waking link, from another module that is awake and was woken before
@@ -102,6 +103,6 @@ module _ (p : Plan) (start : Held) (calls : List Call) (c : WakingClaim p start 
 
 -- ---- a plan that has it
 
-pub triangle-claim : (calls : List Call) → WakingClaim worseReading (setUp worseReading (replicate 21 0) .state) calls
+pub triangle-claim : (calls : List Call) → WakingClaim (plan3.trimmed worseReading) (setUp worseReading (replicate 21 0) .state) calls
 unfolding base3.log2-to base3.log2 base5.every graph1.label graph1.joinedOver graph1.connected plan1.ascends plan1.inOrder plan1.linkVerdict plan1.linksRefusal plan1.planRefusal field4.setUp
 triangle-claim calls = who-woke-whom worseReading (replicate 21 0) refl calls

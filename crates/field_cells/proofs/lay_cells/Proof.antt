@@ -1,4 +1,4 @@
--- host_setup::lay_cells: a loop; the first v modules are laid, by `laid-more`, in the end all, by `laid-all`.
+-- field_cells::lay_cells: a loop; the first v modules are laid, by `laid-more`, in the end all, by `laid-all`.
 use Prim.Native.Nat.{ℕ, _-_, _≤_}
 use native.Mathlib.Omega.{arith}
 use mathlib.Core.List.{List}
@@ -9,9 +9,9 @@ use Rattle.field.specs.Held.{freshCells}
 use Rattle.field.specs.State.{CELLS, putNode}
 use Rattle.node.specs.declared.Node.{Node}
 use Rattle.node.specs.Work.{setup}
-use Rattle.host_setup.proofs.Fresh.{laidCells, laid-none, laid-more, laid-all}
-use Rattle.host_setup.proofs.lay_cells.Statement.{statement}
-use Rattle.host_setup.proofs.lay_cells.Tie as tie
+use Rattle.field_cells.proofs.Fresh.{laidCells, laid-none, laid-more, laid-all}
+use Rattle.field_cells.proofs.lay_cells.Statement.{statement}
+use Rattle.field_cells.proofs.lay_cells.Tie as tie
 
 abbrev Inv-loop : tie.InvT-loop
 Inv-loop cells₀ n v₀ cells v = (v ≤ maxModules) × (cells ≡ laidCells CELLS v) × (n ≡ setup)

@@ -1,0 +1,4 @@
+pub mod Outcomes
+pub mod Samples
+pub mod Acts
+pub mod Claims

@@ -1,0 +1,1 @@
+// Named points: what is claimed of stores (store/Claims, store/Console), proved.
