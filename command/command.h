@@ -34,6 +34,8 @@ int rehearse(const struct call *call);
 int replay(const struct call *call);
 int preview(const struct call *call);
 int cue(const struct call *call);
+int path(const struct call *call);
+int near(const struct call *call);
 int save(const struct call *call);
 int find(const struct call *call);
 int restore(const struct call *call);
@@ -118,6 +120,9 @@ struct place plan_place(uint32_t refusal, const struct bytes *bytes);
 struct place value_place(uint32_t refusal, const muruapy_plan *plan);
 struct place schedule_place(uint32_t refusal, const struct bytes *bytes);
 struct place frame_place(uint32_t refusal, const struct bytes *bytes);
+
+/* For 41 of a module that was named by this word. */
+struct place module_place(const char *word, const muruapy_plan *plan);
 
 /* For 76 to 78 that the library answered for this store and name; a point to be saved needs so many bytes. */
 struct place store_place(uint32_t refusal, const struct store *store, const char *name, size_t needed);

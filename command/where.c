@@ -180,6 +180,13 @@ struct place frame_place(uint32_t refusal, const struct bytes *bytes)
     return no_message(at[3], two_bytes(at + 4));
 }
 
+struct place module_place(const char *word, const muruapy_plan *plan)
+{
+    if (plan->modules == 0)
+        return words(MURUAPY_NONE, "module %s, there is no module", word);
+    return words(MURUAPY_NONE, "module %s, the last module is %u", word, plan->modules - 1u);
+}
+
 /* ---- stores ---- */
 
 static size_t four_bytes(const uint8_t *bytes)

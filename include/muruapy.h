@@ -2,9 +2,10 @@
  *
  * A plan says which modules there are and how well they hear each other. The modules of a field come, by messages
  * between neighbours, to one minimum spanning tree of the plan's links; this library checks, reads and writes plans,
- * frames and schedules, builds the tree, takes a field through its messages step by step, shows what a step would send,
- * sends cues down the tree that the field comes to, and saves fields under names to come back to. Formats, numbers and the
- * rules of a module are told in docs/FORMATS.md, installed as share/doc/muruapy/FORMATS.md.
+ * frames and schedules, builds the tree, tells the way between two modules in it and its worst link, takes a field through
+ * its messages step by step, shows what a step would send, sends cues down the tree that the field comes to, and saves
+ * fields under names to come back to. Formats, numbers and the rules of a module are told in docs/FORMATS.md, installed as
+ * share/doc/muruapy/FORMATS.md.
  *
  * A plan may have no module and no link: the blank plan, a show before modules are placed. It is taken as any other is;
  * only, nobody is there to be woken or to send a cue. Memory that is all zeros is the blank plan, or a field of it, so a
@@ -18,8 +19,8 @@
  * caller.
  *
  * Answers. A function of type uint32_t, but for muruapy_link_cost and muruapy_ceiling, answers a refusal: 0 for taken,
- * else the first number of `enum muruapy_refusal` that applies. muruapy_preview, muruapy_cue_deliver and muruapy_find have
- * it as the first of several numbers.
+ * else the first number of `enum muruapy_refusal` that applies. muruapy_path, muruapy_preview, muruapy_cue_deliver and
+ * muruapy_find have it as the first of several numbers.
  * A REFUSED CALL ALTERS NOTHING: every lent byte, word, field, record and number is as it was, but the number of steps
  * or rounds done is always told. In a run and in rounds the steps before the refused one stand.
  *
@@ -30,8 +31,9 @@
  * Threads. Calls on different memory may run at the same time. Two calls that share memory may do so only if neither
  * writes it.
  *
- * Stack, as measured, rounded up to pages: a call uses at most MURUAPY_STACK_PLAN bytes of it on plans, frames, schedules
- * and messages, MURUAPY_STACK_FIELD on a field, MURUAPY_STACK_JOB for the whole job, MURUAPY_STACK_POINT on a store. */
+ * Stack, as measured, rounded up to pages: a call uses at most MURUAPY_STACK_PLAN bytes of it on plans, paths, frames,
+ * schedules and messages, MURUAPY_STACK_FIELD on a field, MURUAPY_STACK_JOB for the whole job, MURUAPY_STACK_POINT on a
+ * store. */
 #ifndef MURUAPY_H
 #define MURUAPY_H
 
@@ -43,8 +45,8 @@
  * struct that a caller lends changes, so that a program must be compiled anew (3 has the waking link in muruapy_module).
  * The minor number rises when there is more to call, or when something is taken that was refused. */
 #define MURUAPY_VERSION_MAJOR 3
-#define MURUAPY_VERSION_MINOR 1
-#define MURUAPY_VERSION "3.1"
+#define MURUAPY_VERSION_MINOR 2
+#define MURUAPY_VERSION "3.2"
 
 #ifdef __cplusplus
 extern "C" {
@@ -60,13 +62,14 @@ extern "C" {
 #define MURUAPY_PLAN_BYTES 4807 /* bytes of the longest plan */
 #define MURUAPY_FRAME_BYTES 6   /* bytes of every frame */
 #define MURUAPY_STEPS 21845     /* steps of a schedule, at most */
+#define MURUAPY_PATH_LINKS 191  /* links of a path in the tree, at most: numbers that are enough for every path */
 #define MURUAPY_SENDS 191       /* messages that one step sends, at most: words that are enough for every preview */
 #define MURUAPY_REPORT_BYTES 46202 /* bytes that are enough for every report */
 #define MURUAPY_NAME 12            /* letters of a point's name, at most */
 #define MURUAPY_RECORD_BYTES 74427 /* bytes of the longest record of a store: enough for one point of any field */
 
 /* Bytes of stack that a call uses, at most. */
-#define MURUAPY_STACK_PLAN 12288  /* plans, frames, schedules, messages: 12 KB */
+#define MURUAPY_STACK_PLAN 12288  /* plans, paths, frames, schedules, messages: 12 KB */
 #define MURUAPY_STACK_FIELD 36864 /* fields, their report, previews, cues: 36 KB */
 #define MURUAPY_STACK_JOB 77824   /* muruapy_job: 76 KB */
 #define MURUAPY_STACK_POINT 98304 /* named points: 96 KB */
@@ -92,7 +95,7 @@ enum muruapy_refusal {
     MURUAPY_FIELD = 31,          /* it is none */
     MURUAPY_RESPONSE = 32,       /* a message without a response */
     MURUAPY_CEILING_PASSED = 33, /* the sent count would pass the ceiling */
-    /* a step; 42 for a delivery of a cue too */
+    /* a step; 41 for a path and the modules near one too, 42 for a delivery of a cue */
     MURUAPY_NO_MODULE = 41,            /* no module of this number */
     MURUAPY_NO_DIRECTED_LINK = 42,     /* no directed link of this number */
     MURUAPY_AWAKE = 43,                /* the module to wake is awake */
@@ -117,7 +120,9 @@ enum muruapy_refusal {
     /* a store of named points, in this order; in saving behind 31 */
     MURUAPY_STORE = 76,      /* it is none: not whole records with zeros behind, or one that no saving leaves */
     MURUAPY_NAME_WRONG = 77, /* no name; in finding and restoring also one that the store does not hold */
-    MURUAPY_STORE_FULL = 78  /* fewer bytes than the records would take */
+    MURUAPY_STORE_FULL = 78, /* fewer bytes than the records would take */
+    /* a path in the tree, or the modules near one; behind 14 to 19 and 41 */
+    MURUAPY_PATH_BUFFER = 79 /* fewer numbers than the path has links, or fewer bytes than there are modules */
 };
 
 /* One sentence for a refusal's number, without a full stop; for 0 "taken", for any other number "no refusal has this
@@ -161,6 +166,7 @@ static inline const char *muruapy_refusal_text(uint32_t number)
     case MURUAPY_STORE: return "the store is not whole records with zeros behind, or a record's name or field is wrong";
     case MURUAPY_NAME_WRONG: return "the name is not 1 to 12 letters a to z, or the store has no point of this name";
     case MURUAPY_STORE_FULL: return "the store is too short for the point to be saved";
+    case MURUAPY_PATH_BUFFER: return "the buffer is shorter than the path, or than the modules to be marked";
     default: return "no refusal has this number";
     }
 }
@@ -241,6 +247,40 @@ uint32_t muruapy_ceiling(uint16_t modules, uint16_t links);
  *
  * Answers 0, or 14 to 19, or 20. */
 uint32_t muruapy_tree(const muruapy_plan *plan, uint8_t *tree, size_t room);
+
+/* ---- Paths in the tree ---- */
+
+/* What a path comes to. */
+typedef struct muruapy_path_found {
+    uint32_t refusal; /* 0 for taken, else the refusal */
+    uint16_t length;  /* how many links the path has: 0 for the same module twice, and beside a refusal */
+    uint16_t worst;   /* the latest link of the path, in the order of muruapy_link_cost; MURUAPY_NONE where length is 0 */
+} muruapy_path_found;
+
+/* The way between two modules over links of the tree, and its worst link: the one to raise an antenna for. No way between
+ * two different modules, over any links of the plan, has an earlier latest link. The path from `to` to `from` is this one
+ * turned round.
+ *
+ * plan   any numbers, only read
+ * from   the first module, any number
+ * to     the second one, any number; it may be the same
+ * links  gets the path at its front, the numbers of its links from the first module on; the numbers behind keep
+ * room   how many numbers there are, any: MURUAPY_PATH_LINKS are always enough, none for the same module twice
+ *
+ * Answers with refusal 0, the length and the worst link; or with refusal 14 to 19, 41 (either module) or 79, length 0 and
+ * worst MURUAPY_NONE. The blank plan meets 41, since it has no module. */
+muruapy_path_found muruapy_path(const muruapy_plan *plan, uint16_t from, uint16_t to, uint16_t *links, size_t room);
+
+/* The modules within some branches of one: those whose path from it has at most h links. A branch is a link of the tree.
+ *
+ * plan   any numbers, only read
+ * from   the module, any number
+ * h      how many links at most, any number: 0 for the module alone; from modules - 1 on it is all of them
+ * marks  gets, at its front, a byte for each module by number: 1 within h branches, 0 otherwise; the bytes behind keep
+ * room   how many bytes there are: as many as modules or more; MURUAPY_MODULES are always enough
+ *
+ * Answers 0, or 14 to 19, 41 or 79. The blank plan meets 41, since it has no module. */
+uint32_t muruapy_near(const muruapy_plan *plan, uint16_t from, uint32_t h, uint8_t *marks, size_t room);
 
 /* ---- Messages and frames ---- */
 

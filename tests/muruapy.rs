@@ -24,6 +24,8 @@ extern "C" {
     fn muruapy_link_cost(plan: *const Numbers, link: u16) -> u32;
     fn muruapy_ceiling(modules: u16, links: u16) -> u32;
     fn muruapy_tree(plan: *const Numbers, tree: *mut u8, room: usize) -> u32;
+    fn muruapy_path(plan: *const Numbers, from: u16, to: u16, links: *mut u16, room: usize) -> PathFound;
+    fn muruapy_near(plan: *const Numbers, from: u16, h: u32, marks: *mut u8, room: usize) -> u32;
 
     fn muruapy_header(kind: u8, level: u16, find: u8) -> u8;
     fn muruapy_header_kind(header: u8) -> u8;
@@ -131,6 +133,25 @@ pub fn ceiling(n: u16, l: u16) -> u32 {
 /// 14 to 19, then 20; else 0, and the tree's L bytes are in `out`.
 pub fn tree(plan: &Numbers, out: &mut [u8]) -> u32 {
     unsafe { muruapy_tree(plan, out.as_mut_ptr(), out.len()) }
+}
+
+/// What a path answers: 0 or the refusal, how many links it has, the latest of them or none.
+#[repr(C)]
+#[derive(Clone, Copy, Debug, PartialEq, Eq)]
+pub struct PathFound {
+    pub refusal: u32,
+    pub length: u16,
+    pub worst: u16,
+}
+
+/// The tree path between two modules, put at the front of `links`.
+pub fn path(plan: &Numbers, from: u16, to: u16, links: &mut [u16]) -> PathFound {
+    unsafe { muruapy_path(plan, from, to, links.as_mut_ptr(), links.len()) }
+}
+
+/// 14 to 19, 41, 79; else 0, and at the front of `marks` a byte for each module: 1 within h branches of one.
+pub fn near(plan: &Numbers, from: u16, h: u32, marks: &mut [u8]) -> u32 {
+    unsafe { muruapy_near(plan, from, h, marks.as_mut_ptr(), marks.len()) }
 }
 
 pub fn header(kind: u8, level: u16, find: u8) -> u8 {

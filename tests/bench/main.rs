@@ -1,17 +1,18 @@
-//! The compiled Rattle plan check, tree builder, rounds, preview of a service, delivery of a cue and finding of a point
-//! beside plain Rust, as ratios in one run: the same inputs, both built for release, in turn; and the preview beside the step
-//! itself. A benchmark, not a test. `bench rattle` and `bench rust` make one side's runs of rounds alone, for a profiler,
-//! `bench points` the row on points alone.
+//! The compiled Rattle plan check, tree builder, paths and marks in the tree, rounds, preview of a service, delivery of a cue
+//! and finding of a point beside plain Rust, as ratios in one run: the same inputs, both built for release, in turn; and the
+//! preview beside the step itself, a path beside the tree alone. A benchmark, not a test. `bench rattle` and `bench rust`
+//! make one side's runs of rounds alone, for a profiler, `bench points` and `bench paths` the rows on these alone.
 
 mod cues;
 #[path = "../muruapy.rs"]
 mod muruapy;
+mod paths;
 mod plain;
 mod points;
 mod previews;
 mod rounds;
 
-use muruapy::{Delivered, Found, Previewed, Record};
+use muruapy::{Delivered, Found, Numbers, Previewed, Record};
 use oracle::cue::Cue;
 use oracle::field::{self, HAND_OVER, SERVE, WAKE};
 use oracle::fields::{drawn, spoil};
@@ -46,8 +47,8 @@ fn quantile(times: &mut [f64], share: f64) -> f64 {
 /// Times both sides in turn, each call on another plan than the one before: calls on the same plan again and again
 /// are quicker, and not alike on both sides. The sides take turns in going first. A plan's time is the median of its
 /// repetitions, a side's the mean of its plans' times. The same by the first quartile shows whether the machine was
-/// quiet: the two ratios should be alike.
-fn row(name: &str, repetitions: usize, rattle: Side, rust: Side) {
+/// quiet: the two ratios should be alike. Answers both sides' times.
+fn row(name: &str, repetitions: usize, rattle: Side, rust: Side) -> (f64, f64) {
     let mut times = vec![[Vec::new(), Vec::new()]; PLANS];
     for repetition in 0..repetitions {
         for (i, [ours, theirs]) in times.iter_mut().enumerate() {
@@ -66,6 +67,7 @@ fn row(name: &str, repetitions: usize, rattle: Side, rust: Side) {
     };
     let (a, b, c, d) = (mean(0, 0.5), mean(1, 0.5), mean(0, 0.25), mean(1, 0.25));
     println!("| {name} | {a:.1} | {b:.1} | {:.2} | {:.2} |", a / b, c / d);
+    (a, b)
 }
 
 /// A side that works on a plan's bytes and answers 0.
@@ -315,6 +317,11 @@ impl Inputs {
         Inputs { wide, few, wide_starts, few_starts, services, cues }
     }
 
+    /// The values of the wide plans.
+    fn values(&self) -> Vec<Numbers> {
+        self.wide_starts.iter().map(|(record, _)| record.plan).collect()
+    }
+
     /// A store of each wide field. The profiler's runs have no use for them.
     fn stores(&self) -> Vec<Vec<u8>> {
         let stores: Vec<Vec<u8>> = self.wide_starts.iter().map(saved).collect();
@@ -347,6 +354,8 @@ fn tables(inputs: &Inputs) {
     };
     tree("check and tree, readings 0 to 2000", &inputs.wide);
     tree("check and tree, many equal costs", &inputs.few);
+    let values = inputs.values();
+    paths::rows(&values);
     let rounds = |name: &str, starts: &[Start], limit: u16, repetitions: usize| {
         let rattle = &mut on_fields(starts, limit, Record::rounds);
         row(name, repetitions, rattle, &mut on_fields(starts, limit, rounds::run));
@@ -363,6 +372,7 @@ fn tables(inputs: &Inputs) {
     println!("|---|---|---|---|---|");
     let previews = &mut on_services(&inputs.services, preview);
     row("a service, Rattle", REPETITIONS, previews, &mut taking(&inputs.services));
+    paths::beside_the_tree(&values);
 }
 
 /// What a run to rest does, on average over the plans: it is taken round by round.
@@ -409,6 +419,7 @@ fn main() {
             head();
             point_row(&stores);
         }
+        Some("paths") => paths::alone(&inputs.values()),
         _ => {
             agree(&inputs);
             tables(&inputs);

@@ -1,6 +1,6 @@
 //! The other side of the benchmark: the same work as one would write it in plain safe Rust.
 
-use crate::muruapy::Record;
+use crate::muruapy::{Numbers, Record};
 
 /// The parts that links have joined so far, by their roots, with path halving.
 struct Parts([u8; 192]);
@@ -80,14 +80,20 @@ fn links_check(n: u16, links: impl Iterator<Item = [u16; 4]>) -> u32 {
 
 /// The plan of a record: 14 to 19, or 0.
 pub fn check_plan(r: &Record) -> u32 {
-    if r.modules() > 192 {
+    check_numbers(&r.plan)
+}
+
+/// A plan's value: 14 to 19, or 0.
+pub fn check_numbers(plan: &Numbers) -> u32 {
+    let [modules, links] = [plan[0], plan[1]];
+    if modules > 192 {
         return 14;
     }
-    if r.links() > 600 {
+    if links > 600 {
         return 15;
     }
-    let links = r.plan[2..].chunks_exact(4).take(r.links() as usize);
-    links_check(r.modules(), links.map(|link| link.try_into().unwrap()))
+    let links = plan[2..].chunks_exact(4).take(links as usize);
+    links_check(modules, links.map(|link| link.try_into().unwrap()))
 }
 
 /// The check, then Kruskal with the standard sort and union-find; 20 for a buffer that is not L bytes.

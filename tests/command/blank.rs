@@ -131,6 +131,18 @@ fn refused_steps(t: &mut Tried) {
     }
 }
 
+/// Nobody is at the end of a path, or near another.
+fn no_paths(t: &mut Tried) {
+    for module in ["0", "1", "65535", "65536", "4294967296"] {
+        let told = format!("{NO_MODULE}: module {module}, there is no module");
+        t.says(&format!("path blank {module} {module}"), &format!("path: {told}"));
+        t.says(&format!("path - {module} 0"), &format!("path: {told}"));
+        for h in ["0", "1", "4294967296"] {
+            t.says(&format!("near blank {module} {h}"), &format!("near: {told}"));
+        }
+    }
+}
+
 /// A field of nobody is saved, found and restored; nothing goes on from it.
 fn points(t: &mut Tried) {
     let line = "a: at byte 0, 16 bytes; 0 modules, 0 links; 0 waiting, 0 messages sent of 0 at most, at rest\n";
@@ -153,6 +165,18 @@ fn points(t: &mut Tried) {
     t.wrote("store", &record);
 }
 
+/// All that read a plan, but for `check` and `show`.
+const READERS: [&str; 8] = [
+    "text other",
+    "dot other",
+    "svg other",
+    "rehearse other -o made",
+    "cue other 0",
+    "path other 0 0",
+    "near other 0 9",
+    "save store a other",
+];
+
 /// Beside it: links and no module, and more modules than there can be.
 fn refused_plans(t: &mut Tried) {
     let linked = |links: u8| vec![1, 0, 12, 0, 0, 0, links, 0, 0, 0, 1, 0, 3, 0, 4];
@@ -166,9 +190,7 @@ fn refused_plans(t: &mut Tried) {
         t.leaves("check other", 1, format!("{told}\n").as_bytes(), "");
         let number = format!("refused {}\n", &told[..2]);
         t.leaves("show other", 1, number.as_bytes(), &format!("muruapy: other: {told}\n"));
-        for line in
-            ["text other", "dot other", "svg other", "rehearse other -o made", "cue other 0", "save store a other"]
-        {
+        for line in READERS {
             t.says(line, &format!("other: {told}"));
         }
         assert!(t.tool.read("store").is_none(), "a refused plan is saved");
@@ -183,6 +205,7 @@ pub fn all(tool: &Tool) -> usize {
     made(&mut t);
     rehearsed(&mut t);
     refused_steps(&mut t);
+    no_paths(&mut t);
     points(&mut t);
     refused_plans(&mut t);
     let usage = tool.text(&["-h"], b"");

@@ -7,6 +7,7 @@
 
 mod blank;
 mod cues;
+mod paths;
 mod pictures;
 mod places;
 mod points;
@@ -216,6 +217,19 @@ fn shown(tools: &Tools, rng: &mut Rng, count: usize) -> String {
     format!("{} previews", tally.answers.values().sum::<usize>())
 }
 
+/// Paths in the tree, and the modules near one.
+fn ways(tools: &Tools, rng: &mut Rng, count: usize) -> String {
+    let mut tally = paths::Tally::default();
+    for i in 0..count {
+        let plan = plans::good(rng, KINDS[i % KINDS.len()]);
+        paths::told(tools.any(i), rng, &plan, &mut tally);
+    }
+    let often = |answer| tally.answers.get(&answer).is_some_and(|times| *times > 9);
+    assert!([("near", 0), ("near", 41), ("path", 0), ("path", 41)].into_iter().all(often), "{:?}", tally.answers);
+    assert!((0..5).all(|n| tally.lengths.get(&n).is_some_and(|times| *times > 3)), "{:?}", tally.lengths);
+    format!("{} calls on paths", tally.answers.values().sum::<usize>())
+}
+
 /// Stores with points of one plan or of two.
 fn stores(tools: &Tools, rng: &mut Rng, count: usize) -> String {
     let mut tally = points::Tally::default();
@@ -238,6 +252,8 @@ fn unread(tools: &Tools, rng: &mut Rng) {
     }
     assert_eq!(tools.plain.unread(&["make", "-"], b"modules 1\n"), 2);
     assert_eq!(tools.plain.unread(&["preview", "-", "wake", "0"], &bytes), 2);
+    assert_eq!(tools.plain.unread(&["path", "-", "0", "191"], &bytes), 2);
+    assert_eq!(tools.plain.unread(&["near", "-", "0", "191"], &bytes), 2);
 }
 
 fn main() {
@@ -256,6 +272,7 @@ fn main() {
         schedules(&tools, &mut rng, count / 15),
         shown(&tools, &mut rng, count / 5),
         stores(&tools, &mut rng, count / 5),
+        ways(&tools, &mut rng, count / 2),
     ];
     unread(&tools, &mut rng);
     let blank = blank::all(&tools.plain) + blank::all(&tools.checked);

@@ -6,7 +6,7 @@ use scan::{Target, Tree};
 use std::collections::{BTreeMap, BTreeSet};
 
 /// The claims: in words, its file, its name.
-const CLAIMS: [(&str, &str, &str); 12] = [
+const CLAIMS: [(&str, &str, &str); 16] = [
     ("What is claimed of the central tree", "crates/plan_tree/specs/Claim.antt", "TreeClaim"),
     ("Demand 3", "crates/field_calls/specs/Demand.antt", "Demand3"),
     ("What request 01 claims of a cue", "crates/cue/specs/Claims.antt", "CueClaim"),
@@ -19,10 +19,14 @@ const CLAIMS: [(&str, &str, &str); 12] = [
     ("That a store stays whole, request 06", "crates/store/specs/Claims.antt", "StaysWhole"),
     ("What a restore comes back to, request 06", "crates/store/specs/Claims.antt", "ComesBack"),
     ("How rehearsals with named points are judged, request 06", "crates/store/specs/Console.antt", "Rehearsals"),
+    ("What a path is, with its worst link, request 07", "crates/path/specs/Claims.antt", "PathClaim"),
+    ("That a path is the same turned round, request 07", "crates/path/specs/Claims.antt", "TurnedClaim"),
+    ("Which room is enough for a path, request 07", "crates/path/specs/Claims.antt", "RoomClaim"),
+    ("Which modules are near one, request 07", "crates/path/specs/Claims.antt", "NearClaim"),
 ];
 
 /// The functions that a host or one of the two programs calls, by crate; no names: all public ones of the crate.
-const CALLED: [(&str, &[&str]); 16] = [
+const CALLED: [(&str, &[&str]); 17] = [
     ("plan", &["ceiling", "ceiling_of"]),
     ("plan_file", &["check", "read", "write"]),
     ("plan_check", &["check"]),
@@ -37,6 +41,7 @@ const CALLED: [(&str, &[&str]); 16] = [
     ("host_schedule", &["check"]),
     ("host_reader", &["open", "left", "next"]),
     ("host_cue", &["start", "deliver"]),
+    ("host_path", &["between", "near"]),
     ("host_store", &["save", "save_parts", "find", "find_at", "restore"]),
     ("format_text", &[]),
 ];
@@ -60,7 +65,7 @@ const SPARED: [(&str, &[&str]); 3] = [
 const HEAD: &str = "\
 # What must be believed
 
-To know what the claims (the central tree, demand 3, requests 01, 02, 04, 05 and 06) and the functions that a host calls say, read the contracts of the first table and the definitions of the second: they
+To know what the claims (the central tree, demand 3, requests 01, 02, 04, 05, 06 and 07) and the functions that a host calls say, read the contracts of the first table and the definitions of the second: they
 are made of these and of the names of the toolchain's libraries below. Theorems and proofs are not among them, since the prover checks those.
 Then read what else is assumed, at the end. (Made by `tools/trust`; the tests compare it with the tree.)
 ";

@@ -33,12 +33,13 @@ static void same(const char *what, unsigned long got, unsigned long said)
 /* ---- how many examples there are, by sort and number ---- */
 
 enum sort {
-    PLAN, FRAME, SCHEDULE, STEP, CALL, VALUES, PREVIEW, START, DELIVERY, SAVE, FIND, RESTORE, STORED, CEILING, ORDER,
-    HEADER, WORD, REPORT, SORTS
+    PLAN, PATH, NEAR, FRAME, SCHEDULE, STEP, CALL, VALUES, PREVIEW, START, DELIVERY, SAVE, FIND, RESTORE, STORED, CEILING,
+    ORDER, HEADER, WORD, REPORT, SORTS
 };
 
 static const char *const names[SORTS] = {
-    "plan",           "frame",    "schedule", "step",           "run or rounds", "values", "preview",
+    "plan",           "path",     "marks",
+    "frame",          "schedule", "step",     "run or rounds",  "values",        "preview",
     "start of a cue", "delivery", "save",     "find",           "restore",       "bytes of a store", "ceiling",
     "order of links", "header",   "word",     "report",
 };
@@ -49,6 +50,7 @@ static const struct least {
     unsigned first, last; /* of these numbers each */
     unsigned long count;
 } least[] = {
+    {PATH, 0, 0, 6},   {PATH, 41, 41, 4},     {PATH, 79, 79, 2}, {NEAR, 0, 0, 6}, {NEAR, 41, 41, 3}, {NEAR, 79, 79, 1},
     {PLAN, 0, 0, 5},   {PLAN, 11, 19, 1},     {FRAME, 0, 0, 8}, {FRAME, 61, 63, 2}, {SCHEDULE, 0, 0, 2},
     {SCHEDULE, 51, 54, 1}, {STEP, 0, 0, 20},  {STEP, 41, 45, 1}, {STEP, 54, 54, 1}, {CALL, 0, 0, 8},
     {CALL, 41, 41, 2}, {CALL, 54, 54, 1},     {CEILING, 0, 0, 8}, {HEADER, 0, 0, 6}, {WORD, 0, 0, 4},
@@ -448,6 +450,86 @@ static int preview_line(const char *call, char *line)
     return 1;
 }
 
+/* The numbers and the bytes that are lent to each path and to each call for marks. */
+static uint16_t *lent_links;
+static uint8_t *lent_marks;
+static size_t link_places, mark_places;
+
+/* False for another line. */
+static int lend_for_paths(const char *call, char *line)
+{
+    unsigned long all[MURUAPY_MODULES];
+    size_t count = 0;
+    char *text;
+    if (strcmp(call, "links") != 0 && strcmp(call, "marks") != 0)
+        return 0;
+    for (; count < MURUAPY_MODULES && (text = word(&line)); count++)
+        all[count] = (unsigned long)number(&text, 10);
+    if (strcmp(call, "links") == 0) {
+        free(lent_links);
+        lent_links = memory(count * sizeof *lent_links);
+        for (link_places = 0; link_places < count; link_places++)
+            lent_links[link_places] = (uint16_t)all[link_places];
+    } else {
+        free(lent_marks);
+        lent_marks = memory(count);
+        for (mark_places = 0; mark_places < count; mark_places++)
+            lent_marks[mark_places] = (uint8_t)all[mark_places];
+    }
+    return 1;
+}
+
+static void find_path(char *line)
+{
+    uint16_t *links = memory(link_places * sizeof *links);
+    uint16_t from = (uint16_t)number(&line, 10), to = (uint16_t)number(&line, 10);
+    if (!lent_links)
+        fault("no links are lent");
+    memcpy(links, lent_links, link_places * sizeof *links);
+    muruapy_path_found found = muruapy_path(&field.plan, from, to, links, link_places);
+    expect(&line, "->");
+    same("the path's answer", found.refusal, (unsigned long)number(&line, 10));
+    same("the length", found.length, (unsigned long)number(&line, 10));
+    if (found.worst == MURUAPY_NONE)
+        expect(&line, "-");
+    else
+        same("the worst link", found.worst, (unsigned long)number(&line, 10));
+    for (size_t i = 0; i < link_places; i++)
+        same("a link of the buffer", links[i], (unsigned long)number(&line, 10));
+    no_more(&line);
+    count(PATH, found.refusal);
+    free(links);
+}
+
+static void mark_near(char *line)
+{
+    uint8_t *marks = memory(mark_places);
+    uint16_t from = (uint16_t)number(&line, 10);
+    uint32_t h = (uint32_t)number(&line, 10);
+    if (!lent_marks)
+        fault("no marks are lent");
+    memcpy(marks, lent_marks, mark_places);
+    uint32_t refusal = muruapy_near(&field.plan, from, h, marks, mark_places);
+    expect(&line, "->");
+    same("the answer of near", refusal, (unsigned long)number(&line, 10));
+    for (size_t i = 0; i < mark_places; i++)
+        same("a byte of the buffer", marks[i], (unsigned long)number(&line, 10));
+    no_more(&line);
+    count(NEAR, refusal);
+    free(marks);
+}
+
+/* A path, or the marks near a module; false for another call. */
+static int path_line(const char *call, char *line)
+{
+    int path = strcmp(call, "path") == 0, near = strcmp(call, "near") == 0;
+    if (path)
+        find_path(line);
+    if (near)
+        mark_near(line);
+    return path || near;
+}
+
 /* The cue records that are lent. */
 static muruapy_cue *cues;
 static size_t records;
@@ -712,14 +794,14 @@ static void calls_line(char *line)
         field.sent = (uint32_t)number(&line, 10);
         return;
     }
-    if (store_changes(call, line))
+    if (store_changes(call, line) || lend_for_paths(call, line))
         return;
     if (!colon)
         fault("a colon is missing");
     *colon = ' ';
     set_up();
-    if (!values_line(call, line) && !preview_line(call, line) && !cue_line(call, line) && !stored_line(call, line) &&
-        !point_line(call, line))
+    if (!values_line(call, line) && !path_line(call, line) && !preview_line(call, line) && !cue_line(call, line) &&
+        !stored_line(call, line) && !point_line(call, line))
         field_line(call, line);
 }
 
@@ -730,7 +812,11 @@ static void calls_end(void)
     free(cues);
     free(lent_buffer);
     free(stored.at);
+    free(lent_links);
+    free(lent_marks);
     words = NULL;
+    lent_links = NULL;
+    lent_marks = NULL;
     cues = NULL;
     lent_buffer = NULL;
     stored.at = NULL;
@@ -778,7 +864,7 @@ static const struct limit {
 #define LIMIT(name) {"| `" #name "` |", name}
     LIMIT(MURUAPY_MODULES), LIMIT(MURUAPY_LINKS),       LIMIT(MURUAPY_WIDTH),      LIMIT(MURUAPY_READING),
     LIMIT(MURUAPY_NONE),    LIMIT(MURUAPY_WORDS),       LIMIT(MURUAPY_PLAN_BYTES),
-    LIMIT(MURUAPY_FRAME_BYTES), LIMIT(MURUAPY_STEPS),   LIMIT(MURUAPY_SENDS),
+    LIMIT(MURUAPY_FRAME_BYTES), LIMIT(MURUAPY_PATH_LINKS), LIMIT(MURUAPY_STEPS), LIMIT(MURUAPY_SENDS),
     LIMIT(MURUAPY_REPORT_BYTES), LIMIT(MURUAPY_NAME),   LIMIT(MURUAPY_RECORD_BYTES),
 };
 

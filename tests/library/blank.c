@@ -86,6 +86,24 @@ static void tree_built(const muruapy_plan *value, size_t room, uint32_t number)
     take_back();
 }
 
+/* Nobody is at either end of a path, or near another. */
+static void no_path(const muruapy_plan *value, size_t room, uint32_t number)
+{
+    static const uint16_t modules[] = {0, 1, 191, 65535};
+    size_t i;
+    for (i = 0; i < sizeof modules / sizeof *modules; i++) {
+        const muruapy_plan *plan = show(value, sizeof *plan);
+        uint16_t *links = lend(NULL, room * sizeof *links);
+        uint8_t *marks = lend(NULL, room);
+        muruapy_path_found got = muruapy_path(plan, modules[i], modules[i], links, room);
+        must(got.length == 0 && got.worst == MURUAPY_NONE, "a path where nobody is");
+        answered("path", got.refusal, number, NULL);
+        answered("path", muruapy_path(plan, 0, modules[i], links, room).refusal, number, NULL);
+        answered("near", muruapy_near(plan, modules[i], i % 2 ? 0xffffffffu : 0, marks, room), number, NULL);
+        take_back();
+    }
+}
+
 /* A value without modules, with so many links of these bytes: it is refused by the number, or is the blank plan. */
 static muruapy_plan value_gives(uint16_t links, uint8_t byte, uint32_t number)
 {
@@ -100,6 +118,7 @@ static muruapy_plan value_gives(uint16_t links, uint8_t byte, uint32_t number)
     for (i = 0; i < sizeof rooms / sizeof *rooms; i++) {
         written(&value, rooms[i], number ? number : rooms[i] < BYTES ? 22 : 0);
         tree_built(&value, rooms[i], number ? number : rooms[i] > 0 ? 20 : 0);
+        no_path(&value, rooms[i], number ? number : 41);
     }
     return value;
 }

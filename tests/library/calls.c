@@ -75,8 +75,8 @@ void sample(const char *name, muruapy_plan *plan)
 /* A sentence for 0 and each number of the enum, all different; the same one for all others. */
 static unsigned sentences(void)
 {
-    static const uint32_t numbers[] = {0,  11, 12, 13, 14, 15, 16, 17, 18, 19, 20, 21, 22, 31, 32,
-                                       33, 41, 42, 43, 44, 45, 51, 52, 53, 54, 61, 62, 63, 64, 71, 72, 73, 75, 76, 77, 78};
+    static const uint32_t numbers[] = {0,  11, 12, 13, 14, 15, 16, 17, 18, 19, 20, 21, 22, 31, 32, 33, 41, 42, 43,
+                                       44, 45, 51, 52, 53, 54, 61, 62, 63, 64, 71, 72, 73, 75, 76, 77, 78, 79};
     enum { COUNT = sizeof numbers / sizeof *numbers };
     static const char none[] = "no refusal has this number";
     uint32_t n, i = 0, j;
@@ -123,6 +123,7 @@ int main(int argc, char **argv)
         plan_calls();
         message_calls();
         schedule_calls();
+        path_calls();
         end(&plain);
         for (whole = 1; whole >= 0; whole--) {
             begin();

@@ -28,6 +28,7 @@ void refused_value(const struct refused_plan *from, muruapy_plan *plan);
 void plan_calls(void);
 void message_calls(void);
 void schedule_calls(void);
+void path_calls(void);
 void field_calls(bool whole);
 void job_calls(bool whole, const char *reports);
 void preview_calls(bool whole);

@@ -31,7 +31,7 @@ static bool all_there()
            there(&muruapy_preview) && there(&muruapy_cue_start_value) && there(&muruapy_cue_deliver_value) &&
            there(&muruapy_cue_start) && there(&muruapy_cue_deliver) && there(&muruapy_save_parts) &&
            there(&muruapy_restore_parts) && there(&muruapy_save) && there(&muruapy_find) && there(&muruapy_shown) &&
-           there(&muruapy_restore) && there(&muruapy_refusal_text);
+           there(&muruapy_restore) && there(&muruapy_path) && there(&muruapy_near) && there(&muruapy_refusal_text);
 }
 
 int main()
@@ -42,6 +42,13 @@ int main()
     std::vector<uint8_t> text(MURUAPY_REPORT_BYTES);
     uint16_t rounds = 0;
     if (!all_there() || muruapy_plan_read(bytes.data(), bytes.size(), plan.get()) != MURUAPY_TAKEN)
+        return 1;
+    std::vector<uint16_t> path(MURUAPY_PATH_LINKS);
+    std::vector<uint8_t> near(plan->modules);
+    const muruapy_path_found way = muruapy_path(plan.get(), 1, 0, path.data(), path.size());
+    if (way.refusal != MURUAPY_TAKEN || way.length != 1 || way.worst != 0 || path[0] != 0)
+        return 1;
+    if (muruapy_near(plan.get(), 1, 0, near.data(), near.size()) != MURUAPY_TAKEN || near[0] != 0 || near[1] != 1)
         return 1;
     std::vector<uint64_t> words(muruapy_ceiling(plan->modules, plan->links));
     if (muruapy_job(plan.get(), field.get(), words.data(), words.size(), &rounds) != MURUAPY_TAKEN || rounds != 4)

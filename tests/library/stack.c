@@ -14,6 +14,7 @@ static muruapy_field field, copy;
 static uint64_t words[MURUAPY_WORDS];
 static muruapy_cue cues[MURUAPY_MODULES];
 static uint64_t previewed[MURUAPY_SENDS];
+static uint16_t path_links[MURUAPY_PATH_LINKS];
 static uint8_t bytes[BYTES], schedule[3 + 3 * MURUAPY_STEPS], buffer[BYTES], text[MURUAPY_REPORT_BYTES];
 static size_t length, steps;
 static uint16_t number;
@@ -28,6 +29,29 @@ static void plan_value_check(void) { bad |= muruapy_plan_value_check(&plan); }
 static void plan_write(void) { bad |= muruapy_plan_write(&plan, buffer, sizeof buffer); }
 static void plan_refused(void) { bad |= muruapy_plan_write(&refused, buffer, sizeof buffer) != MURUAPY_PLAN_PARTS; }
 static void tree(void) { bad |= muruapy_tree(&plan, buffer, plan.links); }
+/* From each module to the last one. */
+static void path(void)
+{
+    uint16_t v;
+    for (v = 0; v < plan.modules; v++) {
+        muruapy_path_found found = muruapy_path(&plan, v, (uint16_t)(plan.modules - 1), path_links, MURUAPY_PATH_LINKS);
+        bad |= found.refusal != 0 || (found.length == 0) != (v + 1 == plan.modules);
+    }
+}
+static void near_one(void)
+{
+    uint32_t h;
+    for (h = 0; h < plan.modules; h++)
+        bad |= muruapy_near(&plan, 0, h, buffer, plan.modules);
+}
+static void paths_refused(void)
+{
+    bad |= muruapy_path(&refused, 0, 1, path_links, MURUAPY_PATH_LINKS).refusal != MURUAPY_PLAN_PARTS;
+    bad |= muruapy_path(&plan, 0, plan.modules, path_links, MURUAPY_PATH_LINKS).refusal != MURUAPY_NO_MODULE;
+    bad |= muruapy_path(&plan, 0, 1, path_links, 0).refusal != MURUAPY_PATH_BUFFER;
+    bad |= muruapy_near(&refused, 0, 1, buffer, sizeof buffer) != MURUAPY_PLAN_PARTS;
+    bad |= muruapy_near(&plan, 0, 1, buffer, 191) != MURUAPY_PATH_BUFFER;
+}
 static void frames(void)
 {
     uint8_t header;
@@ -151,6 +175,9 @@ static const struct measured {
     {"muruapy_plan_write", plan_write, MURUAPY_STACK_PLAN},
     {"muruapy_plan_write, refused", plan_refused, MURUAPY_STACK_PLAN},
     {"muruapy_tree", tree, MURUAPY_STACK_PLAN},
+    {"muruapy_path", path, MURUAPY_STACK_PLAN},
+    {"muruapy_near", near_one, MURUAPY_STACK_PLAN},
+    {"paths, refused", paths_refused, MURUAPY_STACK_PLAN},
     {"frames", frames, MURUAPY_STACK_PLAN},
     {"headers, words, cost, ceiling", parts, MURUAPY_STACK_PLAN},
     {"schedules", schedules, MURUAPY_STACK_PLAN},

@@ -29,6 +29,8 @@ struct result {
     uint8_t tree[MURUAPY_LINKS], text[MURUAPY_REPORT_BYTES];
     size_t length;
     uint16_t heard_by[MURUAPY_MODULES], hops[MURUAPY_MODULES];
+    uint16_t path[MURUAPY_PATH_LINKS], worst;
+    uint8_t near[MURUAPY_MODULES];
 };
 
 /* Written before the threads start, and only read by them. */
@@ -86,6 +88,15 @@ static uint32_t send_cue(struct result *r, size_t room)
     return refusal;
 }
 
+/* The path from the first module to the last, as long as the cue's way back, and the modules near it. */
+static uint32_t find_path(const muruapy_plan *plan, struct result *r)
+{
+    uint16_t last = (uint16_t)(plan->modules - 1);
+    muruapy_path_found found = muruapy_path(plan, 0, last, r->path, MURUAPY_PATH_LINKS);
+    r->worst = found.worst;
+    return found.refusal | (found.length != r->hops[0]) | muruapy_near(plan, last, 3, r->near, plan->modules);
+}
+
 static void work(const muruapy_plan *plan, struct result *r)
 {
     size_t room = muruapy_ceiling(plan->modules, plan->links);
@@ -101,6 +112,7 @@ static void work(const muruapy_plan *plan, struct result *r)
     bad |= r->previewed != r->steps.field.sent;
     bad |= muruapy_tree(plan, r->tree, plan->links);
     bad |= send_cue(r, room);
+    bad |= find_path(plan, r);
     bad |= come_back(plan, r, room);
     r->length = muruapy_report(&r->job.field, r->job.rounds, r->text, sizeof r->text);
     need(bad == 0, "threads: a call is refused");

@@ -1,4 +1,4 @@
-//! The oracle: a second implementation of document 01, and of requests 01 to 06 of document 02, in plain Rust, written
+//! The oracle: a second implementation of document 01, and of requests 01 to 07 of document 02, in plain Rust, written
 //! from the documents and the appendix of Gallager, Humblet and Spira alone. The tests compare the compiled Rattle code
 //! with it. Nothing here is proved and nothing here is fast: it is meant to be read beside the documents.
 //!
@@ -11,6 +11,7 @@ pub mod field;
 pub mod fields;
 pub mod frame;
 pub mod kruskal;
+pub mod path;
 pub mod plan;
 pub mod plans;
 pub mod points;
@@ -29,6 +30,8 @@ mod tests;
 mod tests_blank;
 #[cfg(test)]
 mod tests_cue;
+#[cfg(test)]
+mod tests_path;
 #[cfg(test)]
 mod tests_points;
 #[cfg(test)]

@@ -17,6 +17,8 @@ use Rattle.plan_file.specs.Layout.{numberAt}
 use Rattle.plan_file.specs.Reading.{headVerdict, readRefusal, readPlan}
 use Rattle.plan_file.specs.Writing.{writePlan}
 use Rattle.plan_tree.specs.Tree.{centralTree}
+use Rattle.path.specs.Between.{noPath, pathBetween}
+use Rattle.path.specs.Near.{markNear}
 use Rattle.field.specs.Edges.{limitOf, ceilingOf}
 use Rattle.field.specs.Step.{WAKE, HAND, SERVE}
 use Rattle.field.specs.Held.{Held, fresh, stateOf, valid, setUp, stepAlone}
@@ -98,6 +100,9 @@ pub record BlankPlan (p : Plan) : Type 0 where
   -- "its tree is empty"
   pub tree : centralTree p [] ≡ takenTo []
   pub others : (x : ℕ) (out : List ℕ) → centralTree p (x ∷ out) ≡ refusedBy 20 (x ∷ out)
+  -- no module to go from: 41, whatever the numbers and the buffer (request 07)
+  pub paths : (u v : ℕ) (out : List ℕ) → pathBetween p u v out ≡ noPath 41 out
+  pub near : (m h : ℕ) (out : List ℕ) → markNear p m h out ≡ refusedBy 41 out
   -- "The program skips the wake": the job leaves what setup leaves
   pub job : (lent : List ℕ) → jobRun p lent ≡ record { done = 0; refusal = 0; state = setUp p lent .state }
 

@@ -9,10 +9,9 @@ use lib.Dec.{ltb}
 use Rattle.base.specs.None.{none}
 use Rattle.base.specs.Pool.{All}
 use Rattle.base.specs.Twice.{NoTwice}
-use Rattle.graph.specs.Decide.{Set}
-use Rattle.graph.specs.Path.{Path, edgesOf, lastOr}
-use Rattle.plan.specs.Links.{Plan, modulesOf, linksOf, graphOf}
-use Rattle.plan_tree.specs.Tree.{treeLink}
+use Rattle.graph.specs.Path.{edgesOf, lastOr}
+use Rattle.plan.specs.Links.{Plan, modulesOf, linksOf}
+use Rattle.plan_tree.specs.Claim.{TreePath}
 use Rattle.field.specs.Edges.{from, dest}
 use Rattle.field.specs.Held.{Held, valid}
 use Rattle.cue.specs.declared.Cue.{Cue}
@@ -39,10 +38,6 @@ heardOver h [] cues = []
 heardOver h (d ∷ ds) cues =
     let rest = heardOver h ds (deliverCue h cues d .cues) in
     cond (saysHeard (deliverCue h cues d .answer)) (d ∷ rest) rest
-
--- the tree's path between two modules: a way over tree links on which no module comes twice
-abbrev pub TreePath : Plan → ℕ → ℕ → Type 0
-TreePath p u v = Path (graphOf p) (Set (treeLink p)) u v
 
 -- every module has heard
 abbrev pub AllHeard : Plan → List Cue → Type 0

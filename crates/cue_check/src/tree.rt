@@ -51,6 +51,6 @@ pub fn agrees<'a>(plan: &'a Plan, marks: &'a Marks, bytes: &mut [u8]) -> bool
     requires { ⌜ (planRefusal (now plan) ≡ 0) × (length (now bytes) ≡ linksOf (now plan)) ⌝ }
     ensures { λ r. ⌜ r ≡ branchesAgree (now (plan .entry)) (now (marks .entry)) ⌝ }
 {
-    plan_tree::build(plan, bytes);
+    plan_tree::grow(plan, bytes);
     links_agree(bytes, marks)
 }

@@ -5,15 +5,11 @@ use mathlib.Core.Path.{_≡_, ap}
 use mathlib.Core.Logic.{_≢_}
 use mathlib.Core.Bool.{cond}
 use Rattle.base.specs.laws.Cond.{eqb-cases}
-use Rattle.graph.specs.Graph.{Joins, up, down}
-use Rattle.graph.specs.laws.Ways.{through, wider, ends-diff, joins-lt}
-use Rattle.graph.specs.laws.Decide.{inTree-tree}
-use Rattle.graph.specs.laws.Cycle.{spare}
-use Rattle.graph.specs.laws.Least.{tree-spanning}
-use Rattle.plan.specs.Links.{Plan, modulesOf, linksOf, lowerOf, higherOf, graphOf}
-use Rattle.plan.specs.Weights.{earlier}
-use Rattle.plan.specs.laws.Weights.{orderOf}
+use Rattle.graph.specs.Graph.{Joins}
+use Rattle.graph.specs.laws.Ways.{ends-diff, joins-lt}
+use Rattle.plan.specs.Links.{Plan, linksOf, lowerOf, higherOf, graphOf}
 use Rattle.plan.specs.laws.Accepted.{Accepted}
+use Rattle.plan_tree.specs.laws.Paths.{tree-spare, tree-spans, link-inside}
 use Rattle.field.specs.Edges.{endOf, linkOf, dest}
 use Rattle.field_laws.specs.Places.{link-over, from-over, over-below}
 use Rattle.field_laws.specs.Ends.{directed-joins, joined-own, end-leads}
@@ -41,18 +37,14 @@ module _ (p : Plan) (a : Accepted p) where
       strict : lowerOf p (linkOf d) < higherOf p (linkOf d)
       strict = a .each (linkOf d) (omega arith) .ordered
 
-  far-inside : {k u v : ℕ} → Joins (graphOf p) k u v → v < modulesOf p
-  far-inside {k} (up l e f) = omega (arith, a .each k l .inside)
-  far-inside {k} (down l e f) = omega (arith, a .each k l .ordered, a .each k l .inside)
-
   pub netOf : Net p
   netOf = record {
     few = omega (arith, a .linksOk);
     leads = directed-joins p;
     names = named;
     sole = λ d e l m. one-to d e l;
-    inside = λ k u v j. far-inside j;
+    inside = link-inside p a;
     apart = λ k u v j. ends-apart j;
-    spare = λ k l t w. spare (graphOf p) (orderOf p) k l (inTree-tree (graphOf p) (earlier p) k t) (wider (λ f m x. (inTree-tree (graphOf p) (earlier p) f (x .0), x .1)) w);
-    spans = λ u v l m. through (λ e x y j s. tree-spanning (graphOf p) (orderOf p) e x y j) (a .whole u v l m);
+    spare = tree-spare p;
+    spans = tree-spans p a;
   }

@@ -19,9 +19,10 @@ use Rattle.graph.specs.laws.Ways.{flip}
 use Rattle.graph.specs.laws.Path.{paths-same, edges-append, nodes-further, path-further, last-behind}
 use Rattle.plan.specs.Links.{Plan, modulesOf, graphOf}
 use Rattle.plan_tree.specs.Tree.{treeLink}
+use Rattle.plan_tree.specs.Claim.{TreePath}
 use Rattle.cue.specs.declared.Cue.{Cue}
 use Rattle.cue.specs.Record.{unheard, recordOf, hasHeard, senderRecord, heardRecord}
-use Rattle.cue.specs.Claims.{TreePath, TellsPath}
+use Rattle.cue.specs.Claims.{TellsPath}
 use Rattle.cue_laws.specs.Net.{Net}
 use Rattle.cue_laws.specs.Good.{Right, silent, first, got, GoodCues}
 use Rattle.cue_laws.specs.Rule.{sole-sender}

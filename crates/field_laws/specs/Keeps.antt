@@ -13,8 +13,8 @@ use Rattle.base.specs.None.{none}
 use Rattle.base.specs.laws.Cond.{bool-cases, by-eq}
 use Rattle.base.specs.Loop.{After}
 use Rattle.base.specs.laws.Loop.{by-test}
-use Rattle.base.specs.Pool.{All, nil}
-use Rattle.base.specs.laws.Pool.{All-app, All-one, All-here, All-rest, Out, here, there}
+use Rattle.base.specs.Pool.{All, nil, Out, here, there}
+use Rattle.base.specs.laws.Pool.{All-app, All-one, All-here, All-rest}
 use Rattle.base.specs.laws.Keep.{first-out, first-passes}
 use Rattle.format_word.specs.Word.{linkIn, handOver}
 use Rattle.node.specs.Work.{Work, REJECTED, BACK}

@@ -13,8 +13,8 @@ use borrow.Author.Tests.{eqb-true, eq-eqb}
 use Rattle.base.specs.laws.Cond.{bool-cases}
 use Rattle.base.specs.laws.Search.{lt-suc-cases}
 use Rattle.base.specs.laws.Loop.{Ok, loop-ok}
-use Rattle.base.specs.Pool.{All, nil, con}
-use Rattle.base.specs.laws.Pool.{All-here, Out, here, there}
+use Rattle.base.specs.Pool.{All, nil, con, Out, here, there}
+use Rattle.base.specs.laws.Pool.{All-here}
 use Rattle.base.specs.Keep.{keep}
 use Rattle.base.specs.laws.Keep.{no-length, keep-yes, keep-app, keep-none, keep-no, first-out, first-passes, head-of, others}
 use Rattle.format_word.specs.Word.{headerIn, carriedIn, linkIn, handedIn, shaped, handOver}

@@ -4,8 +4,7 @@ use mathlib.Core.Path.{_≡_}
 use mathlib.Core.Bool.{Bool, true, not, cond}
 use lib.Dec.{eqb}
 use Rattle.base.specs.Test.{every}
-use Rattle.graph.specs.Graph.{Graph, Way}
-use Rattle.graph.specs.laws.Ways.{Any}
+use Rattle.graph.specs.Graph.{Graph, Way, Any}
 use Rattle.graph.specs.Labels.{rename}
 
 -- the edges for which a test says yes

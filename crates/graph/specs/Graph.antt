@@ -18,3 +18,7 @@ pub data Joins (g : Graph) (e u v : ℕ) : Type 0 where
 pub data Way (g : Graph) (S : ℕ → Type 0) : ℕ → ℕ → Type 0 where
   stop : {u : ℕ} → Way g S u u
   go : {u v w : ℕ} (e : ℕ) → Joins g e u v → S e → Way g S v w → Way g S u w
+
+-- all edges
+abbrev pub Any : ℕ → Type 0
+Any e = Unit {0}

@@ -4,6 +4,7 @@ pub mod Rank
 pub mod Cut
 pub mod Labels
 pub mod Decide
+pub mod Between
 pub mod Sample
 pub mod Span
 pub mod Cycle
@@ -11,3 +12,4 @@ pub mod Least
 pub mod Second
 pub mod Size
 pub mod Kruskal
+pub mod Latest

@@ -1,6 +1,7 @@
 pub mod Keys
 pub mod Weights
 pub mod Accepted
+pub mod Numbers
 pub mod Pairs
 pub mod Same
 pub mod Trimmed

@@ -1,5 +1,5 @@
 -- What the stores of the writer leave, and its outcomes: a plan refused (`w-refused`), 22 (`w-short`), written (`w-written`).
-use Prim.Native.Nat.{ℕ, zero, suc, _+_, _*_, _≤_, _<_}
+use Prim.Native.Nat.{ℕ, _+_, _*_, _≤_, _<_}
 use native.Mathlib.Omega.{arith}
 use native.Mathlib.Numerals.{add-one}
 use mathlib.Core.Path.{_≡_, refl, sym, ap, _∙_}
@@ -12,7 +12,7 @@ use Rattle.base.specs.Limits.{maxLinks}
 use Rattle.base.specs.Loop.{After, takenTo, answering}
 use Rattle.base.specs.laws.Refuse.{answers-refused}
 use Rattle.base.specs.Table.{tabulate}
-use Rattle.base.specs.laws.Table.{length-tabulate}
+use Rattle.base.specs.laws.Table.{length-tabulate, tabulate-next}
 use Rattle.base.specs.laws.Sets.{sets-append}
 use Rattle.format_int16.specs.Int16.{put16}
 use Rattle.plan.specs.laws.Accepted.{accepted}
@@ -21,11 +21,6 @@ use Rattle.plan.specs.Refusal.{planRefusal}
 use Rattle.plan_file.specs.Layout.{planNumbers, bytesOf, encode}
 use Rattle.plan_file.specs.Writing.{size, writeRefusal, writePlan}
 use Rattle.plan_file.specs.laws.Lengths.{bytesOf-append, length-bytesOf, length-encode}
-
-pub tabulate-next : (n : ℕ) (f : ℕ → ℕ) → tabulate (suc n) f ≡ tabulate n f ++ (f n ∷ [])
-unfolding tabulate
-tabulate-next zero f = refl
-tabulate-next (suc n) f = ap (λ xs. f zero ∷ xs) (tabulate-next n (λ i. f (suc i)))
 
 -- no number yet, one more, all of them
 module _ (f : ℕ → ℕ) (s : List ℕ) where

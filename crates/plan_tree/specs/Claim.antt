@@ -1,4 +1,4 @@
--- What is claimed of the tree that the central builder writes (`TreeClaim`), in document 01's words; cost and order of the links are request 03's.
+-- What is claimed of the tree that the central builder writes (`TreeClaim`), in document 01's words; cost and order of the links are request 03's. The tree's paths.
 use Prim.Native.Nat.{ℕ, _≤_, _<_}
 use mathlib.Core.Path.{_≡_}
 use mathlib.Core.Logic.{_≢_}
@@ -9,10 +9,11 @@ use lib.Dec.{eqb}
 use Rattle.graph.specs.Graph.{Way}
 use Rattle.graph.specs.Order.{InTree}
 use Rattle.graph.specs.Decide.{Set}
+use Rattle.graph.specs.Path.{Path}
 use Rattle.graph.specs.Least.{totalCost}
 use Rattle.plan.specs.Links.{graphOf, Plan, modulesOf, linksOf, lowerOf, higherOf}
 use Rattle.plan.specs.Weights.{cost, readingSum, earlier}
-use Rattle.plan_tree.specs.Tree.{centralTree}
+use Rattle.plan_tree.specs.Tree.{treeLink, centralTree}
 
 -- the set of links that the bytes mark
 abbrev pub chosenBy : List ℕ → ℕ → Bool
@@ -21,6 +22,10 @@ chosenBy bytes k = eqb (getD bytes k 0) 1
 -- the total of a set of links: of their costs, or of their readings
 abbrev pub totalOf : Plan → (ℕ → ℕ) → (ℕ → Bool) → ℕ
 totalOf p = totalCost (graphOf p)
+
+-- the tree's path between two modules: a way over tree links on which no module comes twice
+abbrev pub TreePath : Plan → ℕ → ℕ → Type 0
+TreePath p u v = Path (graphOf p) (Set (treeLink p)) u v
 
 -- "joining all modules"
 abbrev pub JoinsAll : Plan → (ℕ → Bool) → Type 0

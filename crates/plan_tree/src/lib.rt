@@ -12,7 +12,8 @@ ghost use Rattle.base.specs.Limits.{maxModules, maxLinks};
 ghost use Rattle.base.specs.None.{none};
 ghost use Rattle.plan.specs.Links.{linksOf, lowerOf, higherOf, graphOf};
 ghost use Rattle.plan.specs.Weights.{earlier};
-ghost use Rattle.plan_tree.specs.Tree.{centralTree};
+ghost use Rattle.plan.specs.Refusal.{planRefusal};
+ghost use Rattle.plan_tree.specs.Tree.{treeBytes, centralTree};
 ghost use Rattle.plan_tree.specs.laws.Forest.{Joined, Forest, Exact, Ends};
 ghost use Rattle.plan_tree.specs.laws.Phase.{sooner, apartAt, apart};
 ghost use Rattle.plan_tree.specs.Lent.{at, LabelsFit, Fit, Takes, TakesTo, Firsts, Phased};
@@ -150,10 +151,10 @@ fn clear(out: &mut [u8])
     }
 }
 
-// Marks the tree edges.
-fn grow(plan: &Plan, out: &mut [u8])
-    requires { ⌜ (linksOf (now plan) ≤ maxLinks) × (length (now out) ≡ linksOf (now plan)) × Ends (graphOf (now plan)) ⌝ }
-    ensures { λ _. ⌜ Exact (graphOf (now (plan .entry))) (earlier (now (plan .entry))) (at (now (out .exit))) ⌝ }
+// The tree of a plan that was checked.
+pub fn grow(plan: &Plan, out: &mut [u8])
+    requires { ⌜ (planRefusal (now plan) ≡ 0) × (length (now out) ≡ linksOf (now plan)) ⌝ }
+    ensures { λ _. ⌜ now (out .exit) ≡ treeBytes (now (plan .entry)) ⌝ }
 {
     clear(out);
     let mut label = [0u8; LABELS];

@@ -5,7 +5,8 @@ use Rattle.protocol.specs.Prelude.{Msg, connect, initiate, test, accept, reject
 use Rattle.protocol.specs.Prelude.{In, Blocked, GL, DK, Inv, waits-find}
 use native.Mathlib.Decide.{ℕ-discrete}
 use Rattle.base.specs.laws.Search.{least, Least}
-use Rattle.graph.specs.laws.Ways.{Any, way-reverse}
+use Rattle.graph.specs.Graph.{Any}
+use Rattle.graph.specs.laws.Ways.{way-reverse}
 use Rattle.protocol_stuck.specs.Informed.{Stuck, no-changing, no-rooting, all-inf}
 use Rattle.protocol_stuck.specs.Waiting.{lower, half-meets, half-earlier}
 

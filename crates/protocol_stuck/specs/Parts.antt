@@ -3,7 +3,8 @@ use Rattle.protocol.specs.Prelude.{ℕ, _≤_, _<_, arith, _≡_, refl, sym, ap
 use Rattle.protocol.specs.Prelude.{Network, Edge, Tree, up, down, flip, wider, Way, ProtocolState, setupState, Idle, GL, GC, In, first, in-nil, Inv}
 use Rattle.protocol.specs.Prelude.{sleep-lev, sleep-id, sleep-te, sleep-fc, sleep-halt, sleep-ib}
 use mathlib.Core.Logic.{_↔_}
-use Rattle.graph.specs.laws.Ways.{Any, way-reverse}
+use Rattle.graph.specs.Graph.{Any}
+use Rattle.graph.specs.laws.Ways.{way-reverse}
 use Rattle.protocol_stuck.specs.Informed.{Stuck}
 use Rattle.protocol_stuck.specs.Finished.{edge?, part, part-awake, nothing}
 use Rattle.protocol_stuck.specs.Rest.{leaves, tree-branch, other-rejected, level-pos, core-tree, core-halted, halted-core, lone-halted}

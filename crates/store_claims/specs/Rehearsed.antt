@@ -15,6 +15,7 @@ use Rattle.base.specs.Refuse.{orElse, firstRefusal}
 use Rattle.base.specs.Pool.{All, nil, con}
 use Rattle.base.specs.Test.{sameList}
 use Rattle.plan.specs.Links.{Plan}
+use Rattle.plan.specs.laws.Numbers.{plan-number}
 use Rattle.plan.specs.Refusal.{planRefusal}
 use Rattle.plan.specs.Trimmed.{trimmed}
 use Rattle.field.specs.Edges.{ceilingOf}
@@ -30,7 +31,7 @@ use Rattle.store.specs.Calls.{storeFits, savePoint, restorePoint}
 use Rattle.store.specs.Console.{Console, Act, setsUp, calls, saves, finds, restores, acts, Past, Point, Ledger, isPoint, wasSaved, pastOf, noted, known, holdsAfter, notedAfter, allKnown, actAnswers, MayAnswer, JudgedBy, firstNote, Rehearsals}
 use Rattle.store_laws.specs.Tidy.{setup-live}
 use Rattle.store_records.specs.Named.{same-equal, equal-same}
-use Rattle.store_claims.specs.Outcomes.{plan-number, save-answers, find-answers, restore-answers}
+use Rattle.store_claims.specs.Outcomes.{save-answers, find-answers, restore-answers}
 use Rattle.store_claims.specs.Saves.{save-passed, save-refused, saved-shown, others-shown, taken-saves}
 use Rattle.store_claims.specs.Back.{after-both, answers-both, after-words, restored-whole, restore-ready}
 

@@ -7,10 +7,9 @@ use mathlib.Core.List.{List, [], _∷_, _++_, append-nil}
 use lib.ListN.{length, getD, set, take, drop, length-drop, drop-of-length-le}
 use lib.Seq.{sets, take-suc, take-all, length-take-le}
 use Rattle.base.specs.Table.{tabulate}
-use Rattle.base.specs.laws.Table.{length-tabulate}
+use Rattle.base.specs.laws.Table.{length-tabulate, tabulate-next}
 use Rattle.base.specs.laws.Sets.{sets-append}
 use Rattle.format_wide.specs.Wide.{bytes64, put64}
-use Rattle.plan_file.proofs.Stores.{tabulate-next}
 use Rattle.store.specs.Layout.{wordBytes}
 use Rattle.store_laws.specs.Words.{length-words}
 

@@ -8,12 +8,11 @@ use lib.ListN.{length, length-map, length-append}
 use lib.Seq.{sets}
 use Rattle.base.specs.Limits.{maxModules}
 use Rattle.base.specs.Table.{tabulate}
-use Rattle.base.specs.laws.Table.{length-tabulate, tabulate-ext}
+use Rattle.base.specs.laws.Table.{length-tabulate, tabulate-next, tabulate-ext}
 use Rattle.format_int16.specs.Int16.{put16}
 use Rattle.plan.specs.Links.{Plan, linksOf}
 use Rattle.plan_file.specs.Layout.{bytesOf}
 use Rattle.plan_file.specs.laws.Lengths.{bytesOf-append, length-bytesOf}
-use Rattle.plan_file.proofs.Stores.{tabulate-next}
 use Rattle.field.specs.State.{WIDTH, cellOf}
 use Rattle.field.specs.Held.{fieldFrom}
 use Rattle.store.specs.Layout.{entryAt, markPlace, valuePlaces, markPlaces, modulePlaces, places}

@@ -8,7 +8,7 @@ use mathlib.Core.Bool.{Bool, true, false}
 use mathlib.Core.List.{List, [], _∷_, _++_}
 use lib.ListN.{length, getD, take, drop}
 use Rattle.base.specs.laws.Cond.{bool-cases}
-use Rattle.base.specs.laws.Pool.{Out, here, there}
+use Rattle.base.specs.Pool.{Out, here, there}
 use Rattle.base.specs.Keep.{keep, place}
 
 module _ {A : Type 0} where

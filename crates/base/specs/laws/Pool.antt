@@ -2,9 +2,9 @@
 use Prim.Native.Nat.{ℕ, _+_}
 use native.Mathlib.Nat.{zero-add}
 use native.Mathlib.Omega.{arith}
-use mathlib.Core.Path.{_≡_, refl, sym}
-use mathlib.Core.List.{List, [], _∷_, _++_}
-use Rattle.base.specs.Pool.{All, nil, con, sumL}
+use mathlib.Core.Path.{_≡_, refl, sym, subst}
+use mathlib.Core.List.{List, [], _∷_, _++_, reverse, reverse-cons, reverse-reverse}
+use Rattle.base.specs.Pool.{All, nil, con, Out, here, there, sumL}
 
 module _ {A : Type 0} where
   pub All-map : {P Q : A → Type 0} {l : List A} → ((m : A) → P m → Q m) → All P l → All Q l
@@ -18,10 +18,17 @@ module _ {A : Type 0} where
   pub All-one : {P : A → Type 0} {x : A} → P x → All P (x ∷ [])
   All-one h = con h nil
 
-  -- m is a member of l, and r is what is left without it
-  pub data Out : List A → A → List A → Type 0 where
-    here : {m : A} {l : List A} → Out (m ∷ l) m l
-    there : {x m : A} {l r : List A} → Out l m r → Out (x ∷ l) m (x ∷ r)
+  pub All-reverse : {P : A → Type 0} {l : List A} → All P l → All P (reverse l)
+  All-reverse nil = nil
+  All-reverse {P} (con {x} {xs} h t) = subst (All P) (sym (reverse-cons x xs)) (All-app (All-reverse t) (All-one h))
+
+  -- and back
+  pub reverse-All : {P : A → Type 0} (l : List A) → All P (reverse l) → All P l
+  reverse-All {P} l h = subst (All P) (reverse-reverse l) (All-reverse h)
+
+  pub All-both : {P Q : A → Type 0} {l : List A} → All P l → All Q l → All (λ x. P x × Q x) l
+  All-both nil nil = nil
+  All-both (con h t) (con k s) = con (h, k) (All-both t s)
 
   pub All-here : {P : A → Type 0} {l r : List A} {m : A} → Out l m r → All P l → P m
   All-here here (con h t) = h

@@ -3,7 +3,7 @@ use Prim.Native.Nat.{ℕ, zero, suc, _≤_, _<_}
 use native.Mathlib.Omega.{arith}
 use native.Mathlib.Nat.{not-suc-le-zero}
 use mathlib.Core.Path.{_≡_, refl, sym, ap, subst, _∙_}
-use mathlib.Core.List.{List}
+use mathlib.Core.List.{List, [], _∷_, _++_}
 use lib.ListN.{length, getD, set, length-set}
 use lib.Seq.{ext-getD, getD-set-same, getD-set-other}
 use borrow.Author.Tests.{lt-ltb, le-ltb}
@@ -24,6 +24,12 @@ getD-tabulate (suc n) f (suc k) l = getD-tabulate n (λ j. f (suc j)) k (omega a
 -- a list with these entries
 pub tabulated : (n : ℕ) (f : ℕ → ℕ) (s : List ℕ) → length s ≡ n → ((k : ℕ) → k < n → getD s k 0 ≡ f k) → s ≡ tabulate n f
 tabulated n f s e h = ext-getD 0 s (tabulate n f) (e ∙ sym (length-tabulate n f)) (λ k l. h k (omega arith) ∙ sym (getD-tabulate n f k (omega arith)))
+
+-- one entry more, at the end
+pub tabulate-next : (n : ℕ) (f : ℕ → ℕ) → tabulate (suc n) f ≡ tabulate n f ++ (f n ∷ [])
+unfolding tabulate
+tabulate-next zero f = refl
+tabulate-next (suc n) f = ap (λ xs. f zero ∷ xs) (tabulate-next n (λ i. f (suc i)))
 
 pub tabulate-ext : (n : ℕ) (f g : ℕ → ℕ) → ((k : ℕ) → k < n → f k ≡ g k) → tabulate n f ≡ tabulate n g
 tabulate-ext n f g h = tabulated n g (tabulate n f) (length-tabulate n f) (λ k l. getD-tabulate n f k l ∙ h k l)

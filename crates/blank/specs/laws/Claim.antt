@@ -1,4 +1,4 @@
--- REQUEST 04 HOLDS (`blank-claim`); so no list of calls from the blank plan's setup wakes a module (`nobody-woken`).
+-- REQUEST 04 HOLDS (`blank-claim`); so no list of calls from the blank plan's setup wakes a module (`nobody-woken`), and any two have no path and none is near (`nobody-between`, `nobody-near`).
 use Prim.Native.Nat.{ℕ}
 use mathlib.Core.Path.{_≡_, refl, sym, ap, subst, _∙_}
 use mathlib.Core.List.{List, []}
@@ -9,8 +9,10 @@ use Rattle.plan_file.specs.laws.RoundTrip.{read-refusal}
 use Rattle.field.specs.Held.{Held, setUp}
 use Rattle.field_calls.specs.Call.{Call}
 use Rattle.field_calls.specs.Trail.{trail, wokenIn}
+use Rattle.path.specs.Between.{pathBetween}
+use Rattle.path.specs.Near.{markNear}
 use Rattle.blank.specs.Claim.{Blank, BlankPlan, BlankClaim}
-use Rattle.blank.specs.laws.Plans.{trimmed-blank, blank-taken, blank-ceiling, blank-limit, blank-written, blank-short, blank-tree, blank-tree-20, read-blank, above-192, bytes-above-192, link-meets-16, bytes-meet-16, links-meet-15, bytes-meet-15}
+use Rattle.blank.specs.laws.Plans.{trimmed-blank, blank-taken, blank-ceiling, blank-limit, blank-written, blank-short, blank-tree, blank-tree-20, blank-paths, blank-near, read-blank, above-192, bytes-above-192, link-meets-16, bytes-meet-16, links-meet-15, bytes-meet-15}
 use Rattle.blank.specs.laws.Fields.{blank-set, blank-valid, blank-field}
 use Rattle.blank.specs.laws.Program.{blankBegun, blank-begun, blank-job, blank-prints, blank-traces}
 
@@ -26,6 +28,8 @@ blank-plan p b = record {
   calls = λ h e v. blank-field h (subst Blank (sym e) b) v;
   tree = blank-tree p b;
   others = blank-tree-20 p b;
+  paths = blank-paths p b;
+  near = blank-near p b;
   job = blank-job p b;
 }
 
@@ -51,3 +55,11 @@ module _ (p : Plan) (b : Blank p) (lent : List ℕ) where
   nobody-woken calls =
       let held = blank-claim .blank (trimmed p) (trimmed-blank p b) in
       ap (λ (a : After Held). wokenIn p (trail calls (a .state))) (blank-claim .blank p b .set lent) ∙ ap (wokenIn p) (held .calls (blankBegun p b lent) refl (blank-begun p b lent) .still calls)
+
+-- and no path or marks to ask for, whichever the modules
+module _ (p : Plan) (b : Blank p) where
+  pub nobody-between : (u v : ℕ) (out : List ℕ) → pathBetween p u v out .answer .refusal ≡ 41
+  nobody-between u v out = ap (λ r. r .answer .refusal) (blank-claim .blank p b .paths u v out)
+
+  pub nobody-near : (m h : ℕ) (out : List ℕ) → markNear p m h out .refusal ≡ 41
+  nobody-near m h out = ap (λ r. r .refusal) (blank-claim .blank p b .near m h out)

@@ -1,6 +1,6 @@
--- A plan with nobody in it: taken, its ceiling, its bytes, its tree (`blank-taken`, `blank-ceiling`, `blank-written`, `blank-tree`); only its own seven bytes mean it
--- (`read-blank`). 14 is for more than 192 modules alone (`above-192`, `bytes-above-192`), and a link of nobody meets 16 (`link-meets-16`, `bytes-meet-16`), or 15
--- before it (`links-meet-15`, `bytes-meet-15`).
+-- A plan with nobody in it: taken, its ceiling, its bytes, its tree (`blank-taken`, `blank-ceiling`, `blank-written`, `blank-tree`), no path (`blank-paths`,
+-- `blank-near`); only its own seven bytes mean it (`read-blank`). 14 is for more than 192 modules alone (`above-192`, `bytes-above-192`), and a link of nobody
+-- meets 16 (`link-meets-16`, `bytes-meet-16`), or 15 before it (`links-meet-15`, `bytes-meet-15`).
 use Prim.Native.Nat.{ℕ, zero, suc, _+_, _*_, _-_, _≤_, _<_}
 use native.Mathlib.Omega.{arith}
 use mathlib.Core.Path.{_≡_, refl, sym, ap, ap₂, subst, _∙_}
@@ -29,6 +29,9 @@ use Rattle.plan_file.specs.Reading.{headVerdict, headRefusal, readRefusal, read
 use Rattle.plan_file.specs.Writing.{writeRefusal, writePlan}
 use Rattle.plan_file.specs.laws.RoundTrip.{written-read, number-decode, read-written, read-refusal, read-plan}
 use Rattle.plan_tree.specs.Tree.{treeBytes, treeRefusal, centralTree}
+use Rattle.path.specs.Between.{noPath, pathBetween}
+use Rattle.path.specs.Near.{markNear}
+use Rattle.path.specs.laws.Outcomes.{path-refused-from, near-refused-module}
 use Rattle.field.specs.Edges.{limitOf, ceilingOf}
 use Rattle.blank.specs.Claim.{Blank, blankBytes, HeadTaken, linksLength}
 
@@ -68,6 +71,12 @@ module _ (p : Plan) (b : Blank p) where
   pub blank-tree-20 : (x : ℕ) (out : List ℕ) → centralTree p (x ∷ out) ≡ refusedBy 20 (x ∷ out)
   unfolding centralTree treeRefusal
   blank-tree-20 x out = rw (blank-taken, b .unlinked, ne-eqb (length (x ∷ out)) 0 (λ e. omega arith)) refl
+
+  pub blank-paths : (u v : ℕ) (out : List ℕ) → pathBetween p u v out ≡ noPath 41 out
+  blank-paths u v out = sym (path-refused-from p u v out blank-taken (omega (arith, b .nobody)))
+
+  pub blank-near : (m h : ℕ) (out : List ℕ) → markNear p m h out ≡ refusedBy 41 out
+  blank-near m h out = sym (near-refused-module p m h out blank-taken (omega (arith, b .nobody)))
 
 -- THE BYTES
 

@@ -9,24 +9,20 @@ use borrow.Author.Tests.{not-true}
 use Rattle.base.specs.Cond.{bit}
 use Rattle.base.specs.Names.{BRANCH}
 use Rattle.base.specs.Test.{every}
-use Rattle.base.specs.laws.Cond.{bool-cases}
-use Rattle.base.specs.laws.Table.{length-tabulate, getD-tabulate}
+use Rattle.base.specs.laws.Table.{length-tabulate}
 use Rattle.base.specs.laws.Test.{every-ext, every-all}
 use Rattle.plan.specs.Links.{Plan, linksOf}
 use Rattle.plan_tree.specs.Tree.{treeLink, treeBytes}
+use Rattle.plan_tree.specs.laws.Tree.{byte-tells}
 use Rattle.cue.specs.Calls.{endAgrees, endsAgree, branchesAgree}
 use Rattle.cue_check.specs.Bytes.{byteAgrees}
 
 module _ (p : Plan) (marks : List ℕ) where
-  byte-tells : (k : ℕ) → k < linksOf p → eqb (getD (treeBytes p) k 0) 1 ≡ treeLink p k
-  unfolding treeBytes
-  byte-tells k l = rw (getD-tabulate (linksOf p) (λ j. bit (treeLink p j)) k l) (bool-cases (treeLink p k) (λ t. rw t) (λ f. rw f))
-
   pub bytes-agree : every (length (treeBytes p)) (byteAgrees (treeBytes p) marks) ≡ branchesAgree p marks
   unfolding treeBytes branchesAgree
   bytes-agree =
       ap (λ n. every n (byteAgrees (treeBytes p) marks)) (length-tabulate (linksOf p) (λ k. bit (treeLink p k)))
-      ∙ every-ext (linksOf p) (byteAgrees (treeBytes p) marks) (λ k. endsAgree (treeLink p k) marks k) (λ k l. rw (byte-tells k l))
+      ∙ every-ext (linksOf p) (byteAgrees (treeBytes p) marks) (λ k. endsAgree (treeLink p k) marks k) (λ k l. rw (byte-tells p k l))
 
 -- an end that agrees: its mark is Branch exactly where its link is in the tree
 end-tells : (tree : Bool) (mark : ℕ) → endAgrees tree mark ≡ true → tree ≡ eqb mark BRANCH

@@ -4,18 +4,17 @@ use mathlib.Core.Path.{_≡_, sym, ap, _∙_}
 use Prim.Native.Nat.{ℕ, suc, _+_, _≤_, _<_, min}
 use mathlib.Core.List.{List, _++_}
 use lib.ListN.{length, getD, set, take, drop, replicate, length-replicate, drop-of-length-le}
-use lib.Seq.{length-take-le, length-front, take-all, take-length, take-suc, drop-cons, append-snoc, set-at}
+use lib.Seq.{length-take-le, length-front, take-all, take-length, take-suc}
 use native.Mathlib.Omega.{arith}
 use native.Mathlib.Decide.{decLe}
 use mathlib.Core.Logic.{by-cases}
+use Rattle.base.specs.laws.Sets.{front-set}
 use Rattle.cue_records.specs.Written.{written}
 
 module _ {A : Type 0} where
   one-more : (new old : List A) (i : ℕ) (z : A) → i < length new → i < length old → set (written new i old) i (getD new i z) ≡ written new (suc i) old
   one-more new old i z p q =
-      ap (λ (l : List A). set (take i new ++ l) i (getD new i z)) (drop-cons old i z q)
-      ∙ set-at (take i new) (getD old i z) (drop (suc i) old) (getD new i z) i (length-take-le i new (omega (arith, p)))
-      ∙ sym (append-snoc (take i new) (getD new i z) (drop (suc i) old))
+      front-set (take i new) old i (getD new i z) z (length-take-le i new (omega (arith, p))) q
       ∙ ap (λ (l : List A). l ++ drop (suc i) old) (sym (take-suc new i z p))
 
   pub written-next : (new old : List A) (i : ℕ) (z : A) → i < length new → i < length old → set (written new i old) i (getD new i z) ≡ written new (i + 1) old

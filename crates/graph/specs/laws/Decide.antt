@@ -8,9 +8,9 @@ use mathlib.Core.Bool.{Bool, true, false, not, cond, true≢false}
 use Rattle.base.specs.laws.Cond.{eqb-cases, eqb-same, bool-cases}
 use Rattle.base.specs.laws.Test.{every-all, all-every, decides, decided-yes, yes-decided, dec-test}
 use Rattle.base.specs.laws.Search.{lt-suc-cases}
-use Rattle.graph.specs.Graph.{Graph, up, Way}
+use Rattle.graph.specs.Graph.{Graph, up, Way, Any}
 use Rattle.graph.specs.Order.{Earlier, InTree}
-use Rattle.graph.specs.laws.Ways.{Any, way-append, way-reverse, wider}
+use Rattle.graph.specs.laws.Ways.{way-append, way-reverse, wider}
 use Rattle.graph.specs.Labels.{rename}
 use Rattle.graph.specs.laws.Labels.{Labels, With, labels-way, labels-same, labels-add, labels-none}
 use Rattle.graph.specs.Decide.{Set, label, joinedOver, inTree, Connected, connected}

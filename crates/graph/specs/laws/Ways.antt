@@ -11,10 +11,6 @@ use Rattle.graph.specs.Graph.{Graph, Joins, up, down, Way, stop, go}
 abbrev pub But : (ℕ → Type 0) → ℕ → ℕ → Type 0
 But S m f = S f × (m ≢ f)
 
--- all edges
-abbrev pub Any : ℕ → Type 0
-Any e = Unit {0}
-
 -- an edge of S from inside X to outside
 pub record Cross (g : Graph) (S : ℕ → Type 0) (X : ℕ → Bool) : Type 0 where
   pub edge : ℕ
@@ -80,10 +76,11 @@ module _ {g : Graph} where
   way-append (go e j s x) y = go e j s (way-append x y)
 
   -- one edge
-  pub edge-way : {S : ℕ → Type 0} {e u v : ℕ} → Joins g e u v → S e → Way g S u v
+  abbrev pub edge-way : {S : ℕ → Type 0} {e u v : ℕ} → Joins g e u v → S e → Way g S u v
   edge-way {e} j s = go e j s stop
 
-  pub way-reverse : {S : ℕ → Type 0} {u v : ℕ} → Way g S u v → Way g S v u
+  unfoldable pub way-reverse : {S : ℕ → Type 0} {u v : ℕ} → Way g S u v → Way g S v u
+  unfolding way-append
   way-reverse stop = stop
   way-reverse (go e j s w) = way-append (way-reverse w) (edge-way (flip j) s)
 
@@ -93,8 +90,9 @@ module _ {g : Graph} where
   through f (go {u} {v} e j s w) = way-append (f e u v j s) (through f w)
 
   -- more edges
-  pub wider : {S T : ℕ → Type 0} {u v : ℕ} → ((e : ℕ) → e < g.L → S e → T e) → Way g S u v → Way g T u v
-  wider f w = through (λ e a b j s. edge-way j (f e (joins-lt j) s)) w
+  unfoldable pub wider : {S T : ℕ → Type 0} {u v : ℕ} → ((e : ℕ) → e < g.L → S e → T e) → Way g S u v → Way g T u v
+  wider f stop = stop
+  wider f (go e j s w) = go e j (f e (joins-lt j) s) (wider f w)
 
   pub here : {S : ℕ → Type 0} {u v : ℕ} → u ≡ v → Way g S u v
   here {S} {u} e = subst (λ x. Way g S u x) e stop

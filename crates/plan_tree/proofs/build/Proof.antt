@@ -1,11 +1,10 @@
--- plan_tree::build: refused by `refused-plan` or `refused-size`; else the marks are exactly the tree, and so the bytes, by `exact-bytes` and `built`.
+-- plan_tree::build: refused by `refused-plan` or `refused-size`; else the bytes are the tree's, by `built`.
 use mathlib.Core.Path.{_≡_, sym, _∙_}
 use borrow.Author.Needs.{needs}
 use lib.ListN.{length}
 use Rattle.plan.specs.Links.{linksOf}
 use Rattle.plan.specs.Refusal.{planRefusal}
-use Rattle.plan.specs.laws.Accepted.{accepted}
-use Rattle.plan_tree.specs.laws.Tree.{refused-plan, refused-size, built, exact-bytes, accepted-ends}
+use Rattle.plan_tree.specs.laws.Tree.{refused-plan, refused-size, built}
 use Rattle.plan_tree.proofs.build.Statement.{statement}
 use Rattle.plan_tree.proofs.build.Tie as tie
 
@@ -27,19 +26,14 @@ passed : (c : tie.Else2) → let s = c .before .before .before .before .before .
 passed c = (sym (c .before .before .before .check .ensures) ∙ c .before .before .if1 .left, c .if2 .left ∙ c .before .links .ensures)
 
 grow-requires : tie.Need-grow-requires
-grow-requires c κs =
-    let e = c .before in
-    let p = e .before .before .before .before .before .args .p .now in
-    let a = accepted p (passed e .0) in
-    (a .linksOk, passed e .1, accepted-ends p a)
+grow-requires c κs = passed (c .before)
 
 returns-3 : tie.Need-returns-3
 returns-3 c =
     let g = c .before .before in
     let e = g .before .before in
     let s = e .before .before .before .before .before .args in
-    let n = passed e .1 in
-    rw (exact-bytes (s .p .now) (g .grow .last .1 .0) (g .grow .kept .1 .0 ∙ n) (g .grow .ensures)) (built (s .p .now) (s .out .now) (passed e .0) n)
+    rw (g .grow .ensures) (built (s .p .now) (s .out .now) (passed e .0) (passed e .1))
 
 pub build-spec : {M : Type 1} → statement M
 build-spec =

@@ -30,7 +30,7 @@ use Rattle.plan.specs.laws.Weights.{earlier-cost, earlier-sum, orderOf}
 use Rattle.plan.specs.laws.Accepted.{Accepted, accepted}
 use Rattle.plan_tree.specs.Tree.{treeLink, treeBytes, treeRefusal, centralTree}
 use Rattle.plan_tree.specs.Claim.{chosenBy, totalOf, JoinsAll, TreeClaim}
-use Rattle.plan_tree.specs.laws.Tree.{answered, answered-bytes}
+use Rattle.plan_tree.specs.laws.Tree.{answered, answered-bytes, byte-tells}
 
 module _ (p : Plan) (out : List ℕ) (taken : centralTree p out .refusal ≡ 0) where
   -- byte k, and the set of links that it marks
@@ -53,7 +53,7 @@ module _ (p : Plan) (out : List ℕ) (taken : centralTree p out .refusal ≡ 0) 
   written-byte k l = rw (answered-bytes p out taken) (getD-tabulate (linksOf p) (λ j. bit (treeLink p j)) k l)
 
   written-marked : (k : ℕ) → k < linksOf p → chosen k ≡ treeLink p k
-  written-marked k l = rw (written-byte k l) (bool-cases (treeLink p k) (λ t. rw t) (λ f. rw f))
+  written-marked k l = rw (answered-bytes p out taken) (byte-tells p k l)
 
   -- 1 FOR A TREE LINK, 0 otherwise: by the path rule
   pub written-tree : (k : ℕ) → k < linksOf p → InTree (graphOf p) (earlier p) k → byte k ≡ 1

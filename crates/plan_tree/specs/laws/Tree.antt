@@ -1,16 +1,18 @@
 -- The outcomes of `centralTree`: refused by the plan's number (`refused-plan`), refused by 20 (`refused-size`), or built (`built`, `exact-bytes`).
-use Prim.Native.Nat.{ℕ}
+-- What a byte tells (`byte-tells`).
+use Prim.Native.Nat.{ℕ, _<_}
 use native.Mathlib.Omega.{arith}
 use mathlib.Core.Path.{_≡_, sym, ap, _∙_}
 use mathlib.Core.Logic.{_≢_}
 use mathlib.Core.Bool.{true≢false}
 use mathlib.Core.List.{List}
-use lib.ListN.{length}
+use lib.ListN.{length, getD}
+use lib.Dec.{eqb}
 use Rattle.base.specs.Cond.{bit}
 use Rattle.base.specs.laws.Cond.{bool-cases, eqb-same, eqb-diff, by-eq}
 use Rattle.base.specs.Loop.{answering}
 use Rattle.base.specs.laws.Refuse.{answers-refused}
-use Rattle.base.specs.laws.Table.{tabulated}
+use Rattle.base.specs.laws.Table.{getD-tabulate, tabulated}
 use Rattle.graph.specs.laws.Decide.{inTree-tree, tree-inTree}
 use Rattle.plan.specs.Links.{graphOf, Plan, linksOf}
 use Rattle.plan.specs.Weights.{earlier}
@@ -46,6 +48,11 @@ module _ (p : Plan) (out : List ℕ) where
 
   pub answered-bytes : centralTree p out .refusal ≡ 0 → centralTree p out .state ≡ treeBytes p
   answered-bytes e = let a = answered e in sym (ap (λ b. b .state) (built (a .0) (a .1)))
+
+-- a byte tells whether its link is in the tree
+pub byte-tells : (p : Plan) (k : ℕ) → k < linksOf p → eqb (getD (treeBytes p) k 0) 1 ≡ treeLink p k
+unfolding treeBytes
+byte-tells p k l = rw (getD-tabulate (linksOf p) (λ j. bit (treeLink p j)) k l) (bool-cases (treeLink p k) (λ t. rw t) (λ f. rw f))
 
 -- bytes that mark the tree edges are the tree's bytes
 pub exact-bytes : (p : Plan) (s : List ℕ) → length s ≡ linksOf p → Exact (graphOf p) (earlier p) (at s) → s ≡ treeBytes p

@@ -1,38 +1,29 @@
--- cue_check::tree::agrees: the builder writes the tree's bytes, by `built`; against them 71 is decided, by `bytes-agree`.
+-- cue_check::tree::agrees: the builder writes the tree's bytes; against them 71 is decided, by `bytes-agree`.
 use Prim.Native.Nat.{ℕ}
 use native.Mathlib.Omega.{arith}
-use mathlib.Core.Path.{_≡_, sym, ap, _∙_}
+use mathlib.Core.Path.{ap, _∙_}
 use mathlib.Core.List.{List}
 use lib.ListN.{length}
 use borrow.Author.Needs.{needs}
-use Rattle.base.specs.Loop.{After}
 use Rattle.base.specs.Test.{every}
 use Rattle.plan.specs.laws.Accepted.{accepted}
-use Rattle.plan_tree.specs.Tree.{treeBytes}
-use Rattle.plan_tree.specs.laws.Tree.{built}
 use Rattle.cue_check.specs.Bytes.{byteAgrees}
 use Rattle.cue_check.specs.laws.Bytes.{bytes-agree}
 use Rattle.cue_check.proofs.tree.agrees.Statement.{statement}
 use Rattle.cue_check.proofs.tree.agrees.Tie as tie
 
--- what the builder leaves
-bytes-are : (c : tie.After-build) → c .build .last .1 .0 ≡ treeBytes (c .before .before .before .args .plan .now)
-bytes-are c =
-    let s = c .before .before .before in
-    ap (λ (a : After (List ℕ)). a .state) (c .build .ensures ∙ sym (built _ _ (s .pre .0) (s .pre .1)))
-
 links-agree-requires : tie.Need-links-agree-requires
 links-agree-requires c κs =
     let b = c .before .before .before in
     let s = b .before .before .before in
-    omega (arith, b .build .kept .1 .0, s .pre .1, accepted (s .args .plan .now) (s .pre .0) .linksOk)
+    omega (arith, b .grow .kept .1 .0, s .pre .1, accepted (s .args .plan .now) (s .pre .0) .linksOk)
 
 returns : tie.Need-returns
 returns c =
     let b = c .before .before .before .before in
     let a = b .before .before .before .args in
     c .links-agree .ensures
-    ∙ ap (λ (l : List ℕ). every (length l) (byteAgrees l (a .marks .now))) (bytes-are b)
+    ∙ ap (λ (l : List ℕ). every (length l) (byteAgrees l (a .marks .now))) (b .grow .ensures)
     ∙ bytes-agree (a .plan .now) (a .marks .now)
 
 pub agrees-spec : {M : Type 1} → statement M

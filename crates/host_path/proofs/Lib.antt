@@ -1,0 +1,4 @@
+pub mod Links
+pub mod Walked
+pub mod Known
+pub mod Answers
