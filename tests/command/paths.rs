@@ -1,4 +1,4 @@
-//! `path` and `near`, worked out once more by the oracle's.
+//! `path` and `near`, worked out once more by the oracle.
 
 use crate::tool::Tool;
 use oracle::path::{across, between, hops};

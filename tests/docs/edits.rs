@@ -17,6 +17,14 @@ fn there() -> BTreeSet<String> {
     found
 }
 
+/// Whether an edit says all that it holds: rt takes the lines that begin so and passes over any other, as the second line of
+/// a longer text.
+fn whole(edit: &str) -> bool {
+    let taken = |line: &str| line.is_empty() || ["file: ", "old: ", "new:"].iter().any(|word| line.starts_with(word));
+    fs::read_to_string(format!("crates/{}.edit", edit.replace('/', "/must-fail/")))
+        .is_ok_and(|text| text.lines().all(taken))
+}
+
 /// The edits that a row names: those of one crate, or any.
 fn named(row: &Row) -> (Vec<String>, Vec<String>) {
     let split = |cell: &String| cell.split(", ").filter(|e| *e != "-").map(str::to_string).collect::<Vec<_>>();
@@ -40,6 +48,8 @@ pub fn table() -> String {
 
 pub fn compare(rows: &[Row], found: &mut Found) {
     let there = there();
+    let cut = there.iter().filter(|edit| !whole(edit));
+    found.faults.extend(cut.map(|edit| format!("{edit}: a line that rt passes over")));
     let mut listed = BTreeSet::new();
     for row in rows {
         let (all, some) = named(row);

@@ -47,6 +47,7 @@ pub fn of_path(rng: &mut Rng, plan: &Plan, tally: &mut Tally) {
     }
     assert_eq!(been.last(), Some(&v), "the path ends elsewhere");
     tally.count(if u == v { "claims: the same module" } else { "claims: two different modules" });
+    assert!(if u == v { worst == NONE } else { links.contains(&worst) }, "worst {worst} of {links:?}");
     assert!(u == v || !joined(plan, u, v, |k| plan.earlier(k, worst)), "a better way than by {worst}");
     assert!(joined(plan, u, v, |k| !plan.earlier(worst, k)), "no way up to {worst}");
     let (back, same) = path(&numbers, v, u);

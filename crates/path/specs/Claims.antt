@@ -64,6 +64,7 @@ TurnedClaim =
 
 -- "79 a buffer shorter than the path", and so than N − 1 numbers: with as many every path fits
 pub record TooShort (p : Plan) (room u v : ℕ) : Type 0 where
+  pub there : TreePath p u v
   pub path : (q : TreePath p u v) → room < length (edgesOf (q .way))
   pub most : suc room < modulesOf p
 

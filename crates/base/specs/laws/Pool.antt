@@ -1,4 +1,5 @@
 -- A pool from whose middle one is taken and to whose end some are put: what holds of all (`All-`), and sums (`sumL-`), go through both.
+-- A list turned round (`All-reverse`, `reverse-All`).
 use Prim.Native.Nat.{ℕ, _+_}
 use native.Mathlib.Nat.{zero-add}
 use native.Mathlib.Omega.{arith}

@@ -13,7 +13,7 @@ sets-append l i (a ∷ vs) us =
     let e : i + suc (length vs) ≡ suc i + length vs = omega arith in
     ap (λ (k : ℕ). sets (sets (set l i a) (suc i) vs) k us) e ∙ sets-append (set l i a) (suc i) vs us
 
--- z is any member: which one does not matter
+-- z is any value: it stands for a read past the end, and there is none
 pub front-set : {A : Type 0} (done old : List A) (i : ℕ) (x z : A) → length done ≡ i → i < length old
     → set (done ++ drop i old) i x ≡ (done ++ (x ∷ [])) ++ drop (suc i) old
 front-set {A} done old i x z e l =

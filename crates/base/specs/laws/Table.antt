@@ -1,4 +1,5 @@
 -- A list with the entries of a rule is the rule's list (`tabulated`); an array that a loop fills is one at each turn (`fill-`).
+-- One entry more at the end (`tabulate-next`).
 use Prim.Native.Nat.{ℕ, zero, suc, _≤_, _<_}
 use native.Mathlib.Omega.{arith}
 use native.Mathlib.Nat.{not-suc-le-zero}

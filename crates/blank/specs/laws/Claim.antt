@@ -1,4 +1,5 @@
--- REQUEST 04 HOLDS (`blank-claim`); so no list of calls from the blank plan's setup wakes a module (`nobody-woken`), and any two have no path and none is near (`nobody-between`, `nobody-near`).
+-- REQUEST 04 HOLDS (`blank-claim`); so no list of calls from the blank plan's setup wakes a module (`nobody-woken`), and paths and marks meet 41,
+-- whatever is asked (`nobody-between`, `nobody-near`).
 use Prim.Native.Nat.{ℕ}
 use mathlib.Core.Path.{_≡_, refl, sym, ap, subst, _∙_}
 use mathlib.Core.List.{List, []}

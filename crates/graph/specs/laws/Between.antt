@@ -1,5 +1,6 @@
 -- The way between two nodes, over edges of which none can be spared: it is the path (`between-path`), edge by edge (`between-here`, `between-next`), the same from
--- its other end (`between-turned`); of the two ends of an edge one is that edge nearer to a goal (`between-beside`). Where no edge passes a test, none is found (`some-none`).
+-- its other end (`between-turned`); of the two ends of an edge one is that edge nearer to a goal (`between-beside`).
+-- Where no edge passes a test, none is found (`some-none`).
 use Prim.Native.Nat.{ℕ, zero, suc, _≤_, _<_}
 use native.Mathlib.Omega.{arith}
 use mathlib.Core.Path.{_≡_, refl, sym, ap, subst, _∙_}

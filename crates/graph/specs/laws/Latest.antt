@@ -1,5 +1,5 @@
--- The latest edge of a list is one of it, and none of it is later (`latest-of`); a list turned round has the same one (`latest-turned`). Of all ways between two
--- nodes none has an earlier latest edge than the one over tree edges (`best-way`).
+-- The latest edge of a list is one of it, and none of it is later (`latest-of`); lists of the same members have the same one (`latest-same`), so a list turned round
+-- has it (`latest-turned`). Of all ways between two nodes none has an earlier latest edge than the one over tree edges (`best-way`).
 use Prim.Native.Nat.{ℕ, _≤_, _<_}
 use native.Mathlib.Omega.{arith}
 use mathlib.Core.Path.{_≡_, refl, sym, subst, _∙_}

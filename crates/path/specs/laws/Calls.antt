@@ -1,6 +1,7 @@
--- What a caller may count on. From the claims alone: from the other end the same links turned back (`either-way`), no link shown twice (`links-once`), as many as the
--- lent buffer has room for (`links-fit`); a byte of the marks goes by the length that the other call answers, whatever h (`near-call`), and no other bytes are right
--- (`near-same`). From the outcomes: modules of a plan that was checked are answered (`path-answers`, `near-answers`), and beside a refusal there is no path, no worst
+-- What a caller may count on. From the claims alone: from the other end the same links turned back (`either-way`), no link shown twice (`links-once`), no more than
+-- the lent buffer has room for (`links-fit`); a byte of the marks goes by the length that the other call answers, whatever h (`near-call`), and no other bytes are right
+-- (`near-same`). From the outcomes: modules of a plan that was checked are answered where there is room, N − 1 numbers or
+-- N bytes (`path-answers`, `near-answers`), and beside a refusal there is no path, no worst
 -- link, and nothing is written (`path-unwritten`, `near-unwritten`).
 use Prim.Native.Nat.{ℕ, suc, _-_, _≤_, _<_}
 use native.Mathlib.Omega.{arith}

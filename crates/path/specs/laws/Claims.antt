@@ -139,9 +139,12 @@ unfolding pathRefusal
 room-claim p room u v e =
     let f = refused-79 (planRefusal p) _ _ (plan-number p) e in
     let b = or-false _ _ (f .1 .0) in
-    let short = path-short p (accepted p (f .0)) (leb-false _ _ (b .0)) (leb-false _ _ (b .1)) in
+    let a = accepted p (f .0) in
+    let lu = leb-false _ _ (b .0) in
+    let lv = leb-false _ _ (b .1) in
+    let short = path-short p a lu lv in
     let long = ltb-true room (length (treePath p u v)) (f .1 .1) in
-    record { path = λ q. subst (λ l. room < length l) (path-is p q) long; most = omega (arith, short, long) }
+    record { there = tree-path p a lu lv; path = λ q. subst (λ l. room < length l) (path-is p q) long; most = omega (arith, short, long) }
 
 -- THE MARKS
 

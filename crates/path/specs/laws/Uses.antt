@@ -1,8 +1,9 @@
 -- What follows from the claims alone. The buffer is the path, then what was lent (`buffer-is`, `marks-then`); no way between the two modules has only links earlier
--- than the worst, where L is below none (`none-earlier`); answers for the same modules show the same links, whatever the buffers (`same-links`, `worst-same`), from the
+-- than the worst, where L is at most none (`none-earlier`); answers for the same modules show the same links, whatever the buffers (`same-links`, `worst-same`), from the
 -- other end too (`worst-turned`); the same module twice shows none and needs no room (`none-shown`, `room-none`); one link is a tree link between the two (`one-link`,
 -- `neighbours`). A byte of the marks goes by the length of the path that is answered (`near-by-path`): a larger h unmarks nobody (`near-more`), N − 1 branches
--- reach all (`near-all`), none the module alone (`near-none`). With N − 1 numbers there is no 79 (`room-enough`).
+-- reach all (`near-all`), none the module alone (`near-none`). With N − 1 numbers there is no 79 (`room-enough`); where it comes the
+-- path is longer than the room (`room-short`).
 use Prim.Native.Nat.{ℕ, suc, _≤_, _<_}
 use native.Mathlib.Omega.{arith}
 use mathlib.Core.Path.{_≡_, sym, ap, ap₂, subst, _∙_}
@@ -89,6 +90,10 @@ module _ {p : Plan} {u v : ℕ} {lent : List ℕ} {r : PathShown} (h : PathHolds
 
 pub room-enough : RoomClaim → (p : Plan) (room u v : ℕ) → modulesOf p ≤ suc room → pathRefusal p room u v ≢ 79
 room-enough claim p room u v l e = omega (arith, claim p room u v e .most)
+
+-- 79: there is a path, and it is longer than the room
+pub room-short : (claim : RoomClaim) (p : Plan) (room u v : ℕ) (e : pathRefusal p room u v ≡ 79) → room < length (edgesOf (claim p room u v e .there .way))
+room-short claim p room u v e = let t = claim p room u v e in t .path (t .there)
 
 -- the same module twice needs no room
 pub room-none : RoomClaim → (p : Plan) (room u : ℕ) → pathRefusal p room u u ≢ 79

@@ -12,7 +12,7 @@ use Rattle.graph.specs.Decide.{connected}
 use Rattle.plan.specs.Links.{Plan, modulesOf, linksOf, lowerOf, higherOf, nearOf, farOf, graphOf}
 use Rattle.plan.specs.Refusal.{countsRefusal, inOrder, linkVerdict, linkRefusal, linksRefusal, planRefusal}
 
--- 14 to 19, or none
+-- 0, or one of 14 to 19
 abbrev pub PlanNumber : ℕ → Type 0
 PlanNumber r = (r ≡ 0) ⊎ ((14 ≤ r) × (r ≤ 19))
 
