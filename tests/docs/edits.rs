@@ -17,12 +17,29 @@ fn there() -> BTreeSet<String> {
     found
 }
 
-/// Whether an edit says all that it holds: rt takes the lines that begin so and passes over any other, as the second line of
-/// a longer text.
-fn whole(edit: &str) -> bool {
-    let taken = |line: &str| line.is_empty() || ["file: ", "old: ", "new:"].iter().any(|word| line.starts_with(word));
-    fs::read_to_string(format!("crates/{}.edit", edit.replace('/', "/must-fail/")))
-        .is_ok_and(|text| text.lines().all(taken))
+/// Whether an edit does all that it holds: files, and for each the pairs of a line and what takes its place, not the same
+/// again. rt passes over any other line, as the second of a longer text, and of two old lines takes the last.
+pub fn whole(text: &str) -> bool {
+    let mut before = "";
+    let mut old = "";
+    for line in text.lines() {
+        let (word, rest) = line.split_once(':').unwrap_or((line, ""));
+        let fits = match word {
+            "file" => matches!(before, "" | "new"),
+            "old" => matches!(before, "file" | "new"),
+            "new" => before == "old" && rest != old,
+            _ => false,
+        };
+        if !fits {
+            return false;
+        }
+        (before, old) = (word, rest);
+    }
+    before == "new"
+}
+
+fn text(edit: &str) -> String {
+    fs::read_to_string(format!("crates/{}.edit", edit.replace('/', "/must-fail/"))).unwrap_or_default()
 }
 
 /// The edits that a row names: those of one crate, or any.
@@ -48,8 +65,8 @@ pub fn table() -> String {
 
 pub fn compare(rows: &[Row], found: &mut Found) {
     let there = there();
-    let cut = there.iter().filter(|edit| !whole(edit));
-    found.faults.extend(cut.map(|edit| format!("{edit}: a line that rt passes over")));
+    let cut = there.iter().filter(|edit| !whole(&text(edit)));
+    found.faults.extend(cut.map(|edit| format!("{edit}: not files with pairs of an old line and another new one")));
     let mut listed = BTreeSet::new();
     for row in rows {
         let (all, some) = named(row);

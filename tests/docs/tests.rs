@@ -1,4 +1,5 @@
 use crate::difference;
+use crate::edits::whole;
 use crate::map;
 use crate::tables::{claims, defined, functions, mentions, numbers, rows, theorems, Found};
 use crate::trust::{closure, unlisted};
@@ -148,4 +149,22 @@ fn the_page_is_compared() {
     assert_eq!(difference("a\nb\n", "a\nb\n"), None);
     assert!(difference("a\nb\n", "a\nc\n").unwrap().starts_with("docs/TRUST.md:2: b\n  the tree gives: c\n"));
     assert!(difference("a\n", "a\nb\n").is_some());
+}
+
+#[test]
+fn an_edit_is_pairs_of_lines() {
+    assert!(whole("file: a\nold: x\nnew: y\nold: z\nnew:\nfile: b\nold: x\nnew: y\n"));
+    for text in [
+        "",
+        "file: a\n",
+        "file: a\nold: x\n",
+        "old: x\nnew: y\n",
+        "file: a\nold: x\nsecond line\nnew: y\n",
+        "file: a\nold: x\nnew: y\nsecond line\n",
+        "file: a\n\nold: x\nnew: y\n",
+        "file: a\nold: x\nold: z\nnew: y\n",
+        "file: a\nold: x\nnew: x\n",
+    ] {
+        assert!(!whole(text), "{text:?}");
+    }
 }

@@ -16,7 +16,7 @@ use Rattle.graph.specs.Between.{Latest}
 use Rattle.plan.specs.Links.{graphOf, Plan, modulesOf}
 use Rattle.plan.specs.Weights.{earlier}
 use Rattle.plan_tree.specs.Claim.{TreePath}
-use Rattle.path.specs.Between.{PathShown, pathRefusal, pathBetween}
+use Rattle.path.specs.Between.{PathShown, pathBetween}
 use Rattle.path.specs.Near.{markNear}
 
 -- THE PATH
@@ -69,7 +69,7 @@ pub record TooShort (p : Plan) (room u v : ℕ) : Type 0 where
   pub most : suc room < modulesOf p
 
 abbrev pub RoomClaim : Type 0
-RoomClaim = (p : Plan) (room u v : ℕ) → pathRefusal p room u v ≡ 79 → TooShort p room u v
+RoomClaim = (p : Plan) (u v : ℕ) (lent : List ℕ) → pathBetween p u v lent .answer .refusal ≡ 79 → TooShort p (length lent) u v
 
 -- THE MARKS
 

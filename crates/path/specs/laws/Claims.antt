@@ -15,7 +15,7 @@ use Rattle.base.specs.None.{none}
 use Rattle.base.specs.Pool.{All}
 use Rattle.base.specs.laws.Twice.{NoTwice-one}
 use Rattle.base.specs.Refuse.{orElse, firstRefusal}
-use Rattle.base.specs.laws.Cond.{eqb-cases}
+use Rattle.base.specs.laws.Cond.{eqb-cases, by-eq}
 use Rattle.base.specs.laws.Refuse.{or-false}
 use Rattle.base.specs.laws.Table.{length-tabulate, getD-tabulate}
 use Rattle.graph.specs.Graph.{Way, stop}
@@ -34,8 +34,8 @@ use Rattle.plan_tree.specs.Claim.{TreePath}
 use Rattle.plan_tree.specs.laws.Paths.{tree-spare, tree-path}
 use Rattle.path.specs.Between.{treePath, worstOn, thisPath, pathRefusal}
 use Rattle.path.specs.Near.{withinBranches, nearBytes}
-use Rattle.path.specs.Claims.{PathHolds, PathClaim, TurnedRound, TurnedClaim, RoomClaim, NearHolds, NearClaim}
-use Rattle.path.specs.laws.Outcomes.{path-taken, path-answered, path-shown, near-answered, near-written}
+use Rattle.path.specs.Claims.{PathHolds, PathClaim, TurnedRound, TurnedClaim, TooShort, RoomClaim, NearHolds, NearClaim}
+use Rattle.path.specs.laws.Outcomes.{path-zero, path-taken, path-refused, path-answered, path-shown, near-answered, near-written}
 use Rattle.path.specs.laws.Steps.{path-is, tree-path-turned, path-short}
 
 -- THE PATH
@@ -134,9 +134,10 @@ refused-79 r b c n = eqb-cases r 0 (λ t. cond t (orElse b 41 (orElse c 79 0)) r
     tests false true h = (refl, refl)
     tests false false h = absurd (omega arith)
 
-pub room-claim : RoomClaim
+-- refused by 79, and so too short
+refused-short : (p : Plan) (room u v : ℕ) → pathRefusal p room u v ≡ 79 → TooShort p room u v
 unfolding pathRefusal
-room-claim p room u v e =
+refused-short p room u v e =
     let f = refused-79 (planRefusal p) _ _ (plan-number p) e in
     let b = or-false _ _ (f .1 .0) in
     let a = accepted p (f .0) in
@@ -145,6 +146,11 @@ room-claim p room u v e =
     let short = path-short p a lu lv in
     let long = ltb-true room (length (treePath p u v)) (f .1 .1) in
     record { there = tree-path p a lu lv; path = λ q. subst (λ l. room < length l) (path-is p q) long; most = omega (arith, short, long) }
+
+pub room-claim : RoomClaim
+room-claim p u v lent e = refused-short p (length lent) u v (by-eq (pathRefusal p (length lent) u v) 0
+    (λ z. let t = path-zero p u v (length lent) z in absurd (omega (arith, ap (λ r. r .answer .refusal) (path-taken p u v lent (t .checked) (t .fromOk) (t .toOk) (t .fits)), e)))
+    (λ n. ap (λ r. r .answer .refusal) (path-refused p u v lent n) ∙ e))
 
 -- THE MARKS
 

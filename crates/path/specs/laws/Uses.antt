@@ -31,7 +31,7 @@ use Rattle.plan.specs.Weights.{earlier}
 use Rattle.plan.specs.laws.Weights.{orderOf}
 use Rattle.plan_tree.specs.Tree.{treeLink}
 use Rattle.plan_tree.specs.Claim.{TreePath}
-use Rattle.path.specs.Between.{PathShown, pathRefusal}
+use Rattle.path.specs.Between.{PathShown, pathBetween}
 use Rattle.path.specs.Claims.{shownLinks, PathHolds, TurnedRound, RoomClaim, NearHolds}
 
 -- THE PATH
@@ -88,16 +88,20 @@ module _ {p : Plan} {u v : ℕ} {lent : List ℕ} {r : PathShown} (h : PathHolds
 
 -- ROOM
 
-pub room-enough : RoomClaim → (p : Plan) (room u v : ℕ) → modulesOf p ≤ suc room → pathRefusal p room u v ≢ 79
-room-enough claim p room u v l e = omega (arith, claim p room u v e .most)
+pub room-enough : RoomClaim → (p : Plan) (u v : ℕ) (lent : List ℕ) → modulesOf p ≤ suc (length lent) → pathBetween p u v lent .answer .refusal ≢ 79
+room-enough claim p u v lent l e = omega (arith, claim p u v lent e .most)
 
 -- 79: there is a path, and it is longer than the room
-pub room-short : (claim : RoomClaim) (p : Plan) (room u v : ℕ) (e : pathRefusal p room u v ≡ 79) → room < length (edgesOf (claim p room u v e .there .way))
-room-short claim p room u v e = let t = claim p room u v e in t .path (t .there)
+pub record LongerPath (p : Plan) (room u v : ℕ) : Type 0 where
+  pub path : TreePath p u v
+  pub longer : room < length (edgesOf (path .way))
+
+pub room-short : RoomClaim → (p : Plan) (u v : ℕ) (lent : List ℕ) → pathBetween p u v lent .answer .refusal ≡ 79 → LongerPath p (length lent) u v
+room-short claim p u v lent e = let t = claim p u v lent e in record { path = t .there; longer = t .path (t .there) }
 
 -- the same module twice needs no room
-pub room-none : RoomClaim → (p : Plan) (room u : ℕ) → pathRefusal p room u u ≢ 79
-room-none claim p room u e = omega (arith, claim p room u u e .path (record { way = stop; simple = NoTwice-one u }))
+pub room-none : RoomClaim → (p : Plan) (u : ℕ) (lent : List ℕ) → pathBetween p u u lent .answer .refusal ≢ 79
+room-none claim p u lent e = omega (arith, claim p u u lent e .path (record { way = stop; simple = NoTwice-one u }))
 
 -- THE MARKS
 

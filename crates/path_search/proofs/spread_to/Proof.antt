@@ -54,7 +54,7 @@ pass-requires : tie.Need-pass-requires Inv-loop μ-loop
 pass-requires c κs =
     let t = c .before .before .before in
     let l = t .before .before in
-    (start (l .before) .pre .0, l .before .begin .ensures .0, l .loop .inv .1 .sized, deep t)
+    (start (l .before) .pre .0, l .before .begin .ensures .0, l .loop .inv .1 .sized, omega (arith, deep t))
 
 add-h : tie.Need-add-h Inv-loop μ-loop
 add-h c = let t = c .before .before .before .before in omega (arith, deep t, few (t .before .before .before))
