@@ -115,7 +115,7 @@ struct place {
     char words[128];
 };
 
-/* For a number of 11 to 19 that the library answered for these bytes or this value; 51 to 54; 61 to 63. */
+/* For a number of 11 to 18 that the library answered for these bytes or this value; 51 to 54; 61 to 63. */
 struct place plan_place(uint32_t refusal, const struct bytes *bytes);
 struct place value_place(uint32_t refusal, const muruapy_plan *plan);
 struct place schedule_place(uint32_t refusal, const struct bytes *bytes);
@@ -158,7 +158,7 @@ uint16_t to_module(const muruapy_plan *plan, uint16_t directed);
 /* Whether a step could take this waiting message. It takes the first that it can. */
 bool takes(const struct held *held, uint8_t kind, uint16_t number, uint64_t word);
 
-/* Whether both ends of each link say Branch just where the plan's tree has it. */
+/* Whether both ends of each link say Branch just where the plan's tree has it; at sleepers nothing is Branch. */
 bool has_tree(const muruapy_field *field);
 
 /* ---- record.c: steps taken and recorded ---- */
@@ -180,6 +180,11 @@ uint32_t to_rest_by_chance(struct record *record, uint64_t seed);
 /* Writes the schedules FILE, FILE.2 and so on, one at least, as put_files does. Says so where an older one follows
  * them. */
 int put_schedules(const struct record *record, const char *file, const char *input);
+
+/* ---- path.c: parts ---- */
+
+/* For each module of a plan that was taken the lowest module of its part. */
+void find_parts(const muruapy_plan *plan, uint16_t lowest[MURUAPY_MODULES]);
 
 /* ---- replay.c: steps told ---- */
 

@@ -1,4 +1,5 @@
-/* `cue`: sends a cue from a module over the tree that a plan's field comes to, and prints how each module hears it. */
+/* `cue`: sends a cue from a module over the tree that a plan's field comes to, and prints how each module hears it:
+ * those of the sender's part. */
 #include "command.h"
 
 /* Delivers copies until none waits: over branches, from modules that have heard to those that have not. */
@@ -23,7 +24,12 @@ static uint32_t to_all(const struct held *held, muruapy_cue *cues)
 
 static void print_cue(uint16_t module, const muruapy_cue *cue)
 {
-    printf("module %u hops %u link ", (unsigned)module, (unsigned)cue->hops);
+    printf("module %u ", (unsigned)module);
+    if (!cue->heard) {
+        puts("not reached");
+        return;
+    }
+    printf("hops %u link ", (unsigned)cue->hops);
     if (cue->link == MURUAPY_NONE)
         puts("none");
     else

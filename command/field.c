@@ -57,9 +57,11 @@ bool has_tree(const muruapy_field *field)
     uint8_t tree[MURUAPY_LINKS];
     if (muruapy_tree(&field->plan, tree, field->plan.links) != MURUAPY_TAKEN)
         return false;
-    for (uint16_t k = 0; k < field->plan.links; k++)
+    for (uint16_t k = 0; k < field->plan.links; k++) {
+        bool awake = field->modules[field->plan.link[k].lower].status != 0;
         for (int end = 0; end < 2; end++)
-            if ((field->marks[k][end] == 1) != (tree[k] == 1))
+            if ((field->marks[k][end] == 1) != (awake && tree[k] == 1))
                 return false;
+    }
     return true;
 }

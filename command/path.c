@@ -1,6 +1,22 @@
-/* `path` and `near`: the way between two modules over the tree of a plan, with its worst link, and the modules within some
- * branches of one. */
+/* `path` and `near`: the way between two modules over the tree of a plan, with its worst link, or `no way` where they are in
+ * different parts, and the modules within some branches of one. */
 #include "command.h"
+
+/* A part is all that is near its lowest module, within any number of branches. */
+void find_parts(const muruapy_plan *plan, uint16_t lowest[MURUAPY_MODULES])
+{
+    bool seen[MURUAPY_MODULES] = {false};
+    uint8_t part[MURUAPY_MODULES];
+    for (uint16_t v = 0; v < plan->modules; v++) {
+        if (seen[v] || muruapy_near(plan, v, plan->modules, part, MURUAPY_MODULES) != MURUAPY_TAKEN)
+            continue;
+        for (uint16_t u = v; u < plan->modules; u++)
+            if (part[u] == 1) {
+                seen[u] = true;
+                lowest[u] = v;
+            }
+    }
+}
 
 /* Reads the number of a module; false after a message. One of more than 16 bits is no module's, as one that the library
  * refuses. */
@@ -46,12 +62,15 @@ int path(const struct call *call)
     int status = take_plan(call->names[0], &plan);
     if (status != DONE)
         return status;
-    muruapy_path_found found = {MURUAPY_NO_MODULE, 0, MURUAPY_NONE};
+    muruapy_path_found found = {MURUAPY_NO_MODULE, 0, 0, MURUAPY_NONE};
     if (from <= UINT16_MAX && to <= UINT16_MAX)
         found = muruapy_path(&plan, (uint16_t)from, (uint16_t)to, links, MURUAPY_PATH_LINKS);
     if (found.refusal != MURUAPY_TAKEN)
         return refuse_module("path", call->names[from < plan.modules ? 2 : 1], found.refusal, &plan);
-    print_path(&plan, (uint16_t)from, links, found);
+    if (found.way)
+        print_path(&plan, (uint16_t)from, links, found);
+    else
+        puts("no way");
     return DONE;
 }
 

@@ -25,10 +25,35 @@ static bool in_tree(const muruapy_field *field, uint16_t link)
     return field->marks[link][0] == 1 && field->marks[link][1] == 1;
 }
 
-/* The ends of the core halt; a module alone halts too, but has no core. */
+/* Both ends of a part's core have halted. A module alone halts too, but has no core. */
+static bool is_core(const muruapy_field *field, uint16_t k)
+{
+    const muruapy_link *link = &field->plan.link[k];
+    return in_tree(field, k) && field->modules[link->lower].halted && field->modules[link->higher].halted;
+}
+
 static bool core_end(const muruapy_field *field, uint16_t module)
 {
-    return field->plan.modules > 1 && field->modules[module].halted;
+    for (uint16_t k = 0; k < field->plan.links; k++)
+        if (is_core(field, k) && (field->plan.link[k].lower == module || field->plan.link[k].higher == module))
+            return true;
+    return false;
+}
+
+/* The core of each part, by the part's lowest module; a part of one has none. */
+static void print_cores(const muruapy_field *field)
+{
+    uint16_t lowest[MURUAPY_MODULES];
+    bool none = true;
+    find_parts(&field->plan, lowest);
+    for (uint16_t v = 0; v < field->plan.modules; v++)
+        for (uint16_t k = 0; k < field->plan.links; k++)
+            if (lowest[field->plan.link[k].lower] == v && is_core(field, k)) {
+                printf(", core %u %u", field->plan.link[k].lower, field->plan.link[k].higher);
+                none = false;
+            }
+    if (none)
+        fputs(", core none", stdout);
 }
 
 static void print_caption(const muruapy_field *field)
@@ -36,12 +61,8 @@ static void print_caption(const muruapy_field *field)
     unsigned long total = 0;
     for (uint16_t k = 0; k < field->plan.links; k++)
         total += in_tree(field, k) ? muruapy_link_cost(&field->plan, k) : 0;
-    printf("%u modules, %u links, tree of cost %lu, core", field->plan.modules, field->plan.links, total);
-    for (uint16_t v = 0; v < field->plan.modules; v++)
-        if (core_end(field, v))
-            printf(" %u", v);
-    if (field->plan.modules < 2)
-        fputs(" none", stdout);
+    printf("%u modules, %u links, tree of cost %lu", field->plan.modules, field->plan.links, total);
+    print_cores(field);
 }
 
 int dot(const struct call *call)

@@ -4,20 +4,6 @@
 #include <stdlib.h>
 #include <string.h>
 
-/* The modules to wake: those that are named; where none is, module 0, or nobody in the blank plan. */
-struct wakes {
-    char **names;
-    int count;
-};
-
-static struct wakes wakes_of(const struct call *call, const muruapy_plan *plan)
-{
-    static char zero[] = "0", *first[] = {zero};
-    if (call->count == 1)
-        return (struct wakes){first, plan->modules > 0};
-    return (struct wakes){call->names + 1, call->count - 1};
-}
-
 /* Looks at the arguments before anything is read. */
 static int look_at(const struct call *call, uint64_t *seed)
 {
@@ -32,17 +18,30 @@ static int look_at(const struct call *call, uint64_t *seed)
     return DONE;
 }
 
-/* Wakes them all. A number of more than 16 bits is no module's, as one that the library refuses. */
-static int wake(struct record *r, struct wakes wakes)
+/* Wakes those that are named. A number of more than 16 bits is no module's, as one that the library refuses. */
+static int wake_named(struct record *r, char **names, int count)
 {
     uint64_t module;
-    for (int i = 0; i < wakes.count; i++) {
-        read_number(wakes.names[i], UINT16_MAX, &module);
+    for (int i = 0; i < count; i++) {
+        read_number(names[i], UINT16_MAX, &module);
         uint32_t refusal = MURUAPY_NO_MODULE;
         if (module <= UINT16_MAX)
             refusal = record_step(r, MURUAPY_WAKE, (uint16_t)module);
         if (refusal != MURUAPY_TAKEN)
-            return stop(REFUSED, "wake %s: %u: %s", wakes.names[i], (unsigned)refusal, muruapy_refusal_text(refusal));
+            return stop(REFUSED, "wake %s: %u: %s", names[i], (unsigned)refusal, muruapy_refusal_text(refusal));
+    }
+    return DONE;
+}
+
+/* Where none is named: wakes the lowest module of each part, as the job does. */
+static int wake_lowest(struct record *r, const muruapy_plan *plan)
+{
+    uint16_t lowest[MURUAPY_MODULES];
+    find_parts(plan, lowest);
+    for (uint16_t v = 0; v < plan->modules; v++) {
+        uint32_t refusal = lowest[v] == v ? record_step(r, MURUAPY_WAKE, v) : MURUAPY_TAKEN;
+        if (refusal != MURUAPY_TAKEN)
+            return stop(FAILED, "internal error: wake %u: %u", (unsigned)v, (unsigned)refusal);
     }
     return DONE;
 }
@@ -73,6 +72,14 @@ static int to_rest(struct record *r, const char *seed, uint64_t value, unsigned 
     return DONE;
 }
 
+static bool all_awake(const muruapy_field *field)
+{
+    for (uint16_t v = 0; v < field->plan.modules; v++)
+        if (field->modules[v].status == 0)
+            return false;
+    return true;
+}
+
 static void tell(const struct record *r, const struct call *call, unsigned rounds)
 {
     if (call->seed)
@@ -80,8 +87,8 @@ static void tell(const struct record *r, const struct call *call, unsigned round
     printf("%zu steps, ", r->steps);
     if (!call->seed)
         printf("%u rounds, ", rounds);
-    printf("%u messages of %zu at most; at rest with the tree of the plan\n", (unsigned)r->held.field.sent,
-           r->held.room);
+    printf("%u messages of %zu at most; at rest with the tree of %s\n", (unsigned)r->held.field.sent, r->held.room,
+           all_awake(&r->held.field) ? "the plan" : "each part that was woken");
     printf("written: %s", call->output);
     for (size_t done = 1; done * MURUAPY_STEPS < r->steps; done++)
         printf(" %s.%zu", call->output, done + 1);
@@ -99,7 +106,7 @@ int rehearse(const struct call *call)
         status = take_plan(call->names[0], &plan);
     if (status == DONE) {
         set_up(&plan, &r.held);
-        status = wake(&r, wakes_of(call, &plan));
+        status = call->count == 1 ? wake_lowest(&r, &plan) : wake_named(&r, call->names + 1, call->count - 1);
     }
     if (status == DONE)
         status = to_rest(&r, call->seed, seed, &rounds);

@@ -79,37 +79,16 @@ static struct place link_place(uint32_t refusal, const muruapy_plan *plan)
     return words(MURUAPY_NONE, "no such link was found");
 }
 
-/* The lowest module that no way leads to from module 0. */
-static struct place apart_place(const muruapy_plan *plan)
-{
-    bool reached[MURUAPY_MODULES] = {true};
-    for (bool more = true; more;) {
-        more = false;
-        for (uint16_t k = 0; k < plan->links; k++) {
-            bool *a = &reached[plan->link[k].lower], *b = &reached[plan->link[k].higher];
-            more = more || *a != *b;
-            *a = *b = *a || *b;
-        }
-    }
-    unsigned v = 0;
-    while (v < plan->modules && reached[v])
-        v++;
-    return words(MURUAPY_NONE, "module %u cannot be reached from module 0", v);
-}
-
 struct place value_place(uint32_t refusal, const muruapy_plan *plan)
 {
     switch (refusal) {
     case MURUAPY_PLAN_MODULES: return words(MURUAPY_NONE, "%u modules", plan->modules);
     case MURUAPY_PLAN_LINKS: return words(MURUAPY_NONE, "%u links", plan->links);
-    case MURUAPY_LINK_ENDS:
-    case MURUAPY_LINK_ORDER:
-    case MURUAPY_LINK_READING: return link_place(refusal, plan);
-    default: return apart_place(plan);
+    default: return link_place(refusal, plan);
     }
 }
 
-/* The numbers of a plan that was refused by 16 to 19: its lengths are right, so all links are there. */
+/* The numbers of a plan that was refused by 16 to 18: its lengths are right, so all links are there. */
 static const muruapy_plan *numbers_of(const struct bytes *bytes)
 {
     static muruapy_plan plan;

@@ -1,4 +1,5 @@
-/* Lets the field of a plan come to its tree, sends a cue from one of its modules, and prints who heard it, and how.
+/* Lets the field of a plan come to its tree, sends a cue from one of its modules, and prints who heard it, and how: all of
+ * the sender's part.
  *
  *     cue PLAN MODULE CUE
  *

@@ -1,5 +1,5 @@
 /* Prints the way between two modules of a plan over links of the tree, the link to raise an antenna for, and how many modules
- * are reached from the first one within each number of branches up to there.
+ * are reached from the first one within each number of branches up to there; or that no links join the two.
  *
  *     path PLAN MODULE MODULE
  *
@@ -91,7 +91,10 @@ int main(int argc, char **argv)
         return status;
     found = muruapy_path(&plan, from, to, links, MURUAPY_PATH_LINKS);
     status = status_of(found.refusal);
-    if (status == 0) {
+    /* No way is an answer, and no refusal. */
+    if (status == 0 && !found.way) {
+        printf("no way from module %u to module %u\n", (unsigned)from, (unsigned)to);
+    } else if (status == 0) {
         print_path(from, links, found);
         status = print_near(from, found.length);
     }

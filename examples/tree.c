@@ -2,8 +2,8 @@
  *
  *     tree PLAN
  *
- * First the tree as module 0's wakeup and the messages after it leave it, link by link; then the report that
- * `muruapy show` prints. The blank plan has an empty tree. Exit 0 done, 1 refused, 2 wrong usage or a failed
+ * First the tree as the wakeup of each part's lowest module and the messages after it leave it, link by link; then the
+ * report that `muruapy show` prints. The blank plan has an empty tree. Exit 0 done, 1 refused, 2 wrong usage or a failed
  * read or write. To build, at the top of the repository after tools/build:
  *
  *     cc -std=c99 -Iinclude examples/tree.c target/lib/libmuruapy.a -o tree */
@@ -84,7 +84,7 @@ int main(int argc, char **argv)
     if (!words)
         return 2;
 
-    /* The whole job: set up, wake module 0 if there is one, rounds until no message waits. */
+    /* The whole job: set up, wake the lowest module of each part, rounds until no message waits. */
     refusal = muruapy_job(&plan, &field, words, room, &rounds);
     free(words);
     if (refusal != MURUAPY_TAKEN)

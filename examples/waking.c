@@ -4,8 +4,9 @@
  *     waking PLAN FIRST LATE ROUNDS
  *
  * FIRST and LATE are the two modules, numbers of 0 to 65535; where there is no such module, as in the blank plan, 41
- * refuses. The field runs ROUNDS rounds at most, 0 to 65535; with 65535 it comes to rest, and nobody sleeps. Exit 0 done,
- * 1 refused, 2 wrong usage or a failed read or write. To build, at the top of the repository after tools/build:
+ * refuses. The field runs ROUNDS rounds at most, 0 to 65535; with 65535 it comes to rest, and nobody of FIRST's part
+ * sleeps. Exit 0 done, 1 refused, 2 wrong usage or a failed read or write. To build, at the top of the repository after
+ * tools/build:
  *
  *     cc -std=c99 -Iinclude examples/waking.c target/lib/libmuruapy.a -o waking */
 #include "muruapy.h"

@@ -1,11 +1,15 @@
 /* Muruapy: link trees for the radio modules of a display field, from C.
  *
  * A plan says which modules there are and how well they hear each other. The modules of a field come, by messages
- * between neighbours, to one minimum spanning tree of the plan's links; this library checks, reads and writes plans,
- * frames and schedules, builds the tree, tells the way between two modules in it and its worst link, takes a field through
- * its messages step by step, shows what a step would send, sends cues down the tree that the field comes to, and saves
- * fields under names to come back to. Formats, numbers and the rules of a module are told in docs/FORMATS.md, installed as
+ * between neighbours, to one minimum spanning tree of the plan's links, or to one for each part where links do not join
+ * all modules (below, "the tree" is all of these together); this library checks, reads and writes plans, frames
+ * and schedules, builds the tree, tells the way between two modules in it and its worst link, takes a field through its
+ * messages step by step, shows what a step would send, sends cues down the tree that the field comes to, and saves fields
+ * under names to come back to. Formats, numbers and the rules of a module are told in docs/FORMATS.md, installed as
  * share/doc/muruapy/FORMATS.md.
+ *
+ * A plan may be in several parts, as on both banks of a river: modules are in one part if links lead from one to the
+ * other. A module without links is a part of its own. Each part comes to its own tree once one of its modules is woken.
  *
  * A plan may have no module and no link: the blank plan, a show before modules are placed. It is taken as any other is;
  * only, nobody is there to be woken or to send a cue. Memory that is all zeros is the blank plan, or a field of it, so a
@@ -42,11 +46,12 @@
 #include <stdint.h>
 
 /* The major number rises when the same plan may come to another tree (2 orders links by the larger reading), or when a
- * struct that a caller lends changes, so that a program must be compiled anew (3 has the waking link in muruapy_module).
+ * struct that a caller lends or gets changes, so that a program must be compiled anew (3 has the waking link in
+ * muruapy_module, 4 has `way` in muruapy_path_found, and takes plans in several parts).
  * The minor number rises when there is more to call, or when something is taken that was refused. */
-#define MURUAPY_VERSION_MAJOR 3
-#define MURUAPY_VERSION_MINOR 2
-#define MURUAPY_VERSION "3.2"
+#define MURUAPY_VERSION_MAJOR 4
+#define MURUAPY_VERSION_MINOR 0
+#define MURUAPY_VERSION "4.0"
 
 #ifdef __cplusplus
 extern "C" {
@@ -64,7 +69,7 @@ extern "C" {
 #define MURUAPY_STEPS 21845     /* steps of a schedule, at most */
 #define MURUAPY_PATH_LINKS 191  /* links of a path in the tree, at most: numbers that are enough for every path */
 #define MURUAPY_SENDS 191       /* messages that one step sends, at most: words that are enough for every preview */
-#define MURUAPY_REPORT_BYTES 46202 /* bytes that are enough for every report */
+#define MURUAPY_REPORT_BYTES 47157 /* bytes that are enough for every report */
 #define MURUAPY_NAME 12            /* letters of a point's name, at most */
 #define MURUAPY_RECORD_BYTES 74427 /* bytes of the longest record of a store: enough for one point of any field */
 
@@ -86,7 +91,6 @@ enum muruapy_refusal {
     MURUAPY_LINK_ENDS = 16,    /* the two modules of a link */
     MURUAPY_LINK_ORDER = 17,   /* the order of the links */
     MURUAPY_LINK_READING = 18, /* a reading */
-    MURUAPY_PLAN_PARTS = 19,   /* modules that no way joins */
     /* what the caller lends */
     MURUAPY_TREE_BUFFER = 20,   /* not one byte for each link */
     MURUAPY_TOO_FEW_WORDS = 21, /* fewer words than the ceiling; in restoring behind 76 and 77 */
@@ -121,7 +125,7 @@ enum muruapy_refusal {
     MURUAPY_STORE = 76,      /* it is none: not whole records with zeros behind, or one that no saving leaves */
     MURUAPY_NAME_WRONG = 77, /* no name; in finding and restoring also one that the store does not hold */
     MURUAPY_STORE_FULL = 78, /* fewer bytes than the records would take */
-    /* a path in the tree, or the modules near one; behind 14 to 19 and 41 */
+    /* a path in the tree, or the modules near one; behind 14 to 18 and 41 */
     MURUAPY_PATH_BUFFER = 79 /* fewer numbers than the path has links, or fewer bytes than there are modules */
 };
 
@@ -139,7 +143,6 @@ static inline const char *muruapy_refusal_text(uint32_t number)
     case MURUAPY_LINK_ENDS: return "a link's lower module is not below its higher one, or the higher one is no module";
     case MURUAPY_LINK_ORDER: return "a link does not come after the link before it";
     case MURUAPY_LINK_READING: return "a reading is above 2000";
-    case MURUAPY_PLAN_PARTS: return "the links do not join all modules";
     case MURUAPY_TREE_BUFFER: return "the tree's buffer has not one byte for each link";
     case MURUAPY_TOO_FEW_WORDS: return "fewer words are lent than the ceiling of the plan that is set up or restored";
     case MURUAPY_PLAN_BUFFER: return "the buffer is too short for the plan";
@@ -193,7 +196,7 @@ typedef struct muruapy_plan {
  * bytes   the plan's bytes, only read
  * length  how many there are, any number; all of them have to be the plan
  *
- * Answers 0, or 11 to 19. */
+ * Answers 0, or 11 to 18. */
 uint32_t muruapy_plan_check(const uint8_t *bytes, size_t length);
 
 /* Reads a plan. The links behind its last one become 0.
@@ -201,14 +204,14 @@ uint32_t muruapy_plan_check(const uint8_t *bytes, size_t length);
  * bytes, length  as above
  * plan           gets the plan
  *
- * Answers 0, or 11 to 19. */
+ * Answers 0, or 11 to 18. */
 uint32_t muruapy_plan_read(const uint8_t *bytes, size_t length, muruapy_plan *plan);
 
 /* Checks a plan's value.
  *
  * plan  any numbers, only read
  *
- * Answers 0, or 14 to 19. */
+ * Answers 0, or 14 to 18. */
 uint32_t muruapy_plan_value_check(const muruapy_plan *plan);
 
 /* Writes a plan.
@@ -217,7 +220,7 @@ uint32_t muruapy_plan_value_check(const muruapy_plan *plan);
  * bytes  gets the plan at its front, 7 + 8 * links bytes; the bytes behind keep
  * room   how many bytes there are
  *
- * Answers 0, or 14 to 19, or 22. */
+ * Answers 0, or 14 to 18, or 22. */
 uint32_t muruapy_plan_write(const muruapy_plan *plan, uint8_t *bytes, size_t room);
 
 /* The cost of a link, by which the tree is chosen first.
@@ -239,13 +242,13 @@ uint32_t muruapy_link_cost(const muruapy_plan *plan, uint16_t link);
  * the blank plan's is 0, and its field needs no word. Refuses nothing. */
 uint32_t muruapy_ceiling(uint16_t modules, uint16_t links);
 
-/* The minimum spanning tree of a plan, worked out centrally.
+/* The minimum spanning tree of a plan, worked out centrally: of a plan in several parts the trees of all of them.
  *
  * plan  any numbers, only read
  * tree  gets 1 for a link of the tree and 0 for another, by link number
  * room  how many bytes there are: just as many as links, 0 for the blank plan
  *
- * Answers 0, or 14 to 19, or 20. */
+ * Answers 0, or 14 to 18, or 20. */
 uint32_t muruapy_tree(const muruapy_plan *plan, uint8_t *tree, size_t room);
 
 /* ---- Paths in the tree ---- */
@@ -253,13 +256,14 @@ uint32_t muruapy_tree(const muruapy_plan *plan, uint8_t *tree, size_t room);
 /* What a path comes to. */
 typedef struct muruapy_path_found {
     uint32_t refusal; /* 0 for taken, else the refusal */
-    uint16_t length;  /* how many links the path has: 0 for the same module twice, and beside a refusal */
+    uint32_t way;     /* 1 if links join the two modules; 0 for "no way", an answer and no refusal, and beside a refusal */
+    uint16_t length;  /* how many links the path has: 0 for the same module twice, without a way and beside a refusal */
     uint16_t worst;   /* the latest link of the path, in the order of muruapy_link_cost; MURUAPY_NONE where length is 0 */
 } muruapy_path_found;
 
 /* The way between two modules over links of the tree, and its worst link: the one to raise an antenna for. No way between
  * two different modules, over any links of the plan, has an earlier latest link. The path from `to` to `from` is this one
- * turned round.
+ * turned round. Between modules of different parts there is no way: then nothing is written, and no room is needed.
  *
  * plan   any numbers, only read
  * from   the first module, any number
@@ -267,19 +271,21 @@ typedef struct muruapy_path_found {
  * links  gets the path at its front, the numbers of its links from the first module on; the numbers behind keep
  * room   how many numbers there are, any: MURUAPY_PATH_LINKS are always enough, none for the same module twice
  *
- * Answers with refusal 0, the length and the worst link; or with refusal 14 to 19, 41 (either module) or 79, length 0 and
- * worst MURUAPY_NONE. The blank plan meets 41, since it has no module. */
+ * Answers with refusal 0, way 1, the length and the worst link; or with refusal 0, way 0, length 0 and worst MURUAPY_NONE,
+ * which is "no way"; or with refusal 14 to 18, 41 (either module) or 79, way 0, length 0 and worst MURUAPY_NONE. The blank
+ * plan meets 41, since it has no module. */
 muruapy_path_found muruapy_path(const muruapy_plan *plan, uint16_t from, uint16_t to, uint16_t *links, size_t room);
 
 /* The modules within some branches of one: those whose path from it has at most h links. A branch is a link of the tree.
  *
  * plan   any numbers, only read
  * from   the module, any number
- * h      how many links at most, any number: 0 for the module alone; from modules - 1 on it is all of them
- * marks  gets, at its front, a byte for each module by number: 1 within h branches, 0 otherwise; the bytes behind keep
+ * h      how many links at most, any number: 0 for the module alone; from modules - 1 on it is all of its part
+ * marks  gets, at its front, a byte for each module by number: 1 within h branches, 0 otherwise, and in other parts; the
+ *        bytes behind keep
  * room   how many bytes there are: as many as modules or more; MURUAPY_MODULES are always enough
  *
- * Answers 0, or 14 to 19, 41 or 79. The blank plan meets 41, since it has no module. */
+ * Answers 0, or 14 to 18, 41 or 79. The blank plan meets 41, since it has no module. */
 uint32_t muruapy_near(const muruapy_plan *plan, uint16_t from, uint32_t h, uint8_t *marks, size_t room);
 
 /* ---- Messages and frames ---- */
@@ -480,7 +486,7 @@ muruapy_delivery muruapy_cue_deliver_value(muruapy_field field, const uint64_t *
  * words  all become 0
  * room   how many words there are: the ceiling or more; for the blank plan any number
  *
- * Answers 0, or 14 to 19, or 21. */
+ * Answers 0, or 14 to 18, or 21. */
 static inline uint32_t muruapy_setup(const muruapy_plan *plan, muruapy_field *field, uint64_t *words, size_t room)
 {
     return muruapy_setup_parts(plan, &field->plan, field->modules, field->marks, &field->sent, words, room);
@@ -567,20 +573,21 @@ static inline uint32_t muruapy_rounds(muruapy_field *field, uint64_t *words, siz
     return muruapy_rounds_parts(&field->plan, field->modules, field->marks, &field->sent, words, room, limit, rounds);
 }
 
-/* The whole job: sets up the field of a plan, wakes module 0 if there is one, runs rounds to rest. Then every module
- * marks exactly the links that muruapy_tree writes.
+/* The whole job: sets up the field of a plan, wakes the lowest module of each part, runs rounds to rest. Then every module
+ * marks exactly the links that muruapy_tree writes. In the blank plan nobody is woken.
  *
  * plan, field, words, room  as for muruapy_setup; field and words get what the last round leaves
  * rounds                    gets the number of rounds; 0 for the blank plan, and where the call is refused
  *
- * Answers 0, or 14 to 19, or 21. */
+ * Answers 0, or 14 to 18, or 21. */
 static inline uint32_t muruapy_job(const muruapy_plan *plan, muruapy_field *field, uint64_t *words, size_t room,
                                    uint16_t *rounds)
 {
     return muruapy_job_parts(plan, &field->plan, field->modules, field->marks, &field->sent, words, room, rounds);
 }
 
-/* The report of a field as text, as the command `muruapy show` prints it.
+/* The report of a field as text, as the command `muruapy show` prints it. It has a core line for each part; of a field
+ * whose plan would be refused it has one, `core none`.
  *
  * field   any numbers, only read
  * rounds  the number for its last line, any
@@ -598,7 +605,8 @@ static inline size_t muruapy_report(const muruapy_field *field, uint16_t rounds,
 /* Starts a cue at a module: of as many records as there are modules, the sender's says that it has heard, all others
  * that they have not. A copy then waits on each branch of the sender. A cue that was under way is gone.
  *
- * field   the field, however it was made, only read: it must be marked with the plan's tree, as the job leaves it
+ * field   the field, however it was made, only read: it must be marked with the plan's tree, as the job leaves it;
+ *         while a part of the plan is not, no cue can be sent in any
  * words   its words, any, only read
  * room    how many words there are, any number
  * cues    the records, any; the first field->plan.modules are written, those behind keep
@@ -617,7 +625,7 @@ static inline uint32_t muruapy_cue_start(const muruapy_field *field, const uint6
 /* Delivers the copy that waits on a directed link: the module there hears the cue, by this link and a hop further than
  * the one before it, and passes a copy to each other branch of its own. A copy waits where the link is in the tree, the
  * module that the directed link leaves has heard, and the one that it leads to has not. In any order of deliveries each
- * module hears the cue once at most; when no copy waits, all have heard it.
+ * module hears the cue once at most; when no copy waits, all of the sender's part have heard it, and nobody else.
  *
  * field, words, room  as above
  * cues                the records, as a start and the deliveries since then left them; only that of the module that

@@ -103,7 +103,7 @@ pub fn numbers(plan: &Plan, rng: &mut Rng) -> Numbers {
     numbers
 }
 
-/// 11 to 19, or 0 for a plan that is taken.
+/// 11 to 18, or 0 for a plan that is taken.
 pub fn plan_check(bytes: &[u8]) -> u32 {
     unsafe { muruapy_plan_check(bytes.as_ptr(), bytes.len()) }
 }
@@ -112,12 +112,12 @@ pub fn plan_read(bytes: &[u8], plan: &mut Numbers) -> u32 {
     unsafe { muruapy_plan_read(bytes.as_ptr(), bytes.len(), plan) }
 }
 
-/// 14 to 19, or 0.
+/// 14 to 18, or 0.
 pub fn plan_value_check(plan: &Numbers) -> u32 {
     unsafe { muruapy_plan_value_check(plan) }
 }
 
-/// 14 to 19, then 22; else 0, and the plan's bytes are at the front of `out`.
+/// 14 to 18, then 22; else 0, and the plan's bytes are at the front of `out`.
 pub fn plan_write(plan: &Numbers, out: &mut [u8]) -> u32 {
     unsafe { muruapy_plan_write(plan, out.as_mut_ptr(), out.len()) }
 }
@@ -130,16 +130,17 @@ pub fn ceiling(n: u16, l: u16) -> u32 {
     unsafe { muruapy_ceiling(n, l) }
 }
 
-/// 14 to 19, then 20; else 0, and the tree's L bytes are in `out`.
+/// 14 to 18, then 20; else 0, and the tree's L bytes are in `out`.
 pub fn tree(plan: &Numbers, out: &mut [u8]) -> u32 {
     unsafe { muruapy_tree(plan, out.as_mut_ptr(), out.len()) }
 }
 
-/// What a path answers: 0 or the refusal, how many links it has, the latest of them or none.
+/// What a path answers: 0 or the refusal, 1 or 0 for a way or "no way", how many links it has, the latest of them or none.
 #[repr(C)]
 #[derive(Clone, Copy, Debug, PartialEq, Eq)]
 pub struct PathFound {
     pub refusal: u32,
+    pub way: u32,
     pub length: u16,
     pub worst: u16,
 }
@@ -149,7 +150,7 @@ pub fn path(plan: &Numbers, from: u16, to: u16, links: &mut [u16]) -> PathFound 
     unsafe { muruapy_path(plan, from, to, links.as_mut_ptr(), links.len()) }
 }
 
-/// 14 to 19, 41, 79; else 0, and at the front of `marks` a byte for each module: 1 within h branches of one.
+/// 14 to 18, 41, 79; else 0, and at the front of `marks` a byte for each module: 1 within h branches of one.
 pub fn near(plan: &Numbers, from: u16, h: u32, marks: &mut [u8]) -> u32 {
     unsafe { muruapy_near(plan, from, h, marks.as_mut_ptr(), marks.len()) }
 }
@@ -302,7 +303,7 @@ impl Record {
         self.sent = field.sent;
     }
 
-    /// Setup: 14 to 19, 21 or 0; then the new field takes the place of this one.
+    /// Setup: 14 to 18, 21 or 0; then the new field takes the place of this one.
     pub fn setup(&mut self, plan: &Numbers, words: &mut [u64]) -> u32 {
         let Record { plan: held, cells, marks, sent } = self;
         unsafe { muruapy_setup_parts(plan, held, cells, marks, sent, words.as_mut_ptr(), words.len()) }
@@ -351,7 +352,7 @@ impl Record {
         (done as usize, refusal)
     }
 
-    /// The whole job: rounds completed, and 14 to 19, 21 or 0; then the field that it leaves takes the place of this one.
+    /// The whole job: rounds completed, and 14 to 18, 21 or 0; then the field that it leaves takes the place of this one.
     pub fn job(&mut self, plan: &Numbers, words: &mut [u64]) -> (usize, u32) {
         let mut done = u16::MAX;
         let Record { plan: held, cells, marks, sent } = self;

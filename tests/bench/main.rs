@@ -278,7 +278,7 @@ fn agree(inputs: &Inputs) {
     let rng = &mut Rng::new(31);
     let mut ends = BTreeSet::new();
     for _ in 0..600 {
-        let kind = rng.pick(&["small", "medium", "full"]);
+        let kind = rng.pick(&["small", "medium", "full", "banks", "wide"]);
         let plan = good(rng, kind);
         let (mut field, mut words) = drawn(rng, &plan);
         if rng.once_in(6) {

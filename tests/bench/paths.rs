@@ -66,15 +66,18 @@ impl Tree {
     }
 }
 
-/// 14 to 19, 41, 79; else the path from the first module on, at the front of `out`, and its latest link.
+/// 14 to 18, 41, "no way", 79; else the path from the first module on, at the front of `out`, and its latest link.
 fn path(plan: &Numbers, from: u16, to: u16, out: &mut [u16]) -> PathFound {
-    let refused = |refusal| PathFound { refusal, length: 0, worst: NONE };
+    let refused = |refusal| PathFound { refusal, way: 0, length: 0, worst: NONE };
     match plain::check_numbers(plan) {
         0 if from.max(to) >= plan[0] => return refused(41),
         0 => {}
         refusal => return refused(refusal),
     }
     let (hops, by) = Tree::of(plan).spread(to, FAR, Some(from));
+    if hops[from as usize] == FAR {
+        return refused(0);
+    }
     let length = hops[from as usize] as usize;
     let Some(front) = out.get_mut(..length) else {
         return refused(79);
@@ -89,10 +92,10 @@ fn path(plan: &Numbers, from: u16, to: u16, out: &mut [u16]) -> PathFound {
         (*place, at) = (k, next as u16);
         worst = worst.max(Some(key(k)));
     }
-    PathFound { refusal: 0, length: length as u16, worst: worst.map_or(NONE, |(.., k)| k) }
+    PathFound { refusal: 0, way: 1, length: length as u16, worst: worst.map_or(NONE, |(.., k)| k) }
 }
 
-/// 14 to 19, 41, 79; else a byte for each module, 1 within h branches.
+/// 14 to 18, 41, 79; else a byte for each module, 1 within h branches.
 fn near(plan: &Numbers, from: u16, h: u32, out: &mut [u8]) -> u32 {
     match plain::check_numbers(plan) {
         0 if from >= plan[0] => return 41,
@@ -136,7 +139,7 @@ fn agree(values: &[Numbers]) {
         let plan = plans::some_value(rng, i);
         same(rng, &muruapy::numbers(&plan, &mut Rng::new(i as u64)), &mut answers);
     }
-    assert_eq!(Vec::from_iter(answers), [0, 14, 15, 16, 17, 18, 19, 41, 79]);
+    assert_eq!(Vec::from_iter(answers), [0, 14, 15, 16, 17, 18, 41, 79]);
 }
 
 type Paths = fn(&Numbers, u16, u16, &mut [u16]) -> PathFound;

@@ -29,7 +29,7 @@ fn be16(bytes: &[u8], at: usize) -> u16 {
     u16::from_be_bytes([bytes[at], bytes[at + 1]])
 }
 
-/// The plan's refusals 11 to 19 in one pass over the bytes, connectedness by union-find; 0 for a plan that is taken.
+/// The plan's refusals 11 to 18 in one pass over the bytes; 0 for a plan that is taken.
 pub fn check(bytes: &[u8]) -> u32 {
     if bytes.len() < 3 {
         return 11;
@@ -51,10 +51,8 @@ pub fn check(bytes: &[u8]) -> u32 {
     links_check(n, bytes[7..].chunks_exact(8).map(|b| [be16(b, 0), be16(b, 2), be16(b, 4), be16(b, 6)]))
 }
 
-/// 16 to 19 of links given by their ends and readings, or 0.
+/// 16 to 18 of links given by their ends and readings, or 0.
 fn links_check(n: u16, links: impl Iterator<Item = [u16; 4]>) -> u32 {
-    let mut parts = Parts::new();
-    let mut left = n;
     let mut before = None;
     for [lower, higher, near, far] in links {
         let ends = (lower, higher);
@@ -68,22 +66,16 @@ fn links_check(n: u16, links: impl Iterator<Item = [u16; 4]>) -> u32 {
             return 18;
         }
         before = Some(ends);
-        if parts.join(lower as usize, higher as usize) {
-            left -= 1;
-        }
-    }
-    if left > 1 {
-        return 19;
     }
     0
 }
 
-/// The plan of a record: 14 to 19, or 0.
+/// The plan of a record: 14 to 18, or 0.
 pub fn check_plan(r: &Record) -> u32 {
     check_numbers(&r.plan)
 }
 
-/// A plan's value: 14 to 19, or 0.
+/// A plan's value: 14 to 18, or 0.
 pub fn check_numbers(plan: &Numbers) -> u32 {
     let [modules, links] = [plan[0], plan[1]];
     if modules > 192 {

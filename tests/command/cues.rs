@@ -22,7 +22,11 @@ pub fn told(tool: &Tool, plan: &Plan, sender: u16) {
         deliver(&field, &words, &mut cues, directed).expect("a copy");
     }
     let link = |k: u16| if k == NONE { "none".to_string() } else { k.to_string() };
-    let lines = cues.iter().enumerate().map(|(v, r)| format!("module {v} hops {} link {}\n", r.hops, link(r.link)));
+    let line = |(v, r): (usize, &Cue)| match r.heard {
+        0 => format!("module {v} not reached\n"),
+        _ => format!("module {v} hops {} link {}\n", r.hops, link(r.link)),
+    };
+    let lines = cues.iter().enumerate().map(line);
     let said = tool.text(&["cue", "-", &sender.to_string()], &plan.encode());
     assert_eq!(said, lines.collect::<String>(), "a cue from {sender}");
 }

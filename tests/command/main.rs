@@ -30,10 +30,10 @@ struct Tools {
 }
 
 impl Tools {
-    /// For the damaged inputs; the checked one takes longer to start, so it gets every third: as the kinds of plans are
-    /// no multiple of 3, of each kind some.
+    /// For the damaged inputs; the checked one takes longer to start, so it gets every fourth: as the kinds of plans are
+    /// no multiple of 4, of each kind some.
     fn any(&self, i: usize) -> &Tool {
-        if i % 3 == 0 {
+        if i % 4 == 0 {
             &self.checked
         } else {
             &self.plain
@@ -72,9 +72,9 @@ fn plans(tools: &Tools, rng: &mut Rng, count: usize) -> String {
     }
     for i in 0..count {
         let plan = plans::good(rng, KINDS[i % KINDS.len()]);
-        good(tools, &plan, i % 3 == 0);
-        if i % 3 == 0 {
-            cues::told(tools.any(i / 3), &plan, rng.below(plan.modules.max(1) as usize) as u16);
+        good(tools, &plan, i % 4 == 0);
+        if i % 4 == 0 {
+            cues::told(tools.any(i / 4), &plan, rng.below(plan.modules.max(1) as usize) as u16);
         }
     }
     format!("{} plans", taken + count)
@@ -123,10 +123,10 @@ fn refused(tools: &Tools, rng: &mut Rng, count: usize) -> String {
         places::schedule(tool, &bytes, &mut tally);
         places::frame(tool, &bytes, &mut tally);
     }
-    let all = (11..=19).chain(51..=54).chain(61..=63);
+    let all = (11..=18).chain(51..=54).chain(61..=63);
     assert!(tally.keys().copied().eq(all), "some refusal never came: {tally:?}");
     // what is refused is refused by all that read a plan, before they print anything
-    for (name, bytes) in [("short", &b"\x01"[..]), ("apart", b"\x01\x00\x04\x00\x02\x00\x00")] {
+    for (name, bytes) in [("short", &b"\x01"[..]), ("many", b"\x01\x00\x04\x00\xc1\x00\x00")] {
         tool.write(name, bytes);
         for sub in ["text", "dot", "svg"] {
             let ran = tool.run(&[sub, name], b"");
@@ -203,6 +203,7 @@ fn schedules(tools: &Tools, rng: &mut Rng, count: usize) -> String {
     long_path(tools, &mut tally);
     assert!(tally.refused.keys().copied().eq(41..=45), "some refusal never came: {:?}", tally.refused);
     assert!(tally.held.len() == 4 && tally.held.values().all(|n| *n > 20), "{:?}", tally.held);
+    assert!(tally.in_parts >= 9 && tally.asleep >= 4, "{} in parts, {} with sleepers", tally.in_parts, tally.asleep);
     format!("{} steps told", tally.steps)
 }
 
@@ -227,6 +228,7 @@ fn ways(tools: &Tools, rng: &mut Rng, count: usize) -> String {
     let often = |answer| tally.answers.get(&answer).is_some_and(|times| *times > 9);
     assert!([("near", 0), ("near", 41), ("path", 0), ("path", 41)].into_iter().all(often), "{:?}", tally.answers);
     assert!((0..5).all(|n| tally.lengths.get(&n).is_some_and(|times| *times > 3)), "{:?}", tally.lengths);
+    assert!(tally.no_way > 30, "{} times no way", tally.no_way);
     format!("{} calls on paths", tally.answers.values().sum::<usize>())
 }
 

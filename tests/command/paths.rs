@@ -6,11 +6,12 @@ use oracle::plan::{Plan, NONE};
 use oracle::rng::Rng;
 use std::collections::BTreeMap;
 
-/// How often each answer came, by subcommand; of a path by its length too.
+/// How often each answer came, by subcommand; of a path by its length too, and those between parts.
 #[derive(Default)]
 pub struct Tally {
     pub answers: BTreeMap<(&'static str, u32), usize>,
     pub lengths: BTreeMap<usize, usize>,
+    pub no_way: usize,
 }
 
 /// What is said of a module that there is not.
@@ -32,6 +33,11 @@ fn path(tool: &Tool, plan: &Plan, from: u16, to: u16, tally: &mut Tally) {
     *tally.answers.entry(("path", answer.err().unwrap_or(0))).or_default() += 1;
     let Ok(found) = answer else {
         return refused(tool, plan, &args, if from >= plan.modules { &first } else { &second });
+    };
+    let Some(found) = found else {
+        assert_eq!(tool.text(&args, &plan.encode()), "no way\n", "{from} to {to}");
+        tally.no_way += 1;
+        return;
     };
     let (mut lines, mut at) = (String::new(), from);
     for k in &links[..found.length as usize] {

@@ -6,17 +6,18 @@ use oracle::plan::Plan;
 use oracle::report::report;
 use std::collections::{BTreeMap, BTreeSet};
 
-/// The two numbers of the report's line `core`, none for fewer than two modules.
+/// The two numbers of each of the report's lines `core`, in their order; none for a part of one.
 fn core(plan: &Plan) -> Vec<u16> {
     let report = report(&plan.encode());
-    let line = report.lines().find_map(|l| l.strip_prefix("core ")).expect("a core");
-    line.split(' ').filter_map(|word| word.parse().ok()).collect()
+    let lines = report.lines().filter_map(|l| l.strip_prefix("core "));
+    lines.flat_map(|l| l.split(' ').filter_map(|word| word.parse().ok())).collect()
 }
 
 fn caption(plan: &Plan, tree: &[u8], core: &[u16]) -> String {
     let total: u32 = (0..tree.len()).filter(|k| tree[*k] == 1).map(|k| plan.cost(k as u16)).sum();
-    let core = if core.is_empty() { "none".into() } else { format!("{} {}", core[0], core[1]) };
-    format!("{} modules, {} links, tree of cost {total}, core {core}", plan.modules, plan.links.len())
+    let cores: String = core.chunks(2).map(|ends| format!(", core {} {}", ends[0], ends[1])).collect();
+    let cores = if core.is_empty() { ", core none" } else { &cores };
+    format!("{} modules, {} links, tree of cost {total}{cores}", plan.modules, plan.links.len())
 }
 
 /// The lines of `dot`, one by one.

@@ -2,7 +2,6 @@
 
 use crate::tool::Tool;
 use oracle::frame::{self, NAMES};
-use oracle::kruskal::Parts;
 use oracle::plan::{self, be16, Link, Plan};
 use oracle::report::report;
 use oracle::schedule;
@@ -31,7 +30,7 @@ fn lengths(bytes: &[u8]) -> String {
 fn link_place(number: u32, n: u16, links: &[Link]) -> String {
     let refused = |k: &usize| {
         let front = Plan { modules: n, links: links[..=*k].to_vec() };
-        front.check().err().is_some_and(|r| r < 19)
+        front.check().is_err()
     };
     let k = (0..links.len()).find(refused).expect("a link is refused");
     let Link { lower, higher, at_lower, at_higher } = links[k];
@@ -46,21 +45,10 @@ fn link_place(number: u32, n: u16, links: &[Link]) -> String {
     }
 }
 
-fn apart(n: u16, links: &[Link]) -> String {
-    let mut parts = Parts::new(n as usize);
-    for link in links {
-        parts.join(link.lower as usize, link.higher as usize);
-    }
-    let root = parts.root(0);
-    let v = (0..n as usize).find(|v| parts.root(*v) != root).expect("a module is apart");
-    format!("module {v} cannot be reached from module 0")
-}
-
-/// The place of 14 and 16 to 19 in a plan's value, with the link concerned.
+/// The place of 14 and 16 to 18 in a plan's value, with the link concerned.
 pub fn of_value(number: u32, plan: &Plan) -> (String, Option<usize>) {
     match number {
         14 => (format!("{} modules", plan.modules), None),
-        19 => (apart(plan.modules, &plan.links), None),
         _ => {
             let words = link_place(number, plan.modules, &plan.links);
             let k = words["link ".len()..].split(' ').next().unwrap().parse().unwrap();

@@ -2,21 +2,23 @@
 
 use crate::told::{self, Replayed};
 use crate::tool::{Ran, Tool};
-use oracle::field::{setup_value, waiting, Field, HAND_OVER, SERVE, WAKE};
-use oracle::kruskal;
+use oracle::field::{setup_value, waiting, HAND_OVER, SERVE, WAKE};
 use oracle::plan::Plan;
+use oracle::rest::at_rest;
 use oracle::rng::Rng;
 use oracle::rounds;
-use oracle::rules::BRANCH;
 use oracle::schedule::{self, Step};
 use std::collections::BTreeMap;
 
-/// Steps, and how often a replay ended at each refusal; put-backs by their reason.
+/// Steps, and how often a replay ended at each refusal; put-backs by their reason; rehearsals of several parts that were
+/// woken, and of some that were not.
 #[derive(Default)]
 pub struct Tally {
     pub steps: usize,
     pub refused: BTreeMap<u32, usize>,
     pub held: BTreeMap<String, usize>,
+    pub in_parts: usize,
+    pub asleep: usize,
 }
 
 /// Compares what `replay` prints of some schedules with the oracle's telling.
@@ -55,13 +57,6 @@ fn different<'a>(a: &'a str, b: &'a str) -> Option<(&'a str, &'a str)> {
     a.lines().zip(b.lines()).find(|(a, b)| a != b)
 }
 
-/// At rest, each end of each link saying Branch just where Kruskal's tree has it.
-fn finished(field: &Field, words: &[u64]) -> bool {
-    let tree = kruskal::tree(&field.plan);
-    let agree = |k: usize| field.marks[k].iter().all(|mark| (*mark == BRANCH) == (tree[k] == 1));
-    waiting(words) == 0 && (0..tree.len()).all(agree)
-}
-
 /// The schedules that `rehearse` wrote, in order; they are removed.
 fn written(tool: &Tool) -> Vec<Vec<Step>> {
     let name = |i: usize| if i == 0 { "show".into() } else { format!("show.{}", i + 1) };
@@ -85,16 +80,21 @@ pub fn rehearsed(tool: &Tool, plan: &Plan, wakes: &[u16], seed: Option<u64>, tal
     let (last, full) = schedules.split_last().expect("a schedule");
     assert!(full.iter().all(|s| s.len() == 21845) && last.is_empty() == (plan.modules == 0));
     let told = replayed(tool, plan, &schedules, tally);
-    assert!(finished(&told.field, &told.words), "not finished");
+    // where none is named, the lowest of each part
+    let woken = if wakes.is_empty() { plan.lowest_modules() } else { wakes.to_vec() };
+    let rest = at_rest(&told.field, &told.words, &woken);
+    let end = if rest.asleep == 0 { "the plan\n" } else { "each part that was woken\n" };
+    assert!(said.contains(&format!("; at rest with the tree of {end}")), "{said}");
+    tally.asleep += (rest.asleep > 0) as usize;
+    tally.in_parts += (rest.agreed + rest.alone > 1) as usize;
 
-    let woken: &[u16] = if wakes.is_empty() && plan.modules > 0 { &[0] } else { wakes };
     let all = schedules.concat();
     let first: Vec<Step> = woken.iter().map(|v| Step { kind: WAKE, number: *v }).collect();
     assert_eq!(all[..first.len()], first, "the wakes come first");
     assert!(all[first.len()..].iter().all(|s| s.kind != WAKE));
     let mut summary = format!("{} steps, ", all.len());
     if seed.is_none() {
-        summary += &format!("{} rounds, ", by_rounds(plan, woken, &told));
+        summary += &format!("{} rounds, ", by_rounds(plan, &woken, &told));
     }
     summary += &format!("{} messages of {} at most;", told.field.sent, plan.ceiling());
     assert!(said.contains(&summary), "{said} does not say {summary}");

@@ -61,7 +61,6 @@ fn read(text: &[u8]) -> Result<Plan, usize> {
     match plan.check() {
         Ok(()) => Ok(plan),
         Err(14) => Err(first),
-        Err(19) => Err(last),
         Err(number) => Err(links[places::of_value(number, &plan).1.unwrap()].1),
     }
 }

@@ -7,9 +7,9 @@ use crate::tally::Tally;
 use oracle::field::waiting;
 use oracle::fields::spoil;
 use oracle::rng::Rng;
-use oracle::rules::{BASIC, BRANCH, REJECTED};
+use oracle::rules::{ASLEEP, BASIC, BRANCH, REJECTED};
 
-pub const UNFINISHED: usize = 240;
+pub const UNFINISHED: usize = 400;
 pub const MARKS: usize = 60;
 pub const SPOILT: usize = 800;
 pub const ORDERS: usize = 12;
@@ -58,13 +58,19 @@ pub fn damaged_marks(rng: &mut Rng, tally: &mut Tally) {
 /// Fields on the way to their tree: 71 until both ends of each tree link are marked, with messages waiting or none.
 pub fn unfinished_fields(rng: &mut Rng, tally: &mut Tally) {
     for _ in 0..UNFINISHED {
-        let (kind, limit) = (rng.pick(&["path", "star", "ring", "small", "small"]), rng.below(14) as u16);
-        let site = run_site(rng, kind, limit);
+        let kind = rng.pick(&["path", "star", "ring", "small", "small", "banks", "islands", "forest"]);
+        let limit = rng.below(14) as u16;
+        let site = run_site(rng, kind, limit, false);
         let mut cues = any_records(rng, site.modules());
         let sender = rng.below(site.modules()) as u16;
         let answer = compare_start(rng, tally, &site, &mut cues, sender, 4);
         let rest = if waiting(&site.words) > 0 { ", messages wait" } else { "" };
         tally.count(format!("unfinished: {answer}{rest}"));
+        let asleep =
+            |v: &u16| site.field.plan.part_of(*v).iter().all(|u| site.field.modules[*u as usize].status == ASLEEP);
+        if site.field.plan.lowest_modules().iter().any(asleep) {
+            tally.count(format!("a part asleep: {answer}"));
+        }
         let link = some_link(rng, &site, &cues);
         compare_delivery(rng, tally, &site, &mut cues, link);
     }

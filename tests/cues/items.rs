@@ -144,7 +144,9 @@ fn ahead(rng: &mut Rng, m: &Marked, records: &mut [Cue]) {
     let cue = records.iter().find(|r| r.heard == 1).map_or(0, |r| r.cue);
     if let Some(v) = pick(rng, records, 0) {
         let links: Vec<u16> = own(v).collect();
-        records[v] = Cue { heard: 1, cue, link: rng.pick(&links), hops: 1 };
+        if !links.is_empty() {
+            records[v] = Cue { heard: 1, cue, link: rng.pick(&links), hops: 1 };
+        }
     }
 }
 

@@ -25,9 +25,9 @@ use oracle::rng::Rng;
 use site::{any_record, any_records, left, past, run_site, some_link, some_site, Site};
 use tally::Tally;
 
-const FINISHED: usize = 120;
-const JOURNEYS: usize = 500;
-const LARGE: usize = 12;
+const FINISHED: usize = 180;
+const JOURNEYS: usize = 700;
+const LARGE: usize = 18;
 const ALONE: usize = 50;
 const CHANGED: usize = 1200;
 
@@ -42,7 +42,8 @@ fn refused_calls(rng: &mut Rng, tally: &mut Tally, site: &Site, cues: &mut Vec<C
 }
 
 /// Cues one after the other on the same records, each delivered in some order until no copy waits and a little beyond, or
-/// left under way. At the end of a whole one all have heard, after N - 1 answers "heard".
+/// left under way. At the end of a whole one all of the sender's part have heard, after one answer "heard" fewer than it has
+/// modules, and nobody else.
 fn journey(rng: &mut Rng, tally: &mut Tally, site: &Site) {
     let n = site.modules();
     tally.count(match n {
@@ -72,17 +73,23 @@ fn journey(rng: &mut Rng, tally: &mut Tally, site: &Site) {
             let link = some_link(rng, site, &cues);
             heard += compare_delivery(rng, tally, site, &mut cues, link).heard as usize;
         }
-        let all = heard == n - 1 && cues[..n].iter().all(|r| r.heard == 1);
-        assert!(all || !whole, "not all have heard");
+        let part = site.part(sender);
+        let all = heard + 1 == part && cues[..n].iter().filter(|r| r.heard == 1).count() == part;
+        assert!(all || !whole, "not all of the part have heard");
         tally.count(if all { "journey: to the end" } else { "journey: left under way" });
+        tally.count(match part {
+            _ if part == n => "sender's part: all modules",
+            1 => "sender's part: the sender alone",
+            _ => "sender's part: some modules",
+        });
     }
 }
 
 fn journeys(rng: &mut Rng, tally: &mut Tally) {
     // a blank plan has no sender, and the full ones come last
-    let kinds = plans::kinds_without(&["blank", "full"]);
+    let kinds = plans::kinds_without(&["blank", "full", "wide"]);
     for i in 0..FINISHED {
-        let site = run_site(rng, kinds[i % kinds.len()], 65535);
+        let site = run_site(rng, kinds[i % kinds.len()], 65535, true);
         journey(rng, tally, &site);
     }
     for _ in 0..JOURNEYS {
@@ -90,8 +97,9 @@ fn journeys(rng: &mut Rng, tally: &mut Tally) {
         journey(rng, tally, &site);
     }
     for i in 0..LARGE {
-        let plan = plans::good(rng, "full");
-        let site = if i % 4 == 0 { run_site(rng, "full", 65535) } else { Site::of(marked(rng, &plan)) };
+        let kind = ["full", "full", "wide"][i % 3];
+        let plan = plans::good(rng, kind);
+        let site = if i % 4 == 0 { run_site(rng, kind, 65535, true) } else { Site::of(marked(rng, &plan)) };
         journey(rng, tally, &site);
     }
 }

@@ -29,6 +29,11 @@ impl Site {
         2 * self.field.plan.links.len()
     }
 
+    /// How many modules the part of v has.
+    pub fn part(&self, v: u16) -> usize {
+        self.field.plan.part_of(v).len()
+    }
+
     pub fn waiting(&self, cues: &[Cue]) -> Vec<u16> {
         (0..self.directed() as u16).filter(|d| waits(&self.field, &self.tree, cues, *d)).collect()
     }
@@ -40,18 +45,25 @@ impl Site {
 
 /// Marked by hand on a drawn plan, small most of the time, with a module or more.
 pub fn some_site(rng: &mut Rng) -> Site {
-    let kind = rng.pick(&["single", "path", "star", "ring", "complete", "tree", "small", "small", "small", "medium"]);
+    let kind = rng.pick(&[
+        "single", "path", "star", "ring", "complete", "tree", "small", "small", "small", "medium", "banks", "banks",
+        "forest", "islands", "islands", "unlinked",
+    ]);
     let plan = plans::good(rng, kind);
     Site::of(marked(rng, &plan))
 }
 
-/// From a woken module, after so many rounds at most.
-pub fn run_site(rng: &mut Rng, kind: &str, limit: u16) -> Site {
+/// From a woken module of each part, or of some, after so many rounds at most.
+pub fn run_site(rng: &mut Rng, kind: &str, limit: u16, each: bool) -> Site {
     let plan = plans::good(rng, kind);
     let mut words = vec![7; plan.ceiling() as usize + rng.below(3)];
     let mut field = setup_value(plan, &mut words).expect("a good plan");
-    let v = rng.below(field.plan.modules as usize) as u16;
-    field.step(&mut words, WAKE, v).expect("a sleeper");
+    for lowest in field.plan.lowest_modules() {
+        if each || !rng.once_in(4) {
+            let v = rng.pick(&field.plan.part_of(lowest));
+            field.step(&mut words, WAKE, v).expect("a sleeper");
+        }
+    }
     rounds::run(&mut field, &mut words, limit);
     Site::of((field, words))
 }

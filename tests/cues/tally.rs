@@ -12,18 +12,20 @@ pub struct Tally(Counts);
 #[rustfmt::skip]
 const WANTED: &Wanted = &[
     ("journey:", &[
-        ("on 1 module", 32), ("on 2 modules", 32), ("on 3 to 191 modules", 230), ("on 192 modules", 6),
-        ("to the end", 560), ("left under way", 82),
+        ("on 1 module", 28), ("on 2 modules", 30), ("on 3 to 191 modules", 380), ("on 192 modules", 9),
+        ("to the end", 820), ("left under way", 68),
     ]),
-    ("start ends with", &[("0", 1400), ("31", 310), ("71", 300), ("72", 330), ("73", 320)]),
+    ("sender's part:", &[("all modules", 560), ("some modules", 200), ("the sender alone", 130)]),
+    ("a part asleep:", &[("0", 11), ("71", 67)]),
+    ("start ends with", &[("0", 1700), ("31", 350), ("71", 350), ("72", 440), ("73", 430)]),
     ("delivery ends with", &[
-        ("heard", 14000), ("31", 360), ("71", 320), ("73", 1800), ("73, too few", 330), ("42", 1600),
+        ("heard", 13000), ("31", 400), ("71", 370), ("73", 1800), ("73, too few", 440), ("42", 1800),
     ]),
     ("delivery idle:", &[
-        ("no tree link", 2200), ("the near end has not heard", 1500), ("the far end has heard", 2500),
+        ("no tree link", 1900), ("the near end has not heard", 2000), ("the far end has heard", 2500),
     ]),
-    ("changed records, delivery ends with", &[("0", 95), ("73", 460), ("42", 35)]),
-    ("unfinished:", &[("0", 17), ("0, messages wait", 16), ("71, messages wait", 90)]),
+    ("changed records, delivery ends with", &[("0", 95), ("73", 450), ("42", 54)]),
+    ("unfinished:", &[("0", 35), ("0, messages wait", 20), ("71, messages wait", 100)]),
     ("blank plan:", &[("start 31", 50), ("start 72", 110), ("delivery 31", 50), ("delivery 73", 110)]),
     ("71 alone:", &[]),
     ("73 alone:", &[]),

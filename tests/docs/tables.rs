@@ -113,7 +113,7 @@ pub fn claims(row: &Row, by: &Names, found: &mut Found) {
 /// Each refusal number of documents 01 and 02 has a row.
 pub fn numbers(rows: &[Row], found: &mut Found) {
     let said: BTreeSet<&str> = rows.iter().filter_map(|row| row.cells.get("Number")).map(String::as_str).collect();
-    let numbers = [11..=22, 31..=33, 41..=45, 51..=54, 61..=64, 71..=73, 75..=79];
+    let numbers = [11..=18, 20..=22, 31..=33, 41..=45, 51..=54, 61..=64, 71..=73, 75..=79];
     for number in numbers.into_iter().flatten().map(|n: u32| n.to_string()) {
         found.names += 1;
         if !said.contains(number.as_str()) {

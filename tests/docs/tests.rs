@@ -67,7 +67,7 @@ fn a_claim_names_its_files() {
 fn each_refusal_has_a_row() {
     let mut found = Found::default();
     numbers(&rows("PAGE", "| Number | When |\n|---|---|\n| 11 | x |\n| 11 | y |\n| 64 | z |\n"), &mut found);
-    assert_eq!((found.names, found.faults.len()), (36, 34));
+    assert_eq!((found.names, found.faults.len()), (35, 33));
 }
 
 #[test]

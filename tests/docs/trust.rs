@@ -6,9 +6,10 @@ use scan::{Target, Tree};
 use std::collections::{BTreeMap, BTreeSet};
 
 /// The claims: in words, its file, its name.
-const CLAIMS: [(&str, &str, &str); 16] = [
+const CLAIMS: [(&str, &str, &str); 17] = [
     ("What is claimed of the central tree", "crates/plan_tree/specs/Claim.antt", "TreeClaim"),
     ("Demand 3", "crates/field_calls/specs/Demand.antt", "Demand3"),
+    ("Demand 3 of a plan in one part", "crates/field_calls/specs/Demand.antt", "Demand3OnePart"),
     ("What request 01 claims of a cue", "crates/cue/specs/Claims.antt", "CueClaim"),
     ("That 73 is exact", "crates/cue/specs/Claims.antt", "Exact73"),
     ("What request 02 claims of a preview", "crates/preview/specs/Claim.antt", "PreviewClaim"),
@@ -19,7 +20,7 @@ const CLAIMS: [(&str, &str, &str); 16] = [
     ("That a store stays whole, request 06", "crates/store/specs/Claims.antt", "StaysWhole"),
     ("What a restore comes back to, request 06", "crates/store/specs/Claims.antt", "ComesBack"),
     ("How rehearsals with named points are judged, request 06", "crates/store/specs/Console.antt", "Rehearsals"),
-    ("What a path is, with its worst link, request 07", "crates/path/specs/Claims.antt", "PathClaim"),
+    ("What a path is, with its worst link, or that there is no way, requests 07 and 08", "crates/path/specs/Claims.antt", "PathClaim"),
     ("That a path is the same turned round, request 07", "crates/path/specs/Claims.antt", "TurnedClaim"),
     ("Which room is enough for a path, request 07", "crates/path/specs/Claims.antt", "RoomClaim"),
     ("Which modules are near one, request 07", "crates/path/specs/Claims.antt", "NearClaim"),
@@ -65,7 +66,7 @@ const SPARED: [(&str, &[&str]); 3] = [
 const HEAD: &str = "\
 # What must be believed
 
-To know what the claims (the central tree, demand 3, requests 01, 02, 04, 05, 06 and 07) and the functions that a host calls say, read the contracts of the first table and the definitions of the second: they
+To know what the claims (the central tree, demand 3, requests 01, 02 and 04 to 08) and the functions that a host calls say, read the contracts of the first table and the definitions of the second: they
 are made of these and of the names of the toolchain's libraries below. Theorems and proofs are not among them, since the prover checks those.
 Then read what else is assumed, at the end. (Made by `tools/trust`; the tests compare it with the tree.)
 ";

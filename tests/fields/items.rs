@@ -8,7 +8,7 @@ use oracle::plans::{self, Readings};
 use oracle::rng::Rng;
 use oracle::rules::{Module, ASLEEP};
 
-pub const PLAN: [&str; 6] = ["plan 14", "plan 15", "plan 16", "plan 17", "plan 18", "plan 19"];
+pub const PLAN: [&str; 5] = ["plan 14", "plan 15", "plan 16", "plan 17", "plan 18"];
 
 /// Every item that does not hold, each looked at by itself, in document 01's order, request 05's beside them.
 pub fn broken(field: &Field, words: &[u64]) -> Vec<&'static str> {
@@ -81,7 +81,7 @@ pub type Damage = fn(&mut Rng, &mut Field, &mut Vec<u64>);
 /// Item, way to break it, damage (of a generator r, a field f and its words w). Some damages do nothing to some fields,
 /// or break more than their item: the caller looks at what is broken.
 #[rustfmt::skip]
-pub const WAYS: [(&str, &str, Damage); 50] = [
+pub const WAYS: [(&str, &str, Damage); 48] = [
     ("plan 14", "N above 192", |r, f, w| replanned(r, f, w, |r, p| p.modules = r.range(193, 255) as u16)),
     ("plan 15", "L above 600", many_links),
     ("plan 15", "L above 600, N is 0", many_of_nobody),
@@ -93,8 +93,6 @@ pub const WAYS: [(&str, &str, Damage); 50] = [
     ("plan 17", "two links exchanged", |r, f, w| replanned(r, f, w, exchanged)),
     ("plan 18", "reading at the lower", |r, f, w| relinked(r, f, w, |r, _, k| k.at_lower = past(r, 2001))),
     ("plan 18", "reading at the higher", |r, f, w| relinked(r, f, w, |r, _, k| k.at_higher = past(r, 2001))),
-    ("plan 19", "a module more", |r, f, w| replanned(r, f, w, |_, p| p.modules = (p.modules + 1).min(192))),
-    ("plan 19", "a module without links", |r, f, w| replanned(r, f, w, lonely)),
     ("words fewer than M", "cut", cut),
     ("words with a gap", "a zero among them", |r, _, w| changed(r, w, |_, _| 0)),
     ("words with a gap", "one behind the zeros", apart),
@@ -204,14 +202,6 @@ fn twice(rng: &mut Rng, plan: &mut Plan) {
 fn exchanged(rng: &mut Rng, plan: &mut Plan) {
     let (a, b) = (rng.below(plan.links.len()), rng.below(plan.links.len()));
     plan.links.swap(a, b);
-}
-
-fn lonely(rng: &mut Rng, plan: &mut Plan) {
-    let v = rng.below(plan.modules as usize) as u16;
-    let kept: Vec<Link> = plan.links.iter().copied().filter(|k| k.lower != v && k.higher != v).collect();
-    if !kept.is_empty() {
-        plan.links = kept;
-    }
 }
 
 fn cut(rng: &mut Rng, field: &mut Field, words: &mut Vec<u64>) {

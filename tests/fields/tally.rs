@@ -14,38 +14,42 @@ pub struct Tally(Counts);
 #[rustfmt::skip]
 const WANTED: &Wanted = &[
     ("step ends with", &[
-        ("0", 4000), ("31", 3400), ("32", 1600), ("33", 600), ("41", 500), ("42", 450), ("43", 2500), ("44", 2200),
-        ("45", 3000), ("54", 500),
+        ("0", 4900), ("31", 3400), ("32", 1900), ("33", 650), ("41", 700), ("42", 800), ("43", 3100), ("44", 2500),
+        ("45", 4300), ("54", 640),
     ]),
     ("schedule ends with", &[
-        ("0", 60), ("31", 1400), ("32", 35), ("33", 11), ("41", 15), ("42", 9), ("43", 60), ("44", 60), ("45", 70),
-        ("51", 5), ("52", 11), ("53", 49), ("54", 34),
+        ("0", 68), ("31", 1500), ("32", 35), ("33", 10), ("41", 12), ("42", 9), ("43", 51), ("44", 40), ("45", 69),
+        ("51", 10), ("52", 14), ("53", 48), ("54", 45),
     ]),
-    ("31 by itself ends with", &[("0", 14000), ("31", 3000)]),
-    ("report ends with", &[("0", 2000)]),
-    ("rounds ends with", &[("0", 160), ("31", 1400), ("32", 230), ("33", 36)]),
+    ("31 by itself ends with", &[("0", 19000), ("31", 3400)]),
+    ("report ends with", &[("0", 2900)]),
+    ("cores:", &[
+        ("of the blank plan", 220), ("of a plan that would be refused", 66), ("of one part", 1700), ("none of several", 230),
+        ("of several parts", 860),
+    ]),
+    ("rounds ends with", &[("0", 180), ("31", 1400), ("32", 190), ("33", 35)]),
     ("32:", &[
-        ("Initiate, asleep", 200), ("Accept, asleep", 170), ("Reject, asleep", 200), ("Report, asleep", 200),
-        ("Change-root, asleep", 200), ("Connect, level", 30), ("Connect, find-count", 27),
-        ("Initiate, find-count", 50), ("Test, in-branch none", 15), ("Accept, in-branch none", 70),
-        ("Reject, in-branch none", 30), ("Reject, Test at level 0", 55), ("Report, find-count", 71),
-        ("Report, in-branch none", 110), ("Report, best edge none", 8), ("Change-root, best edge none", 150),
+        ("Initiate, asleep", 220), ("Accept, asleep", 210), ("Reject, asleep", 240), ("Report, asleep", 230),
+        ("Change-root, asleep", 250), ("Connect, level", 40), ("Connect, find-count", 42),
+        ("Initiate, find-count", 45), ("Test, in-branch none", 27), ("Accept, in-branch none", 71),
+        ("Reject, in-branch none", 47), ("Reject, Test at level 0", 61), ("Report, find-count", 100),
+        ("Report, in-branch none", 130), ("Report, best edge none", 12), ("Change-root, best edge none", 180),
     ]),
     ("taken:", &[
-        ("woken", 900), ("handed over", 1200), ("served Connect", 170), ("served Initiate", 250), ("served Test", 150),
-        ("served Accept", 270), ("served Reject", 240), ("served Report", 120), ("served Change-root", 180),
-        ("served Connect at a sleeper", 80), ("put back Connect", 74), ("put back Test", 170),
-        ("put back Report", 70), ("put back Connect at a sleeper", 25), ("put back Test at a sleeper", 120),
+        ("woken", 1100), ("handed over", 1400), ("served Connect", 220), ("served Initiate", 330), ("served Test", 200),
+        ("served Accept", 320), ("served Reject", 260), ("served Report", 140), ("served Change-root", 210),
+        ("served Connect at a sleeper", 98), ("put back Connect", 100), ("put back Test", 220),
+        ("put back Report", 86), ("put back Connect at a sleeper", 26), ("put back Test at a sleeper", 140),
     ]),
     ("full store:", &[
-        ("handed over", 130), ("put back Connect", 6), ("put back Test", 12), ("put back Report", 7),
-        ("served Accept", 16), ("served Initiate", 12), ("served Reject", 10), ("served Report", 5),
+        ("handed over", 140), ("put back Connect", 6), ("put back Test", 11), ("put back Report", 4),
+        ("served Accept", 17), ("served Initiate", 13), ("served Reject", 8), ("served Report", 7),
         ("refused 33", 180),
     ]),
     ("blank plan:", &[
-        ("31 by itself 0", 1800), ("31 by itself 31", 120), ("report 0", 240), ("step 31", 120), ("step 41", 1000),
-        ("step 42", 500), ("step 54", 200), ("schedule 0", 100), ("schedule 31", 3), ("schedule 41", 210),
-        ("schedule 42", 100), ("schedule 54", 200), ("rounds 0", 130), ("rounds 31", 4),
+        ("31 by itself 0", 1700), ("31 by itself 31", 84), ("report 0", 220), ("step 31", 84), ("step 41", 990),
+        ("step 42", 380), ("step 54", 320), ("schedule 0", 100), ("schedule 31", 4), ("schedule 41", 210),
+        ("schedule 42", 100), ("schedule 54", 300), ("rounds 0", 120), ("rounds 31", 4),
     ]),
 ];
 
@@ -61,6 +65,18 @@ impl Tally {
         } else {
             self.count(format!("{call} ends with {answer}"));
         }
+    }
+
+    /// A report, by the core lines that it has.
+    pub fn cores(&mut self, field: &Field) {
+        let parts = if field.plan.check().is_ok() { field.plan.lowest_modules() } else { Vec::new() };
+        self.count(match parts.len() {
+            0 if field.plan == plans::blank() => "cores: of the blank plan",
+            0 => "cores: of a plan that would be refused",
+            1 => "cores: of one part",
+            n if n == field.modules.len() => "cores: none of several",
+            _ => "cores: of several parts",
+        });
     }
 
     /// A step given alone, by the field and the words before it.

@@ -23,6 +23,8 @@ struct Tally {
     numbers: BTreeMap<u32, usize>,
     /// plans and plan values with N = 0, by what they are answered
     nobody: BTreeMap<(&'static str, u32), usize>,
+    /// good plans in several parts, and those among them that have a part of one module
+    in_parts: [usize; 2],
     /// good plans whose tree each of `WRONG_ORDERS` would change: of up to 4 modules, and of more
     told_apart: [[usize; 2]; WRONG_ORDERS.len()],
 }
@@ -44,13 +46,13 @@ impl Tally {
 /// With N = 0, as bytes and as a value: taken, refused by 15 (L does not fit, or is above 600), by 16 (a link); and the empty
 /// tree of those that are taken. How often each must come, about half as often as with the seed of main.
 const NOBODY: [((&str, u32), usize); 8] = [
-    (("bytes", 0), 230),
-    (("bytes", 15), 280),
-    (("bytes", 16), 340),
-    (("tree", 0), 230),
-    (("tree", 20), 460),
-    (("value", 0), 70),
-    (("value", 15), 19),
+    (("bytes", 0), 200),
+    (("bytes", 15), 240),
+    (("bytes", 16), 320),
+    (("tree", 0), 200),
+    (("tree", 20), 400),
+    (("value", 0), 58),
+    (("value", 15), 20),
     (("value", 16), 120),
 ];
 
@@ -66,7 +68,7 @@ const WRONG_ORDERS: [(&str, Keys, [usize; 2]); 4] = [
     ("the higher number", |p, k| [p.cost(k), p.sum(k), NONE as u32 - k as u32], [7000, 300]),
 ];
 
-const GOOD: usize = 500;
+const GOOD: usize = 600;
 const GUARD: usize = 16;
 
 /// Lends `len` bytes of a larger buffer of arbitrary bytes. The call must answer `number`, and leave `written` at the
@@ -120,6 +122,10 @@ fn compare_plan(rng: &mut Rng, tally: &mut Tally, bytes: &[u8]) {
         }
         Ok(plan) => {
             tally.good_plans += 1;
+            let lowest = plan.lowest_modules();
+            let alone = lowest.iter().any(|v| plan.own_links(*v).is_empty());
+            tally.in_parts[0] += (lowest.len() > 1) as usize;
+            tally.in_parts[1] += (lowest.len() > 1 && alone) as usize;
             let l = plan.links.len();
             let expected = kruskal::tree(&plan);
             for ((_, key, _), count) in WRONG_ORDERS.iter().zip(&mut tally.told_apart) {
@@ -231,7 +237,7 @@ fn compare_write(rng: &mut Rng, tally: &mut Tally, header: u8, carried: u16) {
     }
 }
 
-/// Every plan of 4 modules whose links each have one of these readings or are not there; the unconnected ones are refused.
+/// Every plan of 4 modules whose links each have one of these readings or are not there: one part to four.
 fn all_of_four(rng: &mut Rng, tally: &mut Tally) {
     const READINGS: [(u16, u16); 4] = [(0, 1), (1, 0), (1, 1), (2, 0)];
     for code in 0..5usize.pow(6) {
@@ -335,7 +341,7 @@ fn samples(rng: &mut Rng) {
         (&many(600), 0),
         (&pair(2001), 18),
         (&pair(2000), 0),
-        (&no_link, 19),
+        (&no_link, 0),
         (&two, 0),
         (&two[..14], 13),
         (&[1, 0, 4, 0, 0, 0, 0], 0),
@@ -374,7 +380,7 @@ fn sample_files(rng: &mut Rng, tally: &mut Tally) {
 
 /// What came, as often as wanted.
 fn check_counts(tally: &Tally) {
-    for number in (11..=20).chain([22]).chain(61..=64) {
+    for number in (11..=18).chain([20, 22]).chain(61..=64) {
         let times = tally.numbers.get(&number).copied().unwrap_or(0);
         assert!(times >= 20, "refusal {number} came only {times} times: {:?}", tally.numbers);
     }
@@ -385,6 +391,7 @@ fn check_counts(tally: &Tally) {
     for ((order, _, least), times) in WRONG_ORDERS.iter().zip(tally.told_apart) {
         assert!(times.iter().zip(least).all(|(t, l)| t >= l), "{order}: only {times:?} trees would be others");
     }
+    assert!(tally.in_parts[0] >= 1200 && tally.in_parts[1] >= 1000, "only {:?} plans in several parts", tally.in_parts);
     assert!(tally.refused >= 10_000, "only {} inputs were refused", tally.refused);
 }
 
@@ -437,6 +444,7 @@ fn main() {
         numbers.join(" "),
         tally.told_apart
     );
+    println!("ground: in several parts, with a part of one: {:?}", tally.in_parts);
     println!("ground: N = 0, by what was answered: {:?}", tally.nobody);
     check_counts(&tally);
 }

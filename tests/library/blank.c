@@ -96,7 +96,7 @@ static void no_path(const muruapy_plan *value, size_t room, uint32_t number)
         uint16_t *links = lend(NULL, room * sizeof *links);
         uint8_t *marks = lend(NULL, room);
         muruapy_path_found got = muruapy_path(plan, modules[i], modules[i], links, room);
-        must(got.length == 0 && got.worst == MURUAPY_NONE, "a path where nobody is");
+        must(got.way == 0 && got.length == 0 && got.worst == MURUAPY_NONE, "a path where nobody is");
         answered("path", got.refusal, number, NULL);
         answered("path", muruapy_path(plan, 0, modules[i], links, room).refusal, number, NULL);
         answered("near", muruapy_near(plan, modules[i], i % 2 ? 0xffffffffu : 0, marks, room), number, NULL);

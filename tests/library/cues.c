@@ -239,6 +239,28 @@ static void alone(void)
     start_gives(0, 0, 73);
 }
 
+/* Two banks of a river: 71 while one of them sleeps; then the cue stays in its sender's part. */
+static void banks(void)
+{
+    static const muruapy_cue heard = {1, 9, 1, 1};
+    muruapy_plan value;
+    uint16_t rounds, link;
+    sample("two-banks.plan", &value);
+    at_rest(&value, 4);
+    must(muruapy_setup(&value, &state.field, state.words, state.room) == 0, "the setup is refused");
+    must(muruapy_step(&state.field, state.words, state.room, MURUAPY_WAKE, 2) == 0, "the wake is refused");
+    must(muruapy_rounds(&state.field, state.words, state.room, 65535, &rounds) == 0, "the rounds are refused");
+    start_gives(2, 9, 71);
+    must(muruapy_step(&state.field, state.words, state.room, MURUAPY_WAKE, 0) == 0, "the wake is refused");
+    must(muruapy_rounds(&state.field, state.words, state.room, 65535, &rounds) == 0, "the rounds are refused");
+    start_gives(2, 9, 0);
+    deliver_gives(0, 0, NULL);
+    deliver_gives(2, 0, &heard);
+    for (link = 0; link < 4; link++)
+        deliver_gives(link, 0, NULL);
+    must(!cues[0].heard && !cues[1].heard, "the other bank hears");
+}
+
 /* To every module of the largest sample, in the order of links; then nothing waits anywhere. */
 static void to_all(void)
 {
@@ -269,5 +291,6 @@ void cue_calls(bool whole)
     wrong_records();
     wrong_fields();
     alone();
+    banks();
     to_all();
 }

@@ -46,7 +46,7 @@ int main()
     std::vector<uint16_t> path(MURUAPY_PATH_LINKS);
     std::vector<uint8_t> near(plan->modules);
     const muruapy_path_found way = muruapy_path(plan.get(), 1, 0, path.data(), path.size());
-    if (way.refusal != MURUAPY_TAKEN || way.length != 1 || way.worst != 0 || path[0] != 0)
+    if (way.refusal != MURUAPY_TAKEN || way.way != 1 || way.length != 1 || way.worst != 0 || path[0] != 0)
         return 1;
     if (muruapy_near(plan.get(), 1, 0, near.data(), near.size()) != MURUAPY_TAKEN || near[0] != 0 || near[1] != 1)
         return 1;

@@ -1,4 +1,4 @@
-/* The whole job and the report. What the job leaves is compared with setup, a wake and rounds, whole and one by one; the
+/* The whole job and the report. What the job leaves is compared with setup, wakes and rounds, whole and one by one; the
  * report with what the reporting program prints; the marks with the tree. */
 #include "site.h"
 
@@ -30,7 +30,24 @@ static void step(uint8_t kind, uint16_t number)
     take_back();
 }
 
-/* Setup and a wake, then rounds, at most `each` in a call: the same as the job. */
+/* Wakes the lowest module of each part, or the highest; a part is what is near one of its modules, however far. */
+static void wake_parts(const muruapy_plan *value, bool lowest)
+{
+    bool seen[MURUAPY_MODULES] = {false};
+    uint8_t part[MURUAPY_MODULES];
+    uint16_t i, u;
+    for (i = 0; i < value->modules; i++) {
+        uint16_t v = lowest ? i : (uint16_t)(value->modules - 1 - i);
+        if (seen[v])
+            continue;
+        answered("near", muruapy_near(value, v, value->modules, part, value->modules), 0, NULL);
+        for (u = 0; u < value->modules; u++)
+            seen[u] = seen[u] || part[u] == 1;
+        step(MURUAPY_WAKE, v);
+    }
+}
+
+/* Setup and the wakes, then rounds, at most `each` in a call: the same as the job. */
 static void by_rounds(const muruapy_plan *value, uint16_t each, uint16_t count)
 {
     uint16_t sum = 0;
@@ -38,7 +55,7 @@ static void by_rounds(const muruapy_plan *value, uint16_t each, uint16_t count)
     answered("setup", do_setup(&s, show(value, sizeof *value)), 0, NULL);
     fetch(&s, &state);
     take_back();
-    step(MURUAPY_WAKE, 0);
+    wake_parts(value, true);
     while (muruapy_waiting(state.words, state.room) > 0) {
         uint16_t *rounds;
         s = lend_site(&state, as_whole, OLD);
@@ -60,7 +77,7 @@ static void by_steps(const muruapy_plan *value)
     answered("setup", do_setup(&s, show(value, sizeof *value)), 0, NULL);
     fetch(&s, &state);
     take_back();
-    step(MURUAPY_WAKE, (uint16_t)(value->modules - 1));
+    wake_parts(value, false);
     while (muruapy_waiting(state.words, state.room) > 0) {
         uint64_t word = state.words[0];
         uint16_t link = muruapy_word_link(word);
@@ -137,6 +154,8 @@ void job_calls(bool whole, const char *reports_folder)
     as_whole = whole;
     job_of("single.plan", reports_folder, 0, 0);
     job_of("two-modules.plan", reports_folder, 4, 6);
+    job_of("two-banks.plan", reports_folder, 4, 12);
+    job_of("two-apart.plan", reports_folder, 0, 0);
     job_of("ring-12.plan", reports_folder, 34, 58);
     job_of("full-192.plan", reports_folder, 140, 3771);
     for (from = refused_plans; from->number; from++) {

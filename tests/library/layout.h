@@ -23,9 +23,10 @@ HOLDS(field_size, sizeof(muruapy_field) == 4804 + 192 * 2 * MURUAPY_WIDTH + 600 
 HOLDS(field_modules, offsetof(muruapy_field, modules) == 4804);
 HOLDS(field_marks, offsetof(muruapy_field, marks) == 4804 + 192 * 2 * MURUAPY_WIDTH);
 HOLDS(field_sent, offsetof(muruapy_field, sent) == 4804 + 192 * 2 * MURUAPY_WIDTH + 600 * 2);
-HOLDS(path_found_size, sizeof(muruapy_path_found) == 8);
-HOLDS(path_found_length, offsetof(muruapy_path_found, length) == 4);
-HOLDS(path_found_worst, offsetof(muruapy_path_found, worst) == 6);
+HOLDS(path_found_size, sizeof(muruapy_path_found) == 12);
+HOLDS(path_found_way, offsetof(muruapy_path_found, way) == 4);
+HOLDS(path_found_length, offsetof(muruapy_path_found, length) == 8);
+HOLDS(path_found_worst, offsetof(muruapy_path_found, worst) == 10);
 HOLDS(previewed_size, sizeof(muruapy_previewed) == 8);
 HOLDS(previewed_count, offsetof(muruapy_previewed, count) == 4);
 HOLDS(cue_size, sizeof(muruapy_cue) == 8);
@@ -38,8 +39,8 @@ HOLDS(delivery_heard, offsetof(muruapy_delivery, heard) == 4);
 HOLDS(found_size, sizeof(muruapy_found) == 24);
 HOLDS(found_at, offsetof(muruapy_found, at) == 8);
 HOLDS(found_bytes, offsetof(muruapy_found, size) == 16);
-HOLDS(version, MURUAPY_VERSION_MAJOR == 3); /* since a module's record has the waking link */
-HOLDS(minor_version, MURUAPY_VERSION_MINOR == 2); /* paths in the tree */
+HOLDS(version, MURUAPY_VERSION_MAJOR == 4); /* since a path tells whether there is a way */
+HOLDS(minor_version, MURUAPY_VERSION_MINOR == 0);
 HOLDS(plan_bytes, MURUAPY_PLAN_BYTES == 7 + 8 * MURUAPY_LINKS);
 HOLDS(ceiling, MURUAPY_WORDS == 5 * MURUAPY_MODULES * 7 + 2 * MURUAPY_LINKS);
 HOLDS(steps, MURUAPY_STEPS == 65535 / 3);

@@ -1,6 +1,6 @@
 /* Paths in the tree and the modules near one: samples in which every link of a path is known, all modules of some plans by a
- * way of its own, the longest path of 191 links, and plans that are refused. Each with buffers that are empty, too short,
- * just long enough and longer. The plan cannot be written. */
+ * way of its own, the longest path of 191 links, plans in two parts, and plans that are refused. Each with buffers that are
+ * empty, too short, just long enough and longer. The plan cannot be written. */
 #include "calls.h"
 
 #include <string.h>
@@ -8,22 +8,21 @@
 /* ---- the calls ---- */
 
 /* A path with so many numbers lent, which answers this. Of the buffer it writes `length` links at its front and no more. */
-static void path_gives(const muruapy_plan *value, uint16_t from, uint16_t to, size_t room, uint32_t refusal,
-                       const uint16_t *want, uint16_t length, uint16_t worst)
+static void path_gives(const muruapy_plan *value, uint16_t from, uint16_t to, size_t room, muruapy_path_found answer,
+                       const uint16_t *want)
 {
     const muruapy_plan *plan = show(value, sizeof *plan);
     uint16_t *links = lend(NULL, room * sizeof *links), behind;
     muruapy_path_found got = muruapy_path(plan, from, to, links, room);
     size_t i;
     memset(&behind, FILL, sizeof behind);
-    must(got.length == length, "another length is told");
-    must(got.worst == worst, "another worst link is told");
-    if (refusal == 0) {
-        must(length == 0 || memcmp(links, want, length * sizeof *links) == 0, "another path is told");
-        for (i = length; i < room; i++)
-            must(links[i] == behind, "a number behind the path is written");
-    }
-    gave("path", got.refusal, refusal, refusal != 0 || length == 0);
+    must(got.way == answer.way, "a way is told where there is none, or none");
+    must(got.length == answer.length, "another length is told");
+    must(got.worst == answer.worst, "another worst link is told");
+    must(answer.length == 0 || memcmp(links, want, answer.length * sizeof *links) == 0, "another path is told");
+    for (i = answer.length; i < room; i++)
+        must(links[i] == behind, "a number behind the path is written");
+    gave("path", got.refusal, answer.refusal, answer.length == 0);
     take_back();
 }
 
@@ -45,21 +44,35 @@ static void near_gives(const muruapy_plan *value, uint16_t from, uint32_t h, siz
 
 static void path_refused(const muruapy_plan *plan, uint16_t from, uint16_t to, size_t room, uint32_t refusal)
 {
-    path_gives(plan, from, to, room, refusal, NULL, 0, MURUAPY_NONE);
+    muruapy_path_found answer = {0, 0, 0, MURUAPY_NONE};
+    answer.refusal = refusal;
+    path_gives(plan, from, to, room, answer, NULL);
+}
+
+/* Between parts: an answer, whatever is lent. */
+static void no_way(const muruapy_plan *plan, uint16_t from, uint16_t to)
+{
+    size_t room;
+    for (room = 0; room < 3; room++)
+        path_refused(plan, from, to, room, 0);
+    path_refused(plan, from, to, MURUAPY_PATH_LINKS, 0);
 }
 
 /* With every kind of buffer: 79 where it is too short. */
 static void path_is(const muruapy_plan *plan, uint16_t from, uint16_t to, const uint16_t *want, uint16_t length,
                     uint16_t worst)
 {
+    muruapy_path_found answer = {0, 1, 0, 0};
     size_t more;
+    answer.length = length;
+    answer.worst = worst;
     if (length > 0) {
         path_refused(plan, from, to, 0, 79);
         path_refused(plan, from, to, length - 1u, 79);
     }
     for (more = 0; more < 3; more++)
-        path_gives(plan, from, to, length + more, 0, want, length, worst);
-    path_gives(plan, from, to, MURUAPY_PATH_LINKS, 0, want, length, worst);
+        path_gives(plan, from, to, length + more, answer, want);
+    path_gives(plan, from, to, MURUAPY_PATH_LINKS, answer, want);
 }
 
 static void near_is(const muruapy_plan *plan, uint16_t from, uint32_t h, const uint8_t *want)
@@ -134,6 +147,27 @@ static void one_and_two(void)
     no_module(&plan);
 }
 
+/* Two parts of two, and two of one: no way between them, and marks of one part alone. */
+static void apart(void)
+{
+    static const uint16_t first[] = {0}, second[] = {1};
+    static const uint8_t other[] = {0, 0, 1, 1}, alone[] = {0, 1};
+    muruapy_plan plan;
+    sample("two-banks.plan", &plan);
+    no_way(&plan, 0, 2);
+    no_way(&plan, 3, 1);
+    path_is(&plan, 1, 0, first, 1, 0);
+    path_is(&plan, 2, 3, second, 1, 1);
+    near_is(&plan, 2, 5, other);
+    near_is(&plan, 3, 0xffffffffu, other);
+    no_module(&plan);
+    sample("two-apart.plan", &plan);
+    no_way(&plan, 0, 1);
+    path_is(&plan, 1, 1, NULL, 0, MURUAPY_NONE);
+    near_is(&plan, 1, 5, alone);
+    no_module(&plan);
+}
+
 /* ---- any plan: the paths to one module by spreading over the tree's links ---- */
 
 static bool is_later(const muruapy_plan *plan, uint16_t a, uint16_t b)
@@ -147,7 +181,8 @@ static bool is_later(const muruapy_plan *plan, uint16_t a, uint16_t b)
     return a > b;
 }
 
-/* Where each module goes on to, and how far it is; a module that is not reached yet has NO_HOPS. */
+/* Where each module goes on to, and how far it is; a module that is not reached, of another part in the end, has
+ * NO_HOPS. */
 enum { NO_HOPS = 65535 };
 struct onward {
     uint16_t link[MURUAPY_MODULES], next[MURUAPY_MODULES], hops[MURUAPY_MODULES];
@@ -156,12 +191,13 @@ struct onward {
 static void spread(const muruapy_plan *plan, uint16_t to, struct onward *way)
 {
     uint8_t tree[MURUAPY_LINKS];
-    uint16_t k, reached = 1;
+    uint16_t k;
+    bool more = true;
     must(muruapy_tree(plan, tree, plan->links) == 0, "the tree is refused");
     memset(way, 0xff, sizeof *way);
     way->hops[to] = 0;
-    while (reached < plan->modules)
-        for (k = 0; k < plan->links; k++) {
+    while (more)
+        for (more = false, k = 0; k < plan->links; k++) {
             uint16_t a = plan->link[k].lower, b = plan->link[k].higher, near, far;
             if (!tree[k] || (way->hops[a] == NO_HOPS) == (way->hops[b] == NO_HOPS))
                 continue;
@@ -170,13 +206,17 @@ static void spread(const muruapy_plan *plan, uint16_t to, struct onward *way)
             way->link[far] = k;
             way->next[far] = near;
             way->hops[far] = (uint16_t)(way->hops[near] + 1);
-            reached++;
+            more = true;
         }
 }
 
 static void follow(const muruapy_plan *plan, const struct onward *way, uint16_t from, uint16_t to)
 {
     uint16_t links[MURUAPY_PATH_LINKS], length = 0, worst = MURUAPY_NONE, at;
+    if (way->hops[from] == NO_HOPS) {
+        no_way(plan, from, to);
+        return;
+    }
     for (at = from; at != to; at = way->next[at]) {
         uint16_t k = way->link[at];
         if (worst == MURUAPY_NONE || is_later(plan, k, worst))
@@ -199,7 +239,7 @@ static void all_to(const muruapy_plan *plan, uint16_t to, uint16_t every)
         follow(plan, &way, v, to);
     for (i = 0; i < sizeof more / sizeof *more; i++) {
         for (v = 0; v < plan->modules; v++)
-            marks[v] = way.hops[v] <= more[i];
+            marks[v] = way.hops[v] != NO_HOPS && way.hops[v] <= more[i];
         near_is(plan, to, more[i], marks);
     }
 }
@@ -259,6 +299,9 @@ void path_calls(void)
 {
     one_and_two();
     worse_reading();
+    apart();
+    sample_paths("two-banks.plan", 1);
+    sample_paths("two-apart.plan", 1);
     sample_paths("triangle.plan", 1);
     sample_paths("path-8.plan", 1);
     sample_paths("star-16.plan", 3);

@@ -194,7 +194,8 @@ static void kruskal(const muruapy_plan *plan, char *tree)
 
 void plan_calls(void)
 {
-    static const char *const taken[] = {"single.plan", "two-modules.plan", "ring-12.plan", "full-192.plan"};
+    static const char *const taken[] = {"single.plan", "two-modules.plan", "two-banks.plan", "two-apart.plan",
+                                        "ring-12.plan", "full-192.plan"};
     char tree[MURUAPY_LINKS + 1];
     muruapy_plan full;
     size_t i;
@@ -202,12 +203,13 @@ void plan_calls(void)
         sample_bytes(taken[i], 0);
     sample_bytes("refused-17-not-ascending.plan", 17);
     sample_bytes("refused-18-reading-2001.plan", 18);
-    sample_bytes("refused-19-two-parts.plan", 19);
     endless_bytes();
     good_value("single.plan", "");
     good_value("two-modules.plan", "1");
     good_value("triangle.plan", "110");
     good_value("worse-reading.plan", "101");
+    good_value("two-banks.plan", "11");
+    good_value("two-apart.plan", "");
     good_value("ring-12.plan", "111111111110");
     sample("full-192.plan", &full);
     kruskal(&full, tree);

@@ -27,7 +27,7 @@ static void plan_check(void) { bad |= muruapy_plan_check(bytes, length); }
 static void plan_read(void) { bad |= muruapy_plan_read(bytes, length, &plan); }
 static void plan_value_check(void) { bad |= muruapy_plan_value_check(&plan); }
 static void plan_write(void) { bad |= muruapy_plan_write(&plan, buffer, sizeof buffer); }
-static void plan_refused(void) { bad |= muruapy_plan_write(&refused, buffer, sizeof buffer) != MURUAPY_PLAN_PARTS; }
+static void plan_refused(void) { bad |= muruapy_plan_write(&refused, buffer, sizeof buffer) != MURUAPY_LINK_READING; }
 static void tree(void) { bad |= muruapy_tree(&plan, buffer, plan.links); }
 /* From each module to the last one. */
 static void path(void)
@@ -46,10 +46,10 @@ static void near_one(void)
 }
 static void paths_refused(void)
 {
-    bad |= muruapy_path(&refused, 0, 1, path_links, MURUAPY_PATH_LINKS).refusal != MURUAPY_PLAN_PARTS;
+    bad |= muruapy_path(&refused, 0, 1, path_links, MURUAPY_PATH_LINKS).refusal != MURUAPY_LINK_READING;
     bad |= muruapy_path(&plan, 0, plan.modules, path_links, MURUAPY_PATH_LINKS).refusal != MURUAPY_NO_MODULE;
     bad |= muruapy_path(&plan, 0, 1, path_links, 0).refusal != MURUAPY_PATH_BUFFER;
-    bad |= muruapy_near(&refused, 0, 1, buffer, sizeof buffer) != MURUAPY_PLAN_PARTS;
+    bad |= muruapy_near(&refused, 0, 1, buffer, sizeof buffer) != MURUAPY_LINK_READING;
     bad |= muruapy_near(&plan, 0, 1, buffer, 191) != MURUAPY_PATH_BUFFER;
 }
 static void frames(void)
@@ -121,7 +121,7 @@ static void rounds(void) { bad |= muruapy_rounds(&field, words, MURUAPY_WORDS, 6
 static void job(void) { bad |= muruapy_job(&plan, &field, words, MURUAPY_WORDS, &number); }
 static void job_refused(void)
 {
-    bad |= muruapy_job(&refused, &field, words, MURUAPY_WORDS, &number) != MURUAPY_PLAN_PARTS;
+    bad |= muruapy_job(&refused, &field, words, MURUAPY_WORDS, &number) != MURUAPY_LINK_READING;
 }
 static void cue_start(void)
 {
@@ -266,13 +266,14 @@ int main(void)
     length = sample_bytes("samples/full-192.plan", bytes, sizeof bytes);
     plan_read();
     need(bad == 0, "stack: the plan is refused");
-    /* a path that does not reach the last module: 19, found when all was looked at */
+    /* a row of modules, but for a reading of its last link: 18, found when all was looked at */
     refused = plan;
     refused.links = (uint16_t)(refused.modules - 2);
     for (i = 0; i < refused.links; i++) {
         refused.link[i].lower = (uint16_t)i;
         refused.link[i].higher = (uint16_t)(i + 1);
     }
+    refused.link[refused.links - 1].far = MURUAPY_READING + 1;
     rehearse();
     for (i = 0; i < sizeof all / sizeof *all; i++) {
         size_t most = measure(&all[i]);

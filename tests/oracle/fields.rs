@@ -29,7 +29,9 @@ fn module(rng: &mut Rng, plan: &Plan, v: u16) -> Module {
     let links: Vec<u16> = (0..plan.links.len() as u16).collect();
     let own = plan.own_links(v);
     let some = rng.range(0, own.len());
-    let (status, level) = (rng.below(3) as u16, rng.range(0, plan.top_level() as usize) as u16);
+    // an identity is a link's number, so where there is none no level is above 0
+    let top = if links.is_empty() { 0 } else { plan.top_level() };
+    let (status, level) = (rng.below(3) as u16, rng.range(0, top as usize) as u16);
     Module {
         status,
         level,
@@ -105,6 +107,7 @@ pub fn drawn(rng: &mut Rng, plan: &Plan) -> (Field, Vec<u64>) {
 pub fn some_field(rng: &mut Rng) -> (Field, Vec<u64>) {
     let kind = rng.pick(&[
         "blank", "single", "path", "star", "ring", "complete", "small", "small", "small", "small", "medium", "full",
+        "banks", "banks", "forest", "islands", "islands", "unlinked", "wide",
     ]);
     let plan = plans::good(rng, kind);
     drawn(rng, &plan)
@@ -138,7 +141,7 @@ fn spoil_blank(rng: &mut Rng, field: &mut Field, words: &mut Vec<u64>) {
             field.marks.push([BASIC; 2]);
             words.resize(words.len().max(2), 0);
         }
-        4 => field.plan.modules = rng.pick(&[2, 193, NONE]),
+        4 => field.plan.modules = rng.pick(&[193, 194, NONE]),
         _ => words.push(0),
     }
 }
@@ -180,7 +183,7 @@ pub fn spoil(rng: &mut Rng, field: &mut Field, words: &mut Vec<u64>) {
             let k = rng.below(field.plan.links.len());
             field.plan.links[k].at_lower = rng.pick(&[2001, NONE]);
         }
-        _ => field.plan.modules += 1,
+        _ => field.plan.modules = rng.pick(&[193, 194, NONE]),
     }
 }
 

@@ -1,4 +1,5 @@
-//! The tree by Kruskal's method: the links from the earliest on, each taken if it joins two parts.
+//! The tree by Kruskal's method, or a forest where links do not join all modules: the links from the earliest on, each
+//! taken if it joins two sets of modules.
 
 use crate::plan::Plan;
 

@@ -1,4 +1,4 @@
-//! The oracle: a second implementation of document 01, and of requests 01 to 07 of document 02, in plain Rust, written
+//! The oracle: a second implementation of document 01, and of requests 01 to 08 of document 02, in plain Rust, written
 //! from the documents and the appendix of Gallager, Humblet and Spira alone. The tests compare the compiled Rattle code
 //! with it. Nothing here is proved and nothing here is fast: it is meant to be read beside the documents.
 //!
@@ -17,6 +17,7 @@ pub mod plans;
 pub mod points;
 pub mod preview;
 pub mod report;
+pub mod rest;
 pub mod rng;
 pub mod rounds;
 pub mod rules;
@@ -30,6 +31,8 @@ mod tests;
 mod tests_blank;
 #[cfg(test)]
 mod tests_cue;
+#[cfg(test)]
+mod tests_parts;
 #[cfg(test)]
 mod tests_path;
 #[cfg(test)]

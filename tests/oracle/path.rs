@@ -1,5 +1,5 @@
-//! Paths in the tree, from the text of document 02's request 07 and the readings of it: the tree path between two modules
-//! with its worst link, and the modules within some branches of one.
+//! Paths in the tree, from the text of document 02's requests 07 and 08 and the readings of them: the tree path between two
+//! modules with its worst link, or "no way", and the modules within some branches of one.
 
 use crate::kruskal;
 use crate::plan::{Plan, NONE};
@@ -13,19 +13,20 @@ pub struct Path {
 }
 
 /// "For two modules the answer is the tree path as link numbers, from the first module on, at the front of a lent buffer,
-/// and the latest link on it": 14 to 19, 41 for either module, 79; the rest of the buffer keeps.
-pub fn between(plan: &Plan, from: u16, to: u16, out: &mut [u16]) -> Result<Path, u32> {
+/// and the latest link on it": 14 to 18, 41 for either module, 79; the rest of the buffer keeps. "A path between parts is
+/// answered "no way"" (none): nothing is written, and no room is needed.
+pub fn between(plan: &Plan, from: u16, to: u16, out: &mut [u16]) -> Result<Option<Path>, u32> {
     plan.check()?;
     if from >= plan.modules || to >= plan.modules {
         return Err(41);
     }
-    let path = tree_path(plan, from, to);
+    let Some(path) = tree_path(plan, from, to) else { return Ok(None) };
     out.get_mut(..path.len()).ok_or(79u32)?.copy_from_slice(&path);
-    Ok(Path { length: path.len() as u16, worst: latest(plan, &path) })
+    Ok(Some(Path { length: path.len() as u16, worst: latest(plan, &path) }))
 }
 
-/// "A second answer writes N bytes, 1 for each module within h branches of one module and 0 otherwise": 14 to 19, 41, 79;
-/// the rest of the buffer keeps.
+/// "A second answer writes N bytes, 1 for each module within h branches of one module and 0 otherwise": 14 to 18, 41, 79;
+/// the rest of the buffer keeps. Modules of other parts get 0.
 pub fn near(plan: &Plan, from: u16, h: u32, out: &mut [u8]) -> Result<(), u32> {
     plan.check()?;
     if from >= plan.modules {
@@ -49,11 +50,10 @@ pub fn across(plan: &Plan, k: u16, v: u16) -> u16 {
     link.lower + link.higher - v
 }
 
-/// The links of the tree between two modules, by a search in depth.
-pub fn tree_path(plan: &Plan, from: u16, to: u16) -> Vec<u16> {
+/// The links of the tree between two modules, by a search in depth; none where they are in different parts.
+pub fn tree_path(plan: &Plan, from: u16, to: u16) -> Option<Vec<u16>> {
     let mut path = Vec::new();
-    assert!(descend(plan, &kruskal::tree(plan), from, to, &mut path), "a tree joins all modules");
-    path
+    descend(plan, &kruskal::tree(plan), from, to, &mut path).then_some(path)
 }
 
 /// Goes on from module v, and not back over the link that it came by; false where `to` lies elsewhere, the path as it was.
@@ -74,7 +74,7 @@ fn descend(plan: &Plan, tree: &[u8], v: u16, to: u16, path: &mut Vec<u16>) -> bo
     false
 }
 
-/// How many branches each module is away from one, by a search in breadth.
+/// How many branches each module is away from one, by a search in breadth; none in another part.
 pub fn hops(plan: &Plan, from: u16) -> Vec<Option<u32>> {
     let tree = kruskal::tree(plan);
     let mut hops = vec![None; plan.modules as usize];

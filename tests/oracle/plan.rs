@@ -26,7 +26,7 @@ pub fn be16(bytes: &[u8], at: usize) -> u16 {
     u16::from_be_bytes([bytes[at], bytes[at + 1]])
 }
 
-/// Reads a plan, or answers the first of the refusals 11 to 19 that applies.
+/// Reads a plan, or answers the first of the refusals 11 to 18 that applies.
 pub fn read(bytes: &[u8]) -> Result<Plan, u32> {
     if bytes.len() < 3 {
         return Err(11);
@@ -56,7 +56,7 @@ pub fn read(bytes: &[u8]) -> Result<Plan, u32> {
     Ok(plan)
 }
 
-/// Writes a plan at the front of `out`, or answers 14 to 19, then 22; bytes past the plan keep.
+/// Writes a plan at the front of `out`, or answers 14 to 18, then 22; bytes past the plan keep.
 pub fn write(plan: &Plan, out: &mut [u8]) -> Result<usize, u32> {
     plan.check()?;
     let bytes = plan.encode();
@@ -68,7 +68,7 @@ pub fn write(plan: &Plan, out: &mut [u8]) -> Result<usize, u32> {
 }
 
 impl Plan {
-    /// Refusals 14 to 19 of a plan value. There is no length here, so 15 is for L above 600 alone.
+    /// Refusals 14 to 18 of a plan value. There is no length here, so 15 is for L above 600 alone.
     pub fn check(&self) -> Result<(), u32> {
         if self.modules > MOST_MODULES {
             return Err(14);
@@ -90,32 +90,37 @@ impl Plan {
                 return Err(18);
             }
         }
-        if !self.connected() {
-            return Err(19);
-        }
         Ok(())
     }
 
-    /// Every module is reached from module 0 over links; where there is none, nobody is left out.
-    fn connected(&self) -> bool {
-        let mut reached = vec![false; self.modules as usize];
-        if let Some(first) = reached.first_mut() {
-            *first = true;
-        }
+    /// "A plan in several parts": for each module the lowest one of its part, the modules that links lead to from it. The
+    /// lower of two labels is carried over the links until nothing changes.
+    pub fn parts(&self) -> Vec<u16> {
+        let mut lowest: Vec<u16> = (0..self.modules).collect();
         loop {
-            let mut grown = false;
+            let mut changed = false;
             for link in &self.links {
                 let (a, b) = (link.lower as usize, link.higher as usize);
-                if reached[a] != reached[b] {
-                    reached[a] = true;
-                    reached[b] = true;
-                    grown = true;
-                }
+                let least = lowest[a].min(lowest[b]);
+                changed |= lowest[a] != lowest[b];
+                (lowest[a], lowest[b]) = (least, least);
             }
-            if !grown {
-                return reached.iter().all(|r| *r);
+            if !changed {
+                return lowest;
             }
         }
+    }
+
+    /// The lowest module of each part, by number.
+    pub fn lowest_modules(&self) -> Vec<u16> {
+        let parts = self.parts();
+        (0..self.modules).filter(|v| parts[*v as usize] == *v).collect()
+    }
+
+    /// The modules of v's part, by number.
+    pub fn part_of(&self, v: u16) -> Vec<u16> {
+        let parts = self.parts();
+        (0..self.modules).filter(|u| parts[*u as usize] == parts[v as usize]).collect()
     }
 
     /// The bytes, whatever the values are: the generators of damaged plans write refused ones too.

@@ -18,14 +18,8 @@ pub enum Readings {
     Extreme,
 }
 
-pub const READINGS: [Readings; 6] = [
-    Readings::Wide,
-    Readings::Few,
-    Readings::Same,
-    Readings::SameCost,
-    Readings::SameSum,
-    Readings::Extreme,
-];
+pub const READINGS: [Readings; 6] =
+    [Readings::Wide, Readings::Few, Readings::Same, Readings::SameCost, Readings::SameSum, Readings::Extreme];
 
 type Pairs = Vec<(u16, u16)>;
 
@@ -50,17 +44,31 @@ pub fn complete(n: u16) -> Pairs {
 
 /// A random spanning tree over shuffled modules, and further links up to l in all where there is room.
 pub fn connected(rng: &mut Rng, n: u16, l: usize) -> Pairs {
+    in_parts(rng, n, 1, l)
+}
+
+/// So many parts of drawn sizes over shuffled modules, each a random tree, and further links within parts, up to l in all
+/// where there is room.
+pub fn in_parts(rng: &mut Rng, n: u16, count: usize, l: usize) -> Pairs {
     let mut order: Vec<u16> = (0..n).collect();
     rng.shuffle(&mut order);
-    let mut pairs = BTreeSet::new();
-    for i in 1..n as usize {
-        let (a, b) = (order[rng.below(i)], order[i]);
-        pairs.insert((a.min(b), a.max(b)));
+    // each part has a module, the others go anywhere
+    let mut part = vec![0; n as usize];
+    for (i, v) in order.iter().enumerate() {
+        part[*v as usize] = if i < count || count == 1 { i % count } else { rng.below(count) };
     }
-    let room = n as usize * (n as usize).saturating_sub(1) / 2;
+    let members = |p: usize| order.iter().copied().filter(|v| part[*v as usize] == p).collect::<Vec<u16>>();
+    let (mut pairs, mut room) = (BTreeSet::new(), 0);
+    for members in (0..count).map(members) {
+        for i in 1..members.len() {
+            let (a, b) = (members[rng.below(i)], members[i]);
+            pairs.insert((a.min(b), a.max(b)));
+        }
+        room += members.len() * members.len().saturating_sub(1) / 2;
+    }
     while pairs.len() < l.min(room).min(MOST_LINKS) {
         let (a, b) = (rng.below(n as usize) as u16, rng.below(n as usize) as u16);
-        if a != b {
+        if a != b && part[a as usize] == part[b as usize] {
             pairs.insert((a.min(b), a.max(b)));
         }
     }
@@ -78,6 +86,17 @@ pub fn worse_reading() -> Plan {
     Plan { modules: 3, links: vec![link(0, 1, 3, 3), link(0, 2, 0, 5), link(1, 2, 4, 0)] }
 }
 
+/// Two banks of a river, no radio across the water: 0-1 with readings 3 and 3, 2-3 with readings 0 and 5.
+pub fn two_banks() -> Plan {
+    let link = |lower, higher, at_lower, at_higher| Link { lower, higher, at_lower, at_higher };
+    Plan { modules: 4, links: vec![link(0, 1, 3, 3), link(2, 3, 0, 5)] }
+}
+
+/// So many modules, and no link.
+pub fn unlinked(n: u16) -> Plan {
+    Plan { modules: n, links: vec![] }
+}
+
 /// The plan of n modules and these links, ascending, with drawn readings.
 pub fn plan(rng: &mut Rng, n: u16, mut pairs: Pairs, readings: Readings) -> Plan {
     pairs.sort();
@@ -88,7 +107,11 @@ pub fn plan(rng: &mut Rng, n: u16, mut pairs: Pairs, readings: Readings) -> Plan
         Readings::Same => (same, same),
         Readings::SameCost => {
             let drawn = rng.below(2 * (same as usize + 1)) as u16;
-            if drawn % 2 == 0 { (drawn / 2, same) } else { (same, drawn / 2) }
+            if drawn % 2 == 0 {
+                (drawn / 2, same)
+            } else {
+                (same, drawn / 2)
+            }
         }
         Readings::SameSum => {
             let a = rng.range(0, same as usize) as u16;
@@ -103,8 +126,14 @@ pub fn plan(rng: &mut Rng, n: u16, mut pairs: Pairs, readings: Readings) -> Plan
     Plan { modules: n, links: links.collect() }
 }
 
-pub const KINDS: [&str; 10] =
-    ["blank", "single", "path", "star", "ring", "complete", "tree", "small", "medium", "full"];
+#[rustfmt::skip]
+pub const KINDS: [&str; 15] = [
+    "blank", "single", "path", "star", "ring", "complete", "tree", "small", "medium", "full",
+    "banks", "forest", "islands", "unlinked", "wide",
+];
+
+/// The kinds of plans in several parts: a few large ones, trees, many small ones, modules without links, the largest plan.
+pub const IN_PARTS: [&str; 5] = ["banks", "forest", "islands", "unlinked", "wide"];
 
 pub fn kinds_without(left_out: &[&str]) -> Vec<&'static str> {
     KINDS.into_iter().filter(|kind| !left_out.contains(kind)).collect()
@@ -151,9 +180,31 @@ pub fn good(rng: &mut Rng, kind: &str) -> Plan {
             let l = rng.range(n as usize - 1, 4 * n as usize);
             (n, connected(rng, n, l))
         }
-        _ => (MOST_MODULES, connected(rng, MOST_MODULES, MOST_LINKS)),
+        "full" => (MOST_MODULES, connected(rng, MOST_MODULES, MOST_LINKS)),
+        _ => parted(rng, kind),
     };
     plan(rng, n, pairs, readings)
+}
+
+/// The modules and links of a plan in several parts.
+fn parted(rng: &mut Rng, kind: &str) -> (u16, Pairs) {
+    let most = rng.pick(&[4, 12, 60, 192]);
+    let n = match kind {
+        "banks" => rng.range(4, most.min(60)),
+        "islands" => rng.range(3, 20),
+        "wide" => MOST_MODULES as usize,
+        _ => rng.range(2, most),
+    };
+    let some = rng.range(2, n);
+    let (count, l) = match kind {
+        "banks" => (rng.range(2, 3), rng.range(n - 2, 3 * n)),
+        "forest" => (some, 0),
+        "islands" => (some, rng.below(2 * n)),
+        "unlinked" => (n, 0),
+        "wide" => (rng.pick(&[2, 3, 8, 40]), MOST_LINKS),
+        _ => panic!("no kind of plan is {kind}"),
+    };
+    (n as u16, in_parts(rng, n as u16, count, l))
 }
 
 /// A value that a reading, a module number or a count may be damaged to: most lie at a bound.
@@ -176,7 +227,7 @@ fn damage_linkless(rng: &mut Rng, plan: &mut Plan) {
     }
 }
 
-/// Damages a plan value: its counts, an end of a link, the order of links, a reading, its connectedness.
+/// Damages a plan value: its counts, an end of a link, the order of links, a reading. Some damages only put modules apart.
 fn damage_value(rng: &mut Rng, plan: &mut Plan) {
     if plan.links.is_empty() {
         return damage_linkless(rng, plan);

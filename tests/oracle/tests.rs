@@ -7,9 +7,10 @@ use crate::kruskal;
 use crate::plan::{self, ceiling, Link, Plan, NONE};
 use crate::plans;
 use crate::report::report;
+use crate::rest::at_rest;
 use crate::rng::Rng;
 use crate::rounds;
-use crate::rules::{BRANCH, FOUND, REJECTED};
+use crate::rules::{BRANCH, FOUND};
 use crate::schedule::{self, Answer, Step};
 use crate::trace;
 
@@ -57,8 +58,10 @@ fn refused_plans() {
     let one = |reading| Plan { modules: 2, links: links(&[(0, 1, reading, 0)]) };
     assert_eq!(refusal(&one(2001).encode()), Some(18));
     assert_eq!(refusal(&one(2000).encode()), None);
-    assert_eq!(refusal(&Plan { modules: 2, links: vec![] }.encode()), Some(19));
-    assert_eq!(report(&Plan { modules: 2, links: vec![] }.encode()), "refused 19\n");
+    assert_eq!(report(&one(2001).encode()), "refused 18\n");
+    // no link is asked for, and none that joins all modules
+    assert_eq!((refusal(&plans::unlinked(2).encode()), refusal(&plans::unlinked(192).encode())), (None, None));
+    assert_eq!(refusal(&Plan { modules: 192, ..path(180) }.encode()), None);
 }
 
 #[test]
@@ -76,7 +79,8 @@ fn the_worse_reading_counts() {
     assert_eq!(report(&plan.encode()), lines);
     let plan = Plan { modules: 3, links: links(&[(0, 1, 4, 4), (0, 2, 4, 1), (1, 2, 0, 4)]) };
     assert_eq!(kruskal::tree(&plan), [0, 1, 1]);
-    let plan = Plan { modules: 6, links: links(&[(0, 1, 3, 3), (0, 2, 0, 5), (0, 3, 4, 1), (0, 4, 4, 0), (0, 5, 0, 4)]) };
+    let plan =
+        Plan { modules: 6, links: links(&[(0, 1, 3, 3), (0, 2, 0, 5), (0, 3, 4, 1), (0, 4, 4, 0), (0, 5, 0, 4)]) };
     let mut rising = [0, 1, 2, 3, 4];
     rising.sort_by_key(|k| plan.key(*k));
     assert_eq!(rising, [0, 3, 4, 2, 1]);
@@ -183,34 +187,17 @@ fn spoilt_fields() {
     assert!(!spoil(&|f, _| f.sent = 19));
 }
 
-/// What demand 3 says of a field at rest, and that no call left the field invalid or passed the ceiling.
-fn at_rest(field: &Field, words: &[u64]) {
-    assert_eq!(waiting(words), 0);
-    assert_eq!(field.check(words), Ok(()));
-    assert!(field.sent <= field.plan.ceiling());
-    let tree = kruskal::tree(&field.plan);
-    for (k, in_tree) in tree.iter().enumerate() {
-        let mark = if *in_tree == 1 { BRANCH } else { REJECTED };
-        assert_eq!(field.marks[k], [mark, mark]);
-    }
-    let halted: Vec<u16> = (0..field.plan.modules).filter(|v| field.modules[*v as usize].halted == 1).collect();
-    if field.plan.modules < 2 {
-        assert_eq!(halted.len(), field.modules.len());
-    } else {
-        let core = field.plan.links.iter().position(|l| halted == [l.lower, l.higher]);
-        assert_eq!(tree[core.expect("the halted modules are the ends of a link")], 1);
-    }
-}
-
 #[test]
 fn rounds_end_with_the_tree() {
     let mut rng = Rng::new(1);
-    for i in 0..180 {
+    for i in 0..270 {
         let kind = plans::KINDS[i % plans::KINDS.len()];
         let plan = plans::good(&mut rng, kind);
         let (mut field, mut words) = set_up(&plan.encode());
+        let mut woken = Vec::new();
         if plan.modules > 0 {
-            field.step(&mut words, WAKE, rng.below(plan.modules as usize) as u16).unwrap();
+            woken.push(rng.below(plan.modules as usize) as u16);
+            field.step(&mut words, WAKE, woken[0]).unwrap();
         }
         let mut sent = 0;
         while waiting(&words) > 0 {
@@ -218,16 +205,17 @@ fn rounds_end_with_the_tree() {
             assert!(field.sent >= sent);
             sent = field.sent;
         }
-        at_rest(&field, &words);
+        at_rest(&field, &words, &woken);
     }
 }
 
-/// Any order of steps: at each one the field stays valid, branches lie in the tree, and the end is the same tree.
+/// Any order of steps, wakes among them: at each one the field stays valid, branches lie in the tree, and the end is the
+/// same tree in each part that was woken.
 #[test]
 fn random_orders_end_with_the_tree() {
     let mut rng = Rng::new(2);
     for _ in 0..200 {
-        let kind = rng.pick(&["path", "ring", "complete", "tree", "small", "medium"]);
+        let kind = rng.pick(&["path", "ring", "complete", "tree", "small", "medium", "banks", "forest", "islands"]);
         let plan = plans::good(&mut rng, kind);
         if plan.modules > 40 {
             continue;
@@ -235,7 +223,8 @@ fn random_orders_end_with_the_tree() {
         let tree = kruskal::tree(&plan);
         let (mut field, mut words) = set_up(&plan.encode());
         words.truncate(plan.ceiling() as usize);
-        field.step(&mut words, WAKE, rng.below(plan.modules as usize) as u16).unwrap();
+        let mut woken = vec![rng.below(plan.modules as usize) as u16];
+        field.step(&mut words, WAKE, woken[0]).unwrap();
         while waiting(&words) > 0 {
             if rng.once_in(plan.modules as usize) {
                 assert_eq!(field.check(&words), Ok(()));
@@ -243,12 +232,14 @@ fn random_orders_end_with_the_tree() {
             }
             let kind = rng.pick(&[WAKE, HAND_OVER, HAND_OVER, SERVE, SERVE]);
             let bound = if kind == HAND_OVER { 2 * plan.links.len() } else { plan.modules as usize };
-            match field.take(&mut words, kind, rng.below(bound) as u16) {
+            let number = rng.below(bound) as u16;
+            match field.take(&mut words, kind, number) {
+                Ok(_) if kind == WAKE => woken.push(number),
                 Ok(_) | Err(43 | 44 | 45) => {}
                 Err(refusal) => panic!("refused {refusal}"),
             }
         }
-        at_rest(&field, &words);
+        at_rest(&field, &words, &woken);
     }
 }
 
@@ -261,6 +252,7 @@ fn steps_of_any_valid_field() {
         let kind = match i % 20 {
             0 => "single",
             1 => "blank",
+            2..=5 => plans::IN_PARTS[i % 4],
             _ => "small",
         };
         let plan = plans::good(&mut rng, kind);
@@ -292,7 +284,7 @@ fn steps_of_any_valid_field() {
 #[test]
 fn plans_are_good_and_come_back() {
     let mut rng = Rng::new(3);
-    for i in 0..900 {
+    for i in 0..1200 {
         let plan = plans::good(&mut rng, plans::KINDS[i % plans::KINDS.len()]);
         let bytes = plan.encode();
         assert_eq!(plan::read(&bytes), Ok(plan.clone()));
@@ -307,8 +299,8 @@ fn plans_are_good_and_come_back() {
 #[test]
 fn kruskal_keeps_the_path_rule() {
     let mut rng = Rng::new(4);
-    for _ in 0..300 {
-        let plan = plans::good(&mut rng, "small");
+    for i in 0..450 {
+        let plan = plans::good(&mut rng, ["small", "small", "islands", "banks"][i % 4]);
         let tree = kruskal::tree(&plan);
         for k in 0..plan.links.len() as u16 {
             let mut parts = kruskal::Parts::new(plan.modules as usize);

@@ -34,7 +34,7 @@ fn read_and_written() {
 /// "Refusal 14 is now only for N above 192; a link in such a plan meets 16", and 15 comes before it.
 #[test]
 fn refused_plans() {
-    for (n, refusal) in [(0, None), (1, None), (2, Some(19)), (192, Some(19)), (193, Some(14)), (65535, Some(14))] {
+    for (n, refusal) in [(0, None), (1, None), (2, None), (192, None), (193, Some(14)), (65535, Some(14))] {
         let plan = Plan { modules: n, links: vec![] };
         assert_eq!((plan::read(&plan.encode()).err(), plan.check().err()), (refusal, refusal), "{n} modules");
     }

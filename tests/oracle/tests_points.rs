@@ -153,7 +153,7 @@ fn some_point(rng: &mut Rng) -> (Field, Vec<u64>) {
     if rng.once_in(2) {
         return some_field(rng);
     }
-    let kind = rng.pick(&["single", "path", "ring", "small", "medium"]);
+    let kind = rng.pick(&["single", "path", "ring", "small", "medium", "banks", "islands", "unlinked"]);
     let (mut field, mut words) = set_up(&plans::good(rng, kind).encode());
     for _ in 0..rng.below(30) {
         let step = good_step(rng, &field, &words);

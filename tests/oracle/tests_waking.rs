@@ -142,7 +142,8 @@ fn chains() {
     let mut rng = Rng::new(5);
     let (mut longest, mut off_tree) = (0, 0);
     for i in 0..300 {
-        let kind = rng.pick(&["single", "path", "ring", "tree", "complete", "small", "small", "medium"]);
+        let kind =
+            rng.pick(&["single", "path", "ring", "tree", "complete", "small", "small", "medium", "banks", "islands"]);
         let plan = plans::good(&mut rng, kind);
         if plan.modules > 40 {
             continue;

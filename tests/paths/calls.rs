@@ -38,11 +38,13 @@ pub fn compare_path(
     let beside: Vec<u16> = (0..2 * GUARD).map(|_| rng.next() as u16).collect();
     let before: Vec<u16> = (0..room).map(|_| rng.next() as u16).collect();
     let mut after = before.clone();
+    let nothing = PathFound { refusal: 0, way: 0, length: 0, worst: NONE };
     let answer = match between(plan, from, to, &mut after) {
-        Ok(path) => PathFound { refusal: 0, length: path.length, worst: path.worst },
-        Err(refusal) => PathFound { refusal, length: 0, worst: NONE },
+        Ok(Some(path)) => PathFound { refusal: 0, way: 1, length: path.length, worst: path.worst },
+        Ok(None) => nothing,
+        Err(refusal) => PathFound { refusal, ..nothing },
     };
-    assert!(answer.refusal == 0 || after == before, "a refusal changes nothing");
+    assert!(answer.way == 1 || after == before, "a refusal, or no way, changes nothing");
     let behind = answer.length as usize..;
     assert!(answer.refusal != 0 || after[behind.clone()] == before[behind], "the rest keeps");
     let numbers = muruapy::numbers(plan, rng);
@@ -68,6 +70,6 @@ pub fn compare_near(
     assert!(answer != 0 || after[behind.clone()] == before[behind], "the rest keeps");
     let numbers = muruapy::numbers(plan, rng);
     same(&numbers, &beside, [&before, &after], answer, |plan, marks| muruapy::near(plan, from, h, marks));
-    tally.near(plan, h, &after, answer);
+    tally.near(plan, (from, h), &after, answer);
     (answer, after)
 }

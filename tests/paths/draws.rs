@@ -1,5 +1,6 @@
 //! Modules, numbers of branches and sizes of buffers, most of them at a bound.
 
+use oracle::path::tree_path;
 use oracle::plan::Plan;
 use oracle::rng::Rng;
 
@@ -22,6 +23,11 @@ pub fn some_branches(rng: &mut Rng, plan: &Plan) -> u32 {
     let (within, any, few) = (rng.below(n.max(1) as usize) as u32, rng.next() as u32, rng.range(1, 4) as u32);
     let most = n.saturating_sub(1);
     rng.pick(&[0, few, within, within, most.saturating_sub(1), most, n, 255, 256, 257, 65536, any, u32::MAX])
+}
+
+/// How many numbers a path needs; none where there is no way.
+pub fn needed(plan: &Plan, from: u16, to: u16) -> usize {
+    tree_path(plan, from, to).map_or(0, |path| path.len())
 }
 
 /// Sizes of a buffer that needs so many places: just enough, one too few, none, more, and any fewer.

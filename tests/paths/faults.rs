@@ -2,9 +2,8 @@
 //! numbers.
 
 use crate::calls::{compare_near, compare_path};
-use crate::draws::{no_module, some_branches, some_module};
+use crate::draws::{needed, no_module, some_branches, some_module};
 use crate::tally::Tally;
-use oracle::path::tree_path;
 use oracle::plan::{Plan, NONE};
 use oracle::plans;
 use oracle::rng::Rng;
@@ -12,6 +11,7 @@ use oracle::rng::Rng;
 pub const DAMAGED: usize = 1200;
 pub const BLANK: usize = 60;
 pub const ORDERS: usize = 25;
+pub const APART: usize = 300;
 
 /// A number that may be a module's.
 fn any_module(rng: &mut Rng, plan: &Plan) -> u16 {
@@ -54,7 +54,7 @@ enum Fault {
     Room,
 }
 
-/// A good plan of two modules or more, so that a path may need room, and with room for one more module and link.
+/// A good plan of two modules or more in one part, so that a path may need room, and with room for one more module and link.
 fn plan_of_two(rng: &mut Rng) -> Plan {
     let kind = rng.pick(&["path", "star", "ring", "complete", "tree", "small", "medium"]);
     let plan = plans::good(rng, kind);
@@ -65,17 +65,16 @@ fn plan_of_two(rng: &mut Rng) -> Plan {
     }
 }
 
-/// Damages a plan so that it is refused by one of 14 to 19: the number. Its modules stay below N.
+/// Damages a plan so that it is refused by one of 14 to 18: the number. Its modules stay below N.
 fn break_plan(rng: &mut Rng, plan: &mut Plan) -> u32 {
-    let number = rng.range(14, 19) as u32;
+    let number = rng.range(14, 18) as u32;
     let last = plan.links.len() - 1;
     match number {
         14 => plan.modules = rng.pick(&[193, 600, 65535]),
         15 => plan.links = vec![plan.links[0]; 601],
         16 => plan.links[last].higher = plan.modules,
         17 => plan.links.push(plan.links[last]),
-        18 => plan.links[last].at_higher = 2001,
-        _ => plan.modules += 1,
+        _ => plan.links[last].at_higher = 2001,
     }
     assert_eq!(plan.check(), Err(number), "{plan:?}");
     number
@@ -86,7 +85,7 @@ fn faulty(rng: &mut Rng, tally: &mut Tally, faults: &[Fault], path: bool) {
     let mut plan = plan_of_two(rng);
     let from = some_module(rng, &plan);
     let to = (from + 1 + rng.below(plan.modules as usize - 1) as u16) % plan.modules;
-    let needed = if path { tree_path(&plan, from, to).len() } else { plan.modules as usize };
+    let needed = if path { needed(&plan, from, to) } else { plan.modules as usize };
     let (mut modules, mut room, mut broken) = ([from, to], needed + rng.below(3), 0);
     for fault in faults {
         match fault {
@@ -110,8 +109,31 @@ fn faulty(rng: &mut Rng, tally: &mut Tally, faults: &[Fault], path: bool) {
         Some(Fault::Room) => 79,
     };
     assert_eq!(answer, first, "path {path}, {faults:?}");
-    let name = if (14..=19).contains(&first) { "14 to 19".to_string() } else { first.to_string() };
+    let name = if (14..=18).contains(&first) { "14 to 18".to_string() } else { first.to_string() };
     tally.count(format!("faults: {}, {name} first", if path { "path" } else { "near" }));
+}
+
+/// Between parts: "no way" comes behind the plan's refusals and 41, and before 79, so that no room is needed.
+pub fn apart(rng: &mut Rng, tally: &mut Tally) {
+    for i in 0..APART {
+        let mut plan = plans::good(rng, plans::IN_PARTS[i % plans::IN_PARTS.len()]);
+        let (from, to) = (some_module(rng, &plan), some_module(rng, &plan));
+        if plan.part_of(from).contains(&to) {
+            continue;
+        }
+        for room in [0, 1, 191] {
+            let found = compare_path(rng, tally, &plan, [from, to], room).0;
+            assert_eq!((found.refusal, found.way), (0, 0), "from {from} to {to}");
+        }
+        for modules in [[from, NONE], [NONE, to]] {
+            assert_eq!(compare_path(rng, tally, &plan, modules, 0).0.refusal, 41, "{modules:?}");
+        }
+        if !plan.links.is_empty() && plan.links.len() < 600 {
+            let number = break_plan(rng, &mut plan);
+            assert_eq!(compare_path(rng, tally, &plan, [from, to], 0).0.refusal, number);
+            tally.count("faults: no way, 14 to 18 first");
+        }
+    }
 }
 
 /// Every set of faults of either call: how many calls.

@@ -2,8 +2,8 @@
 //! with drawn modules, all modules of small plans, the longest path, each with buffers that are just long enough, longer,
 //! too short and empty; damaged plan values, every set of faults at once, the blank plan, and the request's own samples. The
 //! answer and the whole buffer must be the same, and what lies beside it. Then what the request says of the library's own
-//! answers: no links before the worst one join the two modules, back it is the same path turned round, the marks go by the
-//! paths' lengths, and so do the hops of the library's own cues. Prints counts, or panics at the first difference.
+//! answers: no links before the worst one join the two modules, back it is the same path turned round, "no way" exactly
+//! where no links join them, the marks go by the paths' lengths, and so do the hops of the library's own cues. Prints counts, or panics at the first difference.
 
 mod calls;
 mod claims;
@@ -17,22 +17,21 @@ mod samples;
 mod tally;
 
 use calls::{compare_near, compare_path};
-use draws::{no_module, rooms, some_branches, some_module};
-use oracle::path::tree_path;
+use draws::{needed, no_module, rooms, some_branches, some_module};
 use oracle::plan::Plan;
 use oracle::plans;
 use oracle::rng::Rng;
 use tally::Tally;
 
-const DRAWN: usize = 800;
-const SMALL: usize = 60;
+const DRAWN: usize = 1100;
+const SMALL: usize = 100;
 const LONGEST: usize = 6;
 
 /// Paths between modules of a plan and marks near them, with all sizes of buffers, and modules that are not there.
 fn asked(rng: &mut Rng, tally: &mut Tally, plan: &Plan) {
     for _ in 0..3 {
         let modules @ [from, to] = [some_module(rng, plan), some_module(rng, plan)];
-        for room in rooms(rng, tree_path(plan, from, to).len()) {
+        for room in rooms(rng, needed(plan, from, to)) {
             compare_path(rng, tally, plan, modules, room);
         }
         for room in rooms(rng, plan.modules as usize) {
@@ -59,10 +58,14 @@ fn drawn(rng: &mut Rng, tally: &mut Tally) {
 /// Every two modules, and every number of branches.
 fn small(rng: &mut Rng, tally: &mut Tally) {
     for _ in 0..SMALL {
-        let plan = plans::good(rng, "small");
+        let kind = rng.pick(&["small", "small", "islands", "banks"]);
+        let plan = plans::good(rng, kind);
+        if plan.modules > 12 {
+            continue;
+        }
         for from in 0..plan.modules {
             for to in 0..plan.modules {
-                compare_path(rng, tally, &plan, [from, to], tree_path(&plan, from, to).len());
+                compare_path(rng, tally, &plan, [from, to], needed(&plan, from, to));
             }
             for h in 0..=plan.modules as u32 {
                 compare_near(rng, tally, &plan, (from, h), plan.modules as usize);
@@ -97,6 +100,7 @@ fn main() {
     let cues = claims::of_cues(&mut rng, &mut tally);
     faults::damaged_plans(&mut rng, &mut tally);
     faults::blank(&mut rng, &mut tally);
+    faults::apart(&mut rng, &mut tally);
     let faulty = faults::orders(&mut rng, &mut tally);
     println!(
         "paths: {} calls agree, on {} good plans and {} damaged plan values, {faulty} of them with faults drawn together; \

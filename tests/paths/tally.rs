@@ -1,8 +1,8 @@
 //! Counts what the two calls come to: the answers, and what was asked for.
 
 use crate::counts::{Counts, Wanted};
+use crate::draws::needed;
 use crate::muruapy::PathFound;
-use oracle::path::tree_path;
 use oracle::plan::{Plan, NONE};
 
 #[derive(Default)]
@@ -16,39 +16,44 @@ pub struct Tally {
 #[rustfmt::skip]
 const WANTED: &Wanted = &[
     ("path answers", &[
-        ("0", 4900), ("14", 84), ("15", 29), ("16", 180), ("17", 61), ("18", 52), ("19", 80), ("41", 1300),
-        ("79", 2600),
+        ("0", 7800), ("14", 90), ("15", 44), ("16", 170), ("17", 66), ("18", 58), ("41", 2000),
+        ("79", 2500),
     ]),
-    ("path 41:", &[("both modules", 430), ("the first module", 440), ("the second module", 470)]),
+    ("path 41:", &[("both modules", 610), ("the first module", 700), ("the second module", 740)]),
     ("path:", &[
-        ("1 link", 840), ("17 to 190 links", 260), ("191 links", 13), ("2 to 16 links", 2200), ("no link", 1500),
+        ("1 link", 900), ("17 to 190 links", 230), ("191 links", 12), ("2 to 16 links", 2300), ("no link", 1900),
     ]),
     ("path, worst:", &[
-        ("a link within", 720), ("none", 1500), ("the first link", 910), ("the last link", 940),
-        ("the only link", 840),
+        ("a link within", 760), ("none", 1900), ("the first link", 890), ("the last link", 900),
+        ("the only link", 900),
     ]),
     ("path, room:", &[
-        ("just enough", 1600), ("more than enough", 2400), ("nothing lent", 1400),
-        ("nothing lent, nothing needed", 820), ("one too few", 850), ("too few", 340),
+        ("just enough", 1700), ("more than enough", 2600), ("nothing lent", 1400),
+        ("nothing lent, nothing needed", 1000), ("one too few", 830), ("too few", 330),
     ]),
     ("near answers", &[
-        ("0", 4700), ("14", 77), ("15", 21), ("16", 170), ("17", 54), ("18", 44), ("19", 70), ("41", 1200),
-        ("79", 3600),
+        ("0", 6900), ("14", 67), ("15", 29), ("16", 150), ("17", 46), ("18", 35), ("41", 1700),
+        ("79", 5000),
     ]),
-    ("near, h:", &[("0", 640), ("1 to N - 2", 1400), ("4294967295", 280), ("N - 1", 510), ("N or more", 1900)]),
+    ("near, h:", &[("0", 850), ("1 to N - 2", 2300), ("4294967295", 380), ("N - 1", 690), ("N or more", 2600)]),
     ("near, room:", &[
-        ("just enough", 2300), ("more than enough", 2400), ("nothing lent", 1600), ("one too few", 1200),
-        ("too few", 830),
+        ("just enough", 3500), ("more than enough", 3400), ("nothing lent", 2100), ("one too few", 1700),
+        ("too few", 1200),
     ]),
-    ("near:", &[("all modules", 3600), ("some modules", 650), ("the module alone", 480)]),
-    ("modules:", &[("1", 950), ("192", 880), ("2", 450), ("3 to 191", 7400)]),
-    ("blank plan:", &[("near 41", 66), ("path 41", 66)]),
+    ("near:", &[
+        ("all modules", 3200), ("some modules", 710), ("the module alone", 610), ("0 for other parts", 2600),
+        ("a part of one", 930), ("all of a part", 1400),
+    ]),
+    ("modules:", &[("1", 840), ("192", 1200), ("2", 640), ("3 to 191", 9500)]),
+    ("blank plan:", &[("near 41", 52), ("path 41", 52)]),
     ("faults:", &[
-        ("near, 0 first", 25), ("near, 14 to 19 first", 100), ("near, 41 first", 50), ("near, 79 first", 25),
-        ("path, 0 first", 25), ("path, 14 to 19 first", 200), ("path, 41 first", 150), ("path, 79 first", 25),
+        ("near, 0 first", 25), ("near, 14 to 18 first", 100), ("near, 41 first", 50), ("near, 79 first", 25),
+        ("no way, 14 to 18 first", 52),
+        ("path, 0 first", 25), ("path, 14 to 18 first", 200), ("path, 41 first", 150), ("path, 79 first", 25),
     ]),
-    ("claims:", &[("marks", 180), ("the same module", 100), ("two different modules", 290)]),
-    ("a cue's hops:", &[("0", 30), ("1", 47), ("2", 46), ("3 or more", 100)]),
+    ("no way:", &[("no room", 1300), ("with room", 1000), ("no link at all", 660), ("links elsewhere", 1700)]),
+    ("claims:", &[("no way", 130), ("marks", 270), ("the same module", 130), ("two different modules", 280)]),
+    ("a cue's hops:", &[("0", 30), ("1", 42), ("2", 52), ("3 or more", 89), ("another part", 100)]),
 ];
 
 /// How a buffer's size is to what it needs.
@@ -90,10 +95,17 @@ impl Tally {
                 (true, false) => "path 41: the first module",
                 _ => "path 41: the second module",
             }),
-            79 => self.count(format!("path, room: {}", fits(links.len(), tree_path(plan, from, to).len()))),
+            79 => self.count(format!("path, room: {}", fits(links.len(), needed(plan, from, to)))),
+            0 if found.way == 0 => self.no_way(plan, links),
             0 => self.taken(plan, links, found),
             _ => {}
         }
+    }
+
+    /// Between parts, with so many numbers lent.
+    fn no_way(&mut self, plan: &Plan, links: &[u16]) {
+        self.count(if links.is_empty() { "no way: no room" } else { "no way: with room" });
+        self.count(if plan.links.is_empty() { "no way: no link at all" } else { "no way: links elsewhere" });
     }
 
     fn taken(&mut self, plan: &Plan, links: &[u16], found: PathFound) {
@@ -119,7 +131,7 @@ impl Tally {
     }
 
     /// Marks of the modules within h branches of one, the bytes as the call left them.
-    pub fn near(&mut self, plan: &Plan, h: u32, marks: &[u8], answer: u32) {
+    pub fn near(&mut self, plan: &Plan, (from, h): (u16, u32), marks: &[u8], answer: u32) {
         let blank = plan.modules == 0 && plan.links.is_empty();
         self.calls += 1;
         self.count(format!("{} {answer}", if blank { "blank plan: near" } else { "near answers" }));
@@ -138,11 +150,17 @@ impl Tally {
             _ if h >= n => "near, h: N or more",
             _ => "near, h: 1 to N - 2",
         });
+        let part = plan.part_of(from).len();
         self.count(match marks[..n as usize].iter().filter(|mark| **mark == 1).count() {
             count if count == n as usize => "near: all modules",
+            1 if part == 1 => "near: a part of one",
             1 => "near: the module alone",
+            count if count == part => "near: all of a part",
             _ => "near: some modules",
         });
+        if part < n as usize {
+            self.count("near: 0 for other parts");
+        }
     }
 
     pub fn report(&self) {

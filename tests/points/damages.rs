@@ -84,7 +84,7 @@ fn version_2(plan: &Plan) -> Vec<u8> {
 type Damage = fn(&mut Rng, &Site, &mut Parts);
 
 #[rustfmt::skip]
-const RECORDS: [(&str, Damage); 31] = [
+const RECORDS: [(&str, Damage); 30] = [
     ("no name", |_, _, p| p.name.clear()),
     ("a name of 13 letters", |_, _, p| p.name = b"abcdefghijklm".to_vec()),
     ("a name with another byte", |r, _, p| p.name = loop { let n = bad_name(r); if (1..13).contains(&n.len()) { break n } }),
@@ -96,7 +96,6 @@ const RECORDS: [(&str, Damage); 31] = [
     ("a plan's L", |r, _, p| add(&mut p.plan, 5, r.pick(&[1, -1, 600, 20000]))),
     ("a plan's link", |r, _, p| put(&mut p.plan, 7, r.pick(&[192, 256, 65535]))),
     ("a plan's reading", |r, _, p| { let at = p.plan.len() - 2; put(&mut p.plan, at, r.pick(&[2001, 65535])) }),
-    ("a plan of two parts", |_, s, p| apart(s, p)),
     ("status 256", |_, s, p| high_status(s, p)),
     ("status 3", |r, s, p| value(r, s, p, 0, &[3, 4, 65535])),
     ("a level of more than 8 bits", |r, s, p| high(r, s, p, 1)),
@@ -132,12 +131,6 @@ fn high_status(s: &Site, p: &mut Parts) {
     let (all, _) = places(&s.field, 0);
     let asleep = all.iter().copied().find(|at| p.numbers[*at] == 0);
     p.numbers[asleep.unwrap_or(all[0])] = 256;
-}
-
-/// One module more, which no link reaches: its values stand at the end.
-fn apart(s: &Site, p: &mut Parts) {
-    put(&mut p.plan, 3, s.field.plan.modules + 1);
-    p.numbers.extend([0, 0, 65535, 65535, 65535, 65535, 65535, 0, 0, 65535]);
 }
 
 /// One word more than the ceiling, all sound and said to be sent.

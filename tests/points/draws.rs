@@ -42,7 +42,7 @@ pub fn small_site(rng: &mut Rng) -> Site {
 /// The same with messages that wait, and with links.
 pub fn busy_site(rng: &mut Rng) -> Site {
     loop {
-        let kind = rng.pick(&["path", "ring", "small"]);
+        let kind = rng.pick(&["path", "ring", "small", "banks", "islands"]);
         let plan = plans::good(rng, kind);
         let made = drawn(rng, &plan);
         if made.0.plan.ceiling() < 200 && oracle::field::waiting(&made.1) > 0 {

@@ -12,7 +12,7 @@ use oracle::rng::Rng;
 use oracle::schedule::Step;
 use oracle::{plans, rounds};
 
-pub const REHEARSALS: usize = 400;
+pub const REHEARSALS: usize = 600;
 
 /// What was saved under a name: the site as the library held it then, and the bytes of its record.
 struct Kept {
@@ -110,7 +110,7 @@ impl Rehearsal {
             7..=9 => self.restore(rng, tally),
             // another show, in the same store
             _ => {
-                let kind = rng.pick(&["blank", "single", "small", "ring", "tree"]);
+                let kind = rng.pick(&["blank", "single", "small", "ring", "tree", "banks", "unlinked"]);
                 let plan = plans::good(rng, kind);
                 self.site = set_up(rng, plan);
             }
@@ -129,6 +129,9 @@ fn back_again(rng: &mut Rng, tally: &mut Tally, kept: &Kept, site: &Site, store:
     let found = find(&again, &kept.name);
     assert!(again[found.at..found.at + found.size] == kept.bytes, "it is saved as other bytes");
     tally.count("rehearsal: saved again, the same bytes");
+    if site.field.plan.lowest_modules().len() > 1 {
+        tally.count("rehearsal: in several parts, back again");
+    }
 
     let (mut then, mut now) = (kept.site.clone(), site.clone());
     for _ in 0..rng.range(1, 15) {

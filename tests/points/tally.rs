@@ -11,26 +11,27 @@ pub struct Tally(Counts);
 /// for.)
 #[rustfmt::skip]
 const WANTED: &Wanted = &[
-    ("save answers", &[("0", 2100), ("31", 850), ("76", 3500), ("77", 140), ("78", 650)]),
+    ("save answers", &[("0", 2500), ("31", 830), ("76", 3500), ("77", 170), ("78", 780)]),
     ("save:", &[
-        ("a held name, 0", 950), ("a held name, 78", 120), ("a new name, 0", 1150), ("a new name, 78", 520),
+        ("a held name, 0", 1100), ("a held name, 78", 130), ("a new name, 0", 1300), ("a new name, 78", 640),
     ]),
-    ("find answers", &[("0", 1500), ("76", 3800), ("77", 1500)]),
-    ("find:", &[("a bad name", 120), ("not held", 1400), ("one of several records", 1250), ("the only record", 220)]),
-    ("restore answers", &[("0", 1250), ("21", 690), ("76", 3500), ("77", 1290)]),
+    ("find answers", &[("0", 1700), ("76", 3700), ("77", 2000)]),
+    ("find:", &[("a bad name", 120), ("not held", 1900), ("one of several records", 1500), ("the only record", 250)]),
+    ("restore answers", &[("0", 1200), ("21", 760), ("76", 3500), ("77", 1700)]),
     ("restore:", &[
-        ("just enough words", 680), ("more words than enough", 560), ("too few words", 360), ("no word", 330),
-        ("a bad name", 180), ("not held", 1100),
+        ("just enough words", 670), ("more words than enough", 590), ("too few words", 410), ("no word", 340),
+        ("a bad name", 230), ("not held", 1500),
     ]),
-    ("modules:", &[("none", 270), ("1", 240), ("2 to 16", 1350), ("17 to 191", 190), ("192", 60)]),
+    ("modules:", &[("none", 230), ("1", 220), ("2 to 16", 1600), ("17 to 191", 300), ("192", 99)]),
+    ("parts:", &[("several", 780)]),
     ("rehearsal:", &[
-        ("nothing held", 20), ("one point held", 50), ("several points held", 120), ("saved again, the same bytes", 180),
-        ("a step since the restore", 1380), ("to rest since the restore", 40),
+        ("nothing held", 32), ("one point held", 68), ("several points held", 190), ("saved again, the same bytes", 260),
+        ("a step since the restore", 2000), ("to rest since the restore", 61), ("in several parts, back again", 72),
     ]),
     ("damage:", &[
         ("a find count of more than 8 bits", 40), ("a level of more than 8 bits", 40), ("a name of 13 letters", 40),
         ("a name twice", 40), ("a name with another byte", 40), ("a number missing", 40), ("a number more", 40),
-        ("a plan of two parts", 40), ("a plan of version 2", 40), ("a plan's L", 40), ("a plan's N", 40),
+        ("a plan of version 2", 40), ("a plan's L", 40), ("a plan's N", 40),
         ("a plan's length too long", 40), ("a plan's length too short", 40), ("a plan's link", 40),
         ("a plan's reading", 40), ("a plan's version byte", 40), ("a record behind zeros", 40),
         ("a word 0 at the end", 40), ("a word 0 in place of the last", 40), ("a word 0 within", 40),
@@ -43,10 +44,10 @@ const WANTED: &Wanted = &[
     ]),
     ("31 alone:", &[]),
     ("76 by an item of 31:", &[]),
-    ("byte changed:", &[("76", 670), ("still a store", 70)]),
+    ("byte changed:", &[("76", 680), ("still a store", 66)]),
     ("room:", &[
         ("new, too short", 150), ("new, just enough", 150), ("new, more than enough", 300), ("held, too short", 45),
-        ("held, just enough", 45), ("held, more than enough", 200), ("shorter than before", 100), ("not shorter", 270),
+        ("held, just enough", 46), ("held, more than enough", 200), ("shorter than before", 110), ("not shorter", 260),
         ("the longest record", 8),
     ]),
     ("faults:", &[
@@ -79,6 +80,9 @@ impl Tally {
                 17..=191 => "modules: 17 to 191",
                 _ => "modules: 192",
             });
+            if field.plan.lowest_modules().len() > 1 {
+                self.count("parts: several");
+            }
         }
     }
 

@@ -27,7 +27,7 @@ use oracle::rules::{ASLEEP, BASIC, BRANCH, FOUND, REJECTED};
 use oracle::schedule::Step;
 use tally::Tally;
 
-const RUNS: usize = 90;
+const RUNS: usize = 140;
 const LONGEST: usize = 150;
 const VALID: usize = 2500;
 const STEPS: usize = 3;
@@ -38,6 +38,9 @@ const BLANK: usize = 100;
 /// Steps from setup on, of which most are taken, to rest or so many. How many they were.
 fn run(rng: &mut Rng, tally: &mut Tally, kind: &str) -> usize {
     let plan = plans::good(rng, kind);
+    if plan.lowest_modules().len() > 1 {
+        tally.count("runs: in several parts");
+    }
     let mut words = vec![7; plan.ceiling() as usize + rng.below(3)];
     let mut site = Site { field: setup_value(plan, &mut words).expect("a good plan"), words };
     for steps in 0..LONGEST {

@@ -12,25 +12,26 @@ pub struct Tally(Counts);
 #[rustfmt::skip]
 const WANTED: &Wanted = &[
     ("preview answers", &[
-        ("0", 13000), ("31", 1800), ("32", 500), ("33", 850), ("41", 330), ("42", 240), ("43", 1300), ("44", 1100),
-        ("45", 1800), ("54", 360), ("75", 3200),
+        ("0", 16000), ("31", 1800), ("32", 460), ("33", 790), ("41", 370), ("42", 420), ("43", 1400), ("44", 1100),
+        ("45", 2400), ("54", 420), ("75", 3900),
     ]),
     ("taken:", &[
-        ("handed over, 0 words", 1700), ("woken, 0 words", 40), ("woken, 1 word", 1300), ("served, 0 words", 300),
-        ("served, 1 word", 980), ("served, 2 words", 150), ("served, 3 to 189 words", 80), ("served, 190 words", 18),
-        ("served, 191 words", 9),
-        ("put back, 0 words", 1500), ("put back, 1 word", 200),
+        ("handed over, 0 words", 2100), ("woken, 0 words", 250), ("woken, 1 word", 1600), ("served, 0 words", 310),
+        ("served, 1 word", 1100), ("served, 2 words", 220), ("served, 3 to 189 words", 66), ("served, 190 words", 18),
+        ("served, 191 words", 10),
+        ("put back, 0 words", 1700), ("put back, 1 word", 210),
     ]),
     ("buffer:", &[
-        ("none, and none is needed", 3600), ("none, 75", 2800), ("one too few, 75", 340), ("fewer, 75", 80),
-        ("just enough", 2700), ("more than enough", 7200), ("none, for a refused step", 4000),
-        ("some, for a refused step", 4500),
+        ("none, and none is needed", 4400), ("none, 75", 3400), ("one too few, 75", 430), ("fewer, 75", 86),
+        ("just enough", 3300), ("more than enough", 8700), ("none, for a refused step", 4400),
+        ("some, for a refused step", 5000),
     ]),
     ("from setup:", &[
-        ("0", 4100), ("41", 40), ("42", 12), ("43", 180), ("44", 170), ("45", 330), ("54", 46), ("at rest", 17),
+        ("0", 5600), ("41", 76), ("42", 62), ("43", 290), ("44", 230), ("45", 570), ("54", 58), ("at rest", 32),
     ]),
+    ("runs:", &[("in several parts", 25)]),
     ("sent count:", &[("just the ceiling", 300), ("one beyond", 300), ("at the ceiling before", 300)]),
-    ("blank plan:", &[("31", 170), ("41", 670), ("42", 250), ("54", 200)]),
+    ("blank plan:", &[("31", 140), ("41", 550), ("42", 230), ("54", 330)]),
     ("31 alone:", &[]),
     ("faults:", &[]),
 ];

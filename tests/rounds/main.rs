@@ -18,13 +18,13 @@ use oracle::plans;
 use oracle::rng::Rng;
 use std::collections::BTreeMap;
 
-const WOKEN: usize = 90;
-const MADE_UP: usize = 1200;
+const WOKEN: usize = 140;
+const MADE_UP: usize = 1800;
 
 /// How each run must end, and how often at least: about half as often as with the seed of main.
-const LEAST: [(u32, usize); 4] = [(0, 220), (31, 95), (32, 240), (33, 35)];
+const LEAST: [(u32, usize); 4] = [(0, 330), (31, 160), (32, 350), (33, 48)];
 /// The same of the blank plan's.
-const BLANK: [(u32, usize); 2] = [(0, 55), (31, 10)];
+const BLANK: [(u32, usize); 2] = [(0, 48), (31, 11)];
 
 /// One run on both sides: its rounds and its refusal, or 0.
 fn compare(rng: &mut Rng, field: &Field, words: &[u64], limit: u16) -> (usize, u32) {
@@ -41,7 +41,7 @@ fn compare(rng: &mut Rng, field: &Field, words: &[u64], limit: u16) -> (usize, u
     got
 }
 
-/// Runs from one woken module to rest, on good plans of every kind that has one.
+/// Runs to rest from a woken module, or from one in each of some parts, on good plans of every kind that has one.
 fn woken(rng: &mut Rng) -> usize {
     let mut completed = 0;
     let kinds = plans::kinds_without(&["blank"]);
@@ -49,8 +49,11 @@ fn woken(rng: &mut Rng) -> usize {
         let plan = plans::good(rng, kinds[i % kinds.len()]);
         let mut words = vec![7; plan.ceiling() as usize + rng.below(3)];
         let mut field = setup_value(plan, &mut words).expect("a good plan");
-        let v = rng.below(field.plan.modules as usize) as u16;
-        field.step(&mut words, WAKE, v).expect("a sleeper");
+        for v in field.plan.lowest_modules() {
+            if v == 0 || rng.once_in(2) {
+                field.step(&mut words, WAKE, rng.pick(&field.plan.part_of(v))).expect("a sleeper");
+            }
+        }
         let (done, refusal) = compare(rng, &field, &words, 65535);
         assert_eq!(refusal, 0, "a run from a woken module is not refused");
         completed += done;

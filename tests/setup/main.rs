@@ -20,32 +20,38 @@ use oracle::rng::Rng;
 use oracle::schedule::{encode, read, Reader, Step};
 use std::collections::BTreeMap;
 
-const GOOD: usize = 500;
+const GOOD: usize = 600;
 const DAMAGED: usize = 3000;
 const SCHEDULES: usize = 3000;
 const LONG: usize = 12;
-const JOBS: usize = 500;
+const JOBS: usize = 750;
 
 /// How often each answer must come, about half as often as with the seed of main.
 type Least = [(u32, usize)];
 
 #[rustfmt::skip]
 const SETUPS: &Least =
-    &[(0, 2700), (14, 670), (15, 240), (16, 2100), (17, 690), (18, 330), (19, 750), (21, 1270)];
-const DONE: &Least = &[(0, 250), (14, 21), (15, 8), (16, 73), (17, 10), (18, 12), (19, 22), (21, 100)];
+    &[(0, 3400), (14, 720), (15, 240), (16, 1900), (17, 530), (18, 270), (21, 1800)];
+const DONE: &Least = &[(0, 380), (14, 35), (15, 12), (16, 100), (17, 24), (18, 16), (21, 170)];
 const CHECKS: &Least = &[(0, 550), (51, 150), (52, 200), (53, 470), (54, 95)];
 
-/// The same of plans with N = 0.
-const SETUPS_OF_NOBODY: &Wanted =
-    &[("N = 0:", &[("taken, no words", 270), ("taken, some words", 180), ("15", 100), ("16", 640)])];
-const JOBS_OF_NOBODY: &Wanted =
-    &[("N = 0:", &[("taken, no words", 13), ("taken, some words", 23), ("15", 3), ("16", 26)])];
+/// The same of plans with N = 0, and of those in several parts.
+#[rustfmt::skip]
+const SETUPS_BY_PLAN: &Wanted = &[
+    ("in parts:", &[("taken", 1300), ("taken, a part of one", 1000), ("21", 910)]),
+    ("N = 0:", &[("taken, no words", 220), ("taken, some words", 140), ("15", 100), ("16", 640)]),
+];
+#[rustfmt::skip]
+const JOBS_BY_PLAN: &Wanted = &[
+    ("in parts:", &[("taken", 120), ("taken, a part of one", 86), ("21", 87)]),
+    ("N = 0:", &[("taken, no words", 12), ("taken, some words", 26), ("15", 5), ("16", 28)]),
+];
 
-/// How often each answer came, and what came of plans with N = 0.
+/// How often each answer came, and what came of plans with N = 0 and of those in several parts.
 #[derive(Default)]
 struct Tally {
     answers: BTreeMap<u32, usize>,
-    nobody: Counts,
+    by_plan: Counts,
 }
 
 impl Tally {
@@ -57,15 +63,23 @@ impl Tally {
     fn of_plan(&mut self, plan: &Plan, len: usize, answer: u32) {
         self.count(answer);
         if plan.modules == 0 {
-            self.nobody.count(match (answer, len) {
+            self.by_plan.count(match (answer, len) {
                 (0, 0) => "N = 0: taken, no words".to_string(),
                 (0, _) => "N = 0: taken, some words".to_string(),
                 _ => format!("N = 0: {answer}"),
             });
         }
+        let lowest = if [0, 21].contains(&answer) { plan.lowest_modules() } else { Vec::new() };
+        if lowest.len() > 1 {
+            self.by_plan
+                .count(format!("in parts: {}", if answer == 0 { "taken".to_string() } else { answer.to_string() }));
+            if answer == 0 && lowest.iter().any(|v| plan.own_links(*v).is_empty()) {
+                self.by_plan.count("in parts: taken, a part of one");
+            }
+        }
     }
 
-    fn report(&self, what: &str, least: &Least, of_nobody: &Wanted) {
+    fn report(&self, what: &str, least: &Least, by_plan: &Wanted) {
         let each: Vec<String> = self.answers.iter().map(|(answer, times)| format!("{answer} {times}")).collect();
         println!("setup: {what}, by answer: {}", each.join("; "));
         for (answer, least) in least {
@@ -73,7 +87,7 @@ impl Tally {
             assert!(times >= *least, "{what}: {answer} came {times} times, {least} wanted");
         }
         assert_eq!(self.answers.len(), least.len(), "{what}: no other answer");
-        self.nobody.report(&format!("setup: {what}"), of_nobody);
+        self.by_plan.report(&format!("setup: {what}"), by_plan);
     }
 }
 
@@ -266,7 +280,7 @@ fn main() {
     println!("setup: {SCHEDULES} schedules and {LONG} long ones agree, at every place");
     let mut ends = Tally::default();
     jobs(&mut rng, &mut ends);
-    answers.report("setups", SETUPS, SETUPS_OF_NOBODY);
-    ends.report("jobs", DONE, JOBS_OF_NOBODY);
+    answers.report("setups", SETUPS, SETUPS_BY_PLAN);
+    ends.report("jobs", DONE, JOBS_BY_PLAN);
     checks.report("schedules", CHECKS, &[]);
 }

@@ -14,55 +14,57 @@ pub struct Events(BTreeMap<String, usize>);
 
 /// What must be reached, and how often at least in INPUTS inputs: about half as often as with seed 7.
 const INPUTS: usize = 3000;
-const WANTED: [(&str, usize); 48] = [
-    ("put back Connect", 16000),
-    ("put back Test", 19000),
-    ("put back Report", 13000),
-    ("put back Connect at a sleeper", 610),
-    ("put back Test at a sleeper", 1800),
-    ("woken by Connect", 2500),
-    ("woken by Test", 1800),
-    ("woke without links", 46),
-    ("crossing Tests", 2100),
-    ("Test of the own fragment on a branch link", 2400),
-    ("Reject on a branch link", 2300),
-    ("absorbed while Find", 4100),
-    ("absorbed while Found", 100),
-    ("absorbed while Found, 5 modules or more", 100),
-    ("several Initiates on one directed link", 10),
-    ("Connect against Connect: a new level", 5000),
+const WANTED: [(&str, usize); 50] = [
+    ("put back Connect", 11000),
+    ("put back Test", 16000),
+    ("put back Report", 12000),
+    ("put back Connect at a sleeper", 520),
+    ("put back Test at a sleeper", 1500),
+    ("woken by Connect", 2300),
+    ("woken by Test", 1500),
+    ("woke without links", 410),
+    ("crossing Tests", 1600),
+    ("Test of the own fragment on a branch link", 1900),
+    ("Reject on a branch link", 1800),
+    ("absorbed while Find", 3200),
+    ("absorbed while Found", 97),
+    ("absorbed while Found, 5 modules or more", 97),
+    ("several Initiates on one directed link", 11),
+    ("Connect against Connect: a new level", 5100),
     ("Report against a worse one: change-root", 1700),
     ("Report on the in-branch, earlier or equal: nothing", 1700),
-    ("Change-root passed on", 85),
-    ("Change-root to Connect", 220),
-    ("halted", 770),
-    ("at rest", 290),
-    ("level 3", 950),
-    ("refused 11", 10),
-    ("refused 12", 7),
-    ("refused 13", 14),
-    ("refused 14", 4),
-    ("refused 15", 8),
-    ("refused 16", 12),
-    ("refused 17", 6),
-    ("refused 18", 1),
-    ("refused 19", 5),
-    ("refused 41", 95),
-    ("refused 42", 94),
-    ("refused 43", 100),
+    ("Change-root passed on", 87),
+    ("Change-root to Connect", 190),
+    ("halted", 1600),
+    ("at rest", 420),
+    ("in several parts", 240),
+    ("at rest in several parts", 190),
+    ("at rest, a part asleep", 110),
+    ("level 3", 710),
+    ("refused 11", 8),
+    ("refused 12", 8),
+    ("refused 13", 10),
+    ("refused 14", 7),
+    ("refused 15", 6),
+    ("refused 16", 11),
+    ("refused 17", 3),
+    ("refused 18", 4),
+    ("refused 41", 98),
+    ("refused 42", 100),
+    ("refused 43", 89),
     ("refused 44", 90),
-    ("refused 45", 86),
-    ("refused 51", 20),
-    ("refused 52", 17),
-    ("refused 53", 65),
-    ("refused 54", 15),
-    ("N = 0: no steps", 53),
-    ("N = 0: refused 15", 1),
-    ("N = 0: refused 16", 3),
-    ("N = 0: refused 41", 13),
-    ("N = 0: refused 42", 13),
-    ("N = 0: refused 51", 3),
-    ("N = 0: refused 53", 3),
+    ("refused 45", 88),
+    ("refused 51", 23),
+    ("refused 52", 16),
+    ("refused 53", 64),
+    ("refused 54", 19),
+    ("N = 0: no steps", 28),
+    ("N = 0: refused 15", 2),
+    ("N = 0: refused 16", 7),
+    ("N = 0: refused 41", 10),
+    ("N = 0: refused 42", 8),
+    ("N = 0: refused 51", 2),
+    ("N = 0: refused 53", 2),
 ];
 
 impl Events {
@@ -122,6 +124,11 @@ impl Events {
         self.count_if(nobody, "N = 0: no steps");
         let rest = waiting(&words) == 0 && field.modules.iter().any(|m| m.status != ASLEEP);
         self.count_if(rest, "at rest");
+        let asleep = |v: &u16| field.plan.part_of(*v).iter().all(|u| field.modules[*u as usize].status == ASLEEP);
+        let lowest = field.plan.lowest_modules();
+        self.count_if(lowest.len() > 1, "in several parts");
+        self.count_if(rest && lowest.len() > 1, "at rest in several parts");
+        self.count_if(rest && lowest.iter().any(asleep), "at rest, a part asleep");
     }
 
     fn step(&mut self, field: &mut Field, words: &mut [u64], step: Step) -> Result<(), u32> {
@@ -135,7 +142,7 @@ impl Events {
         let done = field.take(words, step.kind, step.number)?;
         self.count("steps taken");
         self.count_if(field.modules.iter().filter(|m| m.halted == 1).count() > halted, "halted");
-        self.count_if(done.woke && field.plan.links.is_empty(), "woke without links");
+        self.count_if(done.woke && field.plan.own_links(step.number).is_empty(), "woke without links");
         if let Some(word) = done.served {
             let name = NAMES[word.message.kind as usize];
             self.count_if(done.put_back, &format!("put back {name}"));

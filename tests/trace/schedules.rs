@@ -215,7 +215,8 @@ fn drawn_plan(rng: &mut Rng) -> Plan {
         return pendants(rng);
     }
     let kind = rng.pick(&[
-        "small", "small", "small", "complete", "ring", "path", "star", "tree", "medium", "single", "blank",
+        "small", "small", "small", "complete", "ring", "path", "star", "tree", "medium", "single", "blank", "banks",
+        "banks", "banks", "forest", "islands", "islands", "unlinked",
     ]);
     loop {
         let plan = plans::good(rng, kind);

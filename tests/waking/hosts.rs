@@ -151,7 +151,8 @@ const WAYS: [Way; 5] = [
 
 /// A field that is marked with its tree, sound but for one module's waking link; none where the plan has no such link.
 fn spoilt(rng: &mut Rng, (way, asleep, link): Way) -> Option<(Field, Vec<u64>)> {
-    let kind = rng.pick(&["single", "path", "star", "ring", "complete", "small", "small", "medium"]);
+    let kind =
+        rng.pick(&["single", "path", "star", "ring", "complete", "small", "small", "medium", "banks", "islands"]);
     let plan = plans::good(rng, kind);
     let (mut field, words) = marked(rng, &plan);
     let v = rng.below(plan.modules as usize) as u16;

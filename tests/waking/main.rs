@@ -1,8 +1,8 @@
 //! Compares who woke whom by the compiled library with the oracle and with a diary. Drawn plans, each with a drawn list of
 //! calls from setup, steps given alone, runs of schedules and of rounds, refused ones among them: after each call the
 //! answer, the whole record and all words must be the oracle's; the waking links must be those that the steps' own outcomes
-//! tell; and in the library's record every chain of them must end at a module that a wake step woke. Then fields that a
-//! host may make up (hosts.rs). Prints counts, or panics at the first difference.
+//! tell; and in the library's record every chain of them must end at a module that a wake step woke; at rest each part must
+//! be as demand 3 and request 08 say. Then fields that a host may make up (hosts.rs). Prints counts, or panics at the first difference.
 
 #[path = "../counts.rs"]
 mod counts;
@@ -15,6 +15,7 @@ mod tally;
 use oracle::field::{waiting, WAKE};
 use oracle::fields::{good_step, some_step};
 use oracle::plan::Plan;
+use oracle::rest::at_rest;
 use oracle::rng::Rng;
 use oracle::rules::ASLEEP;
 use oracle::schedule::{encode, Step};
@@ -22,14 +23,14 @@ use oracle::{kruskal, plans};
 use site::{Call, Site};
 use tally::Tally;
 
-const LISTS: usize = 3000;
+const LISTS: usize = 3600;
 const LARGE: usize = 8;
 
 /// A plan, small most of the time; long chains need paths, rings and trees.
 fn some_plan(rng: &mut Rng) -> Plan {
     let kind = rng.pick(&[
         "blank", "single", "path", "path", "ring", "ring", "tree", "tree", "star", "complete", "small", "small",
-        "small", "medium",
+        "small", "medium", "banks", "banks", "banks", "forest", "islands", "islands", "unlinked",
     ]);
     loop {
         let plan = plans::good(rng, kind);
@@ -116,13 +117,32 @@ fn ends(tally: &mut Tally, site: &Site) {
         tally.count(format!("waking link: {place}"));
     }
     let awake = site.field.modules.iter().any(|m| m.status != ASLEEP);
-    tally.count(match site.wakes {
+    tally.count(match site.woken.len() {
         0 => "list: no wake step taken",
         1 => "list: one wake step taken",
         _ => "list: several wake steps taken",
     });
-    if awake && waiting(&site.words) == 0 {
-        tally.count("list: to rest");
+    if waiting(&site.words) == 0 {
+        if awake {
+            tally.count("list: to rest");
+        }
+        parts(tally, site);
+    }
+}
+
+/// At rest: each part with a woken module has its tree and its core, the others are as at setup.
+fn parts(tally: &mut Tally, site: &Site) {
+    let rest = at_rest(&site.field, &site.words, &site.woken);
+    let count = rest.agreed + rest.alone + rest.asleep;
+    tally.count_times("part at rest: with its tree", rest.agreed);
+    tally.count_times("part at rest: a module alone", rest.alone);
+    tally.count_times("part at rest: asleep", rest.asleep);
+    if count > 1 {
+        tally.count(match rest.asleep {
+            0 => "plan in parts: all woken",
+            all if all == count => "plan in parts: nobody woken",
+            _ => "plan in parts: some woken",
+        });
     }
 }
 
@@ -134,7 +154,7 @@ fn main() {
         list(&mut rng, &mut tally, plan);
     }
     for _ in 0..LARGE {
-        let kind = rng.pick(&["full", "full", "path"]);
+        let kind = rng.pick(&["full", "full", "path", "wide"]);
         let plan = plans::good(&mut rng, kind);
         list(&mut rng, &mut tally, plan);
     }

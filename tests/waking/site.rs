@@ -21,8 +21,8 @@ pub enum Call {
 pub struct Site {
     pub field: Field,
     pub words: Vec<u64>,
-    /// How many wake steps were taken.
-    pub wakes: usize,
+    /// The modules that wake steps woke.
+    pub woken: Vec<u16>,
     diary: Diary,
     /// The library's field and words, and the record as setup made it.
     record: Record,
@@ -41,7 +41,7 @@ impl Site {
         assert_eq!(record.setup(&given, &mut lent), 0, "setup");
         let field = setup_value(plan, &mut words).expect("a good plan");
         let diary = Diary::new(field.plan.modules);
-        let site = Site { field, words, wakes: 0, diary, record, lent, fresh: Record::at_setup(&given) };
+        let site = Site { field, words, woken: Vec::new(), diary, record, lent, fresh: Record::at_setup(&given) };
         site.same("setup");
         site
     }
@@ -73,10 +73,10 @@ impl Site {
 
     /// The oracle's call, with each step that it takes in the diary; its name and its answer.
     fn by_oracle(&mut self, tally: &mut Tally, call: &Call) -> (&'static str, Answer) {
-        let Site { field, words, wakes, diary, .. } = self;
+        let Site { field, words, woken, diary, .. } = self;
         let mut see = |step: Step, done: &Done| {
             diary.note(step, done);
-            *wakes += (step.kind == WAKE) as usize;
+            woken.extend((step.kind == WAKE).then_some(step.number));
             tally.step(done);
         };
         match call {

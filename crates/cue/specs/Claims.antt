@@ -10,7 +10,8 @@ use Rattle.base.specs.None.{none}
 use Rattle.base.specs.Pool.{All}
 use Rattle.base.specs.Twice.{NoTwice}
 use Rattle.graph.specs.Path.{edgesOf, lastOr}
-use Rattle.plan.specs.Links.{Plan, modulesOf, linksOf}
+use Rattle.graph.specs.Parts.{SamePart, partNodes}
+use Rattle.plan.specs.Links.{Plan, modulesOf, linksOf, graphOf}
 use Rattle.plan_tree.specs.Claim.{TreePath}
 use Rattle.field.specs.Edges.{from, dest}
 use Rattle.field.specs.Held.{Held, valid}
@@ -39,9 +40,9 @@ heardOver h (d ∷ ds) cues =
     let rest = heardOver h ds (deliverCue h cues d .cues) in
     cond (saysHeard (deliverCue h cues d .answer)) (d ∷ rest) rest
 
--- every module has heard
-abbrev pub AllHeard : Plan → List Cue → Type 0
-AllHeard p cues = (v : ℕ) → v < modulesOf p → hasHeard (recordOf cues v) ≡ true
+-- every module of the sender's part has heard
+abbrev pub AllHeard : Plan → ℕ → List Cue → Type 0
+AllHeard p sender cues = (v : ℕ) → v < modulesOf p → SamePart (graphOf p) sender v → hasHeard (recordOf cues v) ≡ true
 
 -- a module's record tells the tree's path from the sender: its length, and its last link
 pub record TellsPath (p : Plan) (sender v : ℕ) (c : Cue) : Type 0 where
@@ -51,11 +52,11 @@ pub record TellsPath (p : Plan) (sender v : ℕ) (c : Cue) : Type 0 where
   -- and there is no other
   pub only : (q : TreePath p sender v) → edgesOf (q .way) ≡ edgesOf (path .way)
 
--- deliveries that bring the cue to all: at most as many as N − 1
-pub record Reaches (h : Held) (p : Plan) (cues : List Cue) : Type 0 where
+-- deliveries that bring the cue to all of the part: fewer than it has modules
+pub record Reaches (h : Held) (p : Plan) (sender : ℕ) (cues : List Cue) : Type 0 where
   pub order : List ℕ
-  pub few : suc (length order) ≤ modulesOf p
-  pub all : AllHeard p (deliveries h order cues)
+  pub few : length order < partNodes (graphOf p) (modulesOf p) sender
+  pub all : AllHeard p sender (deliveries h order cues)
 
 -- What holds of a start with these arguments, `cues` what the deliveries ds after it left; p is the field's plan.
 pub record CueHolds (h : Held) (p : Plan) (lent : List Cue) (sender cue : ℕ) (ds : List ℕ) (cues : List Cue) : Type 0 where
@@ -65,9 +66,11 @@ pub record CueHolds (h : Held) (p : Plan) (lent : List Cue) (sender cue : ℕ) (
   pub once : NoTwice (sender ∷ map (dest p) (heardOver h ds (startCue h lent sender cue .state)))
   -- copies sent = copies delivered + copies waiting
   pub copies : copiesSent p cues ≡ length (heardOver h ds (startCue h lent sender cue .state)) + copiesWaiting p cues
-  -- "N − 1 copies are sent when none waits", and then every module has heard
-  pub sent : copiesWaiting p cues ≡ 0 → suc (copiesSent p cues) ≡ modulesOf p
-  pub all : copiesWaiting p cues ≡ 0 → AllHeard p cues
+  -- "A cue reaches its sender's part, with one copy fewer than its modules." (request 08): so many are sent when none waits, and then every module of the part
+  -- has heard; none of another part ever does
+  pub sent : copiesWaiting p cues ≡ 0 → suc (copiesSent p cues) ≡ partNodes (graphOf p) (modulesOf p) sender
+  pub all : copiesWaiting p cues ≡ 0 → AllHeard p sender cues
+  pub part : (v : ℕ) → v < modulesOf p → hasHeard (recordOf cues v) ≡ true → SamePart (graphOf p) sender v
   -- "and hops equal the tree's path"; every module that has heard holds the cue that was started
   pub path : (v : ℕ) → v < modulesOf p → hasHeard (recordOf cues v) ≡ true → TellsPath p sender v (recordOf cues v)
   pub same : (v : ℕ) → v < modulesOf p → hasHeard (recordOf cues v) ≡ true → recordOf cues v .cue ≡ cue
@@ -75,8 +78,8 @@ pub record CueHolds (h : Held) (p : Plan) (lent : List Cue) (sender cue : ℕ) (
   pub others : (v : ℕ) → v < modulesOf p → hasHeard (recordOf cues v) ≡ false → recordOf cues v ≡ unheard
   -- a copy waits only for a module that has not heard
   pub fresh : (d : ℕ) → d < 2 * linksOf p → waitsOn p cues d ≡ true → recordOf cues (dest p d) ≡ unheard
-  -- some order of at most N − 1 deliveries brings the cue to all
-  pub reaches : Reaches h p cues
+  -- some order of deliveries, fewer than the part has modules, brings the cue to all of it
+  pub reaches : Reaches h p sender cues
   -- "records past N always keep", and none is added or lost
   pub past : (i : ℕ) → modulesOf p ≤ i → recordOf cues i ≡ recordOf lent i
   pub many : length cues ≡ length lent

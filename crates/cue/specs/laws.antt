@@ -4,4 +4,5 @@ pub mod Rule
 pub mod Refusals
 pub mod Calls
 pub mod Follow
+pub mod Claims
 pub mod Samples

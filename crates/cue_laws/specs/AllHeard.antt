@@ -1,5 +1,5 @@
 -- Where a tree link leads from a module that has heard to one that has not, a copy waits (`edge-waits`). So when none waits, every module has heard
--- that the tree joins to the sender (`joined-heard`), and that is all of them (`all-heard`).
+-- that the tree joins to the sender (`joined-heard`), and those are all of its part (`all-heard`).
 use Prim.Native.Nat.{ℕ, _*_, _<_}
 use native.Mathlib.Omega.{arith}
 use mathlib.Core.Path.{_≡_, sym, ap, _∙_}
@@ -54,12 +54,12 @@ module _ (p : Plan) (n : Net p) (cues : List Cue) (good : GoodCues p cues) where
   none-waits z d l w = omega (arith, z, le-sum (2 * linksOf p) d (λ e. bit (waitsOn p cues e)) l, ap bit w)
 
   pub joined-heard : copiesWaiting p cues ≡ 0 → (v : ℕ) → Way (graphOf p) (Set (treeLink p)) (good .sender) v → hearers cues v ≡ true
-  joined-heard z v w = bool-cases (hearers cues v) (λ h. h) (λ h. absurd (stuck (cross (hearers cues) w (rw (good .started)) h)))
+  joined-heard z v w = bool-cases (hearers cues v) (λ h. h) (λ h. absurd (stuck (cross (hearers cues) w (ap hasHeard (good .started)) h)))
     where
       stuck : Cross (graphOf p) (Set (treeLink p)) (hearers cues) → ⊥
       stuck c =
           let x = n .names (c .edge) (c .from) (c .to) (c .joins) in
           none-waits z (x .number) (x .below) (edge-waits (c .edge) (c .from) (c .to) (c .joins) (c .used) (c .inside) (c .outside))
 
-  pub all-heard : copiesWaiting p cues ≡ 0 → AllHeard p cues
-  all-heard z v l = joined-heard z v (n .spans (good .sender) v (good .below) l)
+  pub all-heard : copiesWaiting p cues ≡ 0 → AllHeard p (good .sender) cues
+  all-heard z v l w = joined-heard z v (n .spans w)

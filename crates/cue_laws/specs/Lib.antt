@@ -1,5 +1,5 @@
 -- Theorems about cues over the finished tree. Main results: `cue-claim` and `exact-73` (Cue). On the way: no module hears twice (Once), the rule of 73 (Rule,
--- GoodLeft, Exact), hops (HopsBelow, Paths), counts and liveness (AllHeard, Counts, Trail, Spread), copies followed one by one (Follow).
+-- GoodLeft, Exact), hops (HopsBelow, Paths), counts and liveness (AllHeard, Counts, Part, Trail, Spread), copies followed one by one (Follow).
 pub mod Net
 pub mod NetOf
 pub mod Good
@@ -10,6 +10,7 @@ pub mod Told
 pub mod Paths
 pub mod AllHeard
 pub mod Counts
+pub mod Part
 pub mod Trail
 pub mod Spread
 pub mod Restrict

@@ -1,4 +1,4 @@
--- What an accepted plan and its tree give to the proofs about cues: its directed links, and that its tree spans and has no cycle. (NetOf shows it.)
+-- What an accepted plan and its tree give to the proofs about cues: its directed links, and that its tree spans each part and has no cycle. (NetOf shows it.)
 use Prim.Native.Nat.{ℕ, _*_, _≤_, _<_}
 use mathlib.Core.Path.{_≡_}
 use mathlib.Core.Logic.{_≢_}
@@ -6,6 +6,7 @@ use mathlib.Core.Bool.{true}
 use Rattle.base.specs.None.{none}
 use Rattle.graph.specs.Graph.{Joins, Way}
 use Rattle.graph.specs.Decide.{Set}
+use Rattle.graph.specs.Parts.{SamePart}
 use Rattle.graph.specs.laws.Ways.{But}
 use Rattle.plan.specs.Links.{Plan, modulesOf, linksOf, lowerOf, higherOf, graphOf}
 use Rattle.plan_tree.specs.Tree.{treeLink}
@@ -28,5 +29,5 @@ pub record Net (p : Plan) : Type 0 where
   pub apart : (k u v : ℕ) → Joins (graphOf p) k u v → u ≢ v
   -- no tree link can be spared
   pub spare : (k : ℕ) → k < linksOf p → treeLink p k ≡ true → ¬ Way (graphOf p) (But (Set (treeLink p)) k) (lowerOf p k) (higherOf p k)
-  -- the tree joins any two modules
-  pub spans : (u v : ℕ) → u < modulesOf p → v < modulesOf p → Way (graphOf p) (Set (treeLink p)) u v
+  -- the tree joins any two modules of a part
+  pub spans : {u v : ℕ} → SamePart (graphOf p) u v → Way (graphOf p) (Set (treeLink p)) u v

@@ -46,5 +46,5 @@ module _ (p : Plan) (a : Accepted p) where
     inside = link-inside p a;
     apart = λ k u v j. ends-apart j;
     spare = tree-spare p;
-    spans = tree-spans p a;
+    spans = tree-spans p;
   }

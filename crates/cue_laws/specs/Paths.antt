@@ -1,5 +1,6 @@
 -- Along the links heard by: a module that has heard holds the cue that was sent (`same-cue`), and its hops and link tell the tree's path from the
--- sender, the only one (`tells-path`). A module that has not heard holds nothing (`record-unheard`). Any known sender will do (`good-with`).
+-- sender, the only one (`tells-path`). So those that have heard are of one part (`heard-part`). A module that has not heard holds nothing (`record-unheard`). Any
+-- known sender will do (`good-with`).
 use Prim.Native.Nat.{ℕ, _+_, _≤_, _<_}
 use native.Mathlib.Omega.{arith}
 use mathlib.Core.Path.{_≡_, refl, sym, ap, subst, subst₂, _∙_}
@@ -15,7 +16,8 @@ use Rattle.base.specs.laws.Search.{strong}
 use Rattle.base.specs.laws.Twice.{NoTwice-one}
 use Rattle.graph.specs.Graph.{Joins, stop, go}
 use Rattle.graph.specs.Path.{edgesOf, nodesOf, lastOr}
-use Rattle.graph.specs.laws.Ways.{flip}
+use Rattle.graph.specs.Parts.{SamePart}
+use Rattle.graph.specs.laws.Ways.{flip, way-append, way-reverse, wider}
 use Rattle.graph.specs.laws.Path.{paths-same, edges-append, nodes-further, path-further, last-behind}
 use Rattle.plan.specs.Links.{Plan, modulesOf, graphOf}
 use Rattle.plan_tree.specs.Tree.{treeLink}
@@ -82,6 +84,10 @@ module _ (p : Plan) (net : Net p) (cues : List Cue) (good : GoodCues p cues) whe
   -- and there is no other path
   pub tells-path : (v : ℕ) → v < modulesOf p → hasHeard (recordOf cues v) ≡ true → TellsPath p (good .sender) v (recordOf cues v)
   tells-path v l h = let x = route v l h in record { path = x .path; hops = x .hops; link = x .link; only = λ q. paths-same (net .spare) q (x .path) }
+
+  -- any two that have heard are in one part
+  pub heard-part : (u v : ℕ) → u < modulesOf p → v < modulesOf p → hasHeard (recordOf cues u) ≡ true → hasHeard (recordOf cues v) ≡ true → SamePart (graphOf p) u v
+  heard-part u v lu lv hu hv = wider (λ k l t. tt) (way-append (way-reverse (route u lu hu .path .way)) (route v lv hv .path .way))
 
   pub same-cue : (v : ℕ) → v < modulesOf p → hasHeard (recordOf cues v) ≡ true → recordOf cues v .cue ≡ good .cue
   same-cue v l h = route v l h .cue

@@ -1,1 +1,1 @@
-// Theorems about cues: each module hears once, N − 1 copies, hops are the tree's path, 73 is exact.
+// Theorems about cues: each module of the part hears once, one copy fewer than it has modules, hops are the tree's path, 73 is exact.

@@ -1,19 +1,19 @@
--- What a good state says of the tree: always (`branch-tree`), and at rest (`agreed`; part by part `part-finished`).
+-- What a good state says of the tree: always (`branch-tree`), and at rest of each part with a module awake (`agreed`).
 use Prim.Native.Nat.{ℕ, _<_}
 use native.Mathlib.Omega.{arith}
-use mathlib.Core.Path.{_≡_, refl, sym, ap, _∙_}
+use mathlib.Core.Path.{_≡_, refl, sym, ap, subst, _∙_}
 use mathlib.Core.Logic.{⊎-elim}
 use mathlib.Core.List.{[]}
-use Rattle.base.specs.laws.Cond.{by-eq}
-use Rattle.graph.specs.Graph.{up, stop}
+use Rattle.graph.specs.Graph.{up, stop, go}
+use Rattle.graph.specs.laws.Ways.{way-append}
 use Rattle.plan.specs.laws.Accepted.{Accepted}
 use Rattle.plan.specs.Links.{Plan, modulesOf, linksOf, lowerOf, higherOf}
 use Rattle.node.specs.Work.{BRANCH, REJECTED}
 use Rattle.field.specs.State.{State, nodeAt, markAt}
-use Rattle.field_calls.specs.Demand.{TreeLink, BothSay, Core, Agreed}
+use Rattle.field_calls.specs.Demand.{TreeLink, BothSay, InPart, Core, Agreed}
 use Rattle.field_calls.specs.Trail.{Awake}
 use Rattle.protocol.specs.Network.{Edge}
-use Rattle.protocol_stuck.specs.Parts.{SamePart, PartCore, PartFinished}
+use Rattle.protocol_stuck.specs.Parts.{PartCore, PartFinished}
 use Rattle.protocol_bridge.specs.Fin.{st-is, halt-is}
 use Rattle.demand_view.specs.Net.{net}
 use Rattle.demand.specs.Good.{Good, node-shown, good-mark}
@@ -38,34 +38,38 @@ module _ (p : Plan) (a : Accepted p) (s : State) (g : Good p a s) where
     pub part-finished : PartFinished (net p a) (g.at) w
     part-finished = at-rest p a s g z .awake w w stop (λ e. k .awake (sym (st-is (node-shown p a s g w (k .within))) ∙ e))
 
-    -- the plan is one part: the only use of that
-    all : (v : ℕ) → v < modulesOf p → SamePart (net p a) w v
-    all v l = a .whole w v (k .within) l
-
-    low-in : (k : ℕ) → k < linksOf p → SamePart (net p a) w (lowerOf p k)
-    low-in k l = all (lowerOf p k) (omega (arith, a .each k l .ordered, a .each k l .inside))
-
     link-ends : (k : ℕ) → k < linksOf p → Edge (net p a) k (lowerOf p k) (higherOf p k)
     link-ends k l = up l refl refl
 
     says : (c k : ℕ) → (g.at.mark (lowerOf p k) k ≡ c) × (g.at.mark (higherOf p k) k ≡ c) → BothSay p s c k
     says c k h = record { lower = sym (mark-of (lowerOf p k) k) ∙ h .0; higher = sym (mark-of (higherOf p k) k) ∙ h .1 }
 
-    core : PartCore (net p a) (g.at) w → Core p s
-    core c = record {
-      link = c .edge;
-      within = c .within;
-      tree = c .tree;
-      apart = c .apart;
-      halted = λ v l. let h = c .halted v (all v l) in (λ q. h .0 (halt-of v l ∙ q), λ q. sym (halt-of v l) ∙ h .1 q);
-    }
+    module _ (c : PartCore (net p a) (g.at) w) where
+      low-in : InPart p w (lowerOf p (c .edge))
+      low-in = (omega (arith, a .each (c .edge) (c .within) .ordered, a .each (c .edge) (c .within) .inside), c .inside)
 
-    -- ALL AGREE
-    pub agreed : Agreed p s
+      high-in : InPart p w (higherOf p (c .edge))
+      high-in = (a .each (c .edge) (c .within) .inside, way-append (c .inside) (go (c .edge) (link-ends (c .edge) (c .within)) tt stop))
+
+      core : Core p s (InPart p w)
+      core = record {
+        link = c .edge;
+        within = c .within;
+        tree = c .tree;
+        inside = low-in;
+        across = high-in;
+        apart = c .apart;
+        halted = λ v i. let h = c .halted v (i .1) in (λ q. h .0 (halt-of v (i .0) ∙ q), λ q. sym (halt-of v (i .0)) ∙ h .1 q);
+      }
+
+    -- W'S PART AGREES
+    pub agreed : Agreed p s (InPart p w)
     agreed = record {
-      tree = λ k l h. says BRANCH k (part-finished .tree k (lowerOf p k) (higherOf p k) (link-ends k l) (low-in k l) h);
-      others = λ k l h. says REJECTED k (part-finished .others k (lowerOf p k) (higherOf p k) (link-ends k l) (low-in k l) h);
-      core = λ two. ⊎-elim core
-          (λ o. absurd (by-eq w 0 (λ e. omega (arith, o .only 1 (all 1 two))) (λ n. n (sym (o .only 0 (all 0 (omega arith)))))))
+      tree = λ k l i h. says BRANCH k (part-finished .tree k (lowerOf p k) (higherOf p k) (link-ends k l) (i .1) h);
+      others = λ k l i h. says REJECTED k (part-finished .others k (lowerOf p k) (higherOf p k) (link-ends k l) (i .1) h);
+      alone = λ v i only. ⊎-elim
+          (λ c. absurd (c .apart (only (lowerOf p (c .edge)) (low-in c) ∙ sym (only (higherOf p (c .edge)) (high-in c)))))
+          (λ o. subst (λ u. nodeAt s u .halted ≡ 1) (only w (k .within, stop)) (sym (halt-of w (k .within)) ∙ o .halted))
           (part-finished .halted);
+      core = λ u v i j d. ⊎-elim core (λ o. absurd (d (o .only u (i .1) ∙ sym (o .only v (j .1))))) (part-finished .halted);
     }

@@ -7,6 +7,7 @@ use Rattle.demand.specs.Good.{Good, good-start}
 use Rattle.demand.specs.Steps.{step-fine}
 use Rattle.demand.specs.Rest.{stuck-none}
 use Rattle.demand.specs.Agree.{branch-tree, agreed}
+use Rattle.demand.specs.Asleep.{as-at-setup}
 
 -- what the reduction asks of the protocol, for each accepted plan
 pub protocol : (p : Plan) (a : Accepted p) → Protocol p (Good p a)
@@ -17,6 +18,7 @@ protocol p a = record {
   stuck = λ s i g. stuck-none p a s g i;
   branches = λ s i g. branch-tree p a s g;
   agreed = λ s i g. agreed p a s g;
+  asleep = λ lent s i g. as-at-setup p a s g i lent;
 }
 
 -- THE THEOREM

@@ -61,7 +61,7 @@ module _ {P : ℕ → Type 0} where
       (in-app (msgs (keep (isUp d) l)) (msgs (keep (inAir d) l)) n)
 
 -- and a word in its channel
-first-in : (x : ℕ) (l : List ℕ) → In (msgIn x) (chan (linkIn x) (x ∷ l))
+pub first-in : (x : ℕ) (l : List ℕ) → In (msgIn x) (chan (linkIn x) (x ∷ l))
 unfolding chan
 first-in x l = bool-cases (handedIn x)
     (λ b. subst (λ y. In (msgIn x) (msgs y ++ msgs (keep (inAir (linkIn x)) (x ∷ l)))) (sym (keep-yes (isUp (linkIn x)) x l (ap₂ _&&_ b (eqb-same (linkIn x))))) first)
@@ -70,7 +70,7 @@ first-in x l = bool-cases (handedIn x)
 
 module _ (p : Plan) (a : Accepted p) (s : State) (g : Good p a s) where
   -- the protocol's channel from u over its own edge k
-  chan-is : {k u v : ℕ} → Edge (net p a) k u v → g.at.ch u k ≡ chan (endOf p u k) (s .words)
+  pub chan-is : {k u v : ℕ} → Edge (net p a) k u v → g.at.ch u k ≡ chan (endOf p u k) (s .words)
   chan-is {k} {u} e = ap (λ (r : Real). r.ch u k) (g.is) ∙ chans-own p (s .words) u k (net-ends-own p a e)
 
   -- the protocol's channels are empty: no word

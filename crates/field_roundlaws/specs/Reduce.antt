@@ -2,7 +2,7 @@
 use Prim.Native.Nat.{ℕ, _+_, _≤_}
 use native.Mathlib.Omega.{arith}
 use mathlib.Core.Path.{_≡_, refl, sym, ap, subst, _∙_}
-use mathlib.Core.Logic.{_≢_, _⊎_, inl, inr}
+use mathlib.Core.Logic.{_≢_, _⊎_, inl, inr, ⊎-elim}
 use mathlib.Core.Bool.{Bool, true, false, not, cond}
 use mathlib.Core.List.{List, [], _∷_}
 use lib.ListN.{length, getD, replicate}
@@ -11,10 +11,12 @@ use Rattle.base.specs.laws.Cond.{eqb-cases}
 use Rattle.base.specs.Loop.{After, Ran}
 use Rattle.base.specs.laws.Loop.{runs-refusal}
 use Rattle.base.specs.Pool.{All, nil, con}
+use Rattle.base.specs.laws.Pool.{All-map}
 use Rattle.base.specs.Test.{every}
 use Rattle.plan.specs.laws.Accepted.{Accepted, accepted}
 use Rattle.plan.specs.Links.{Plan, modulesOf}
 use Rattle.plan.specs.Trimmed.{trimmed}
+use Rattle.node.specs.declared.Node.{Node}
 use Rattle.node.specs.Work.{BRANCH}
 use Rattle.field.specs.Edges.{ceilingOf}
 use Rattle.field.specs.State.{State, markAt}
@@ -23,18 +25,18 @@ use Rattle.field.specs.Held.{Held, stateOf, fresh}
 use Rattle.field_calls.specs.Schedule.{scheduleRefusal, scheduleRun, lengthFits, kindListed, stepsIn, kindOf, numberOf, stepAt, never}
 use Rattle.field_calls.specs.Rounds.{roundsRun}
 use Rattle.field_calls.specs.Call.{Call, one, run, rounds, does, runRounds, after, answers}
-use Rattle.field_calls.specs.Demand.{TreeLink, Allowed, Agreed, ComesToRest, Claim, Demand3}
+use Rattle.field_calls.specs.Demand.{TreeLink, Allowed, InPart, Agreed, AsAtSetup, ComesToRest, Claim, Demand3}
 use Rattle.field_calls.specs.Trail.{Awake}
 use Rattle.field_laws.specs.Cases.{StepOutcome, took, kept, step-outcome}
 use Rattle.field_laws.specs.Keeps.{Sound, step-keeps}
 use Rattle.field_laws.specs.Trace.{onState, call-keeps}
 use Rattle.field_laws.specs.Laid.{waiting-zeros, Live, live-sound, does-live, does-state, state-of-does, plan-of-does, refusal-of-does}
-use Rattle.field_laws.specs.After.{started, begun-live, after-live, after-plan, list-counts, list-keeps}
+use Rattle.field_laws.specs.After.{fresh-node, started, begun-live, after-live, after-plan, list-counts, list-keeps}
 use Rattle.field_laws.specs.Messages.{times-conserved, number-conserved}
 use Rattle.field_roundlaws.specs.Progress.{BlockedWord}
 use Rattle.field_roundlaws.specs.Calm.{Calm}
 use Rattle.field_roundlaws.specs.Rest.{rested}
-use Rattle.field_roundlaws.specs.Awake.{list-wakes}
+use Rattle.field_roundlaws.specs.Awake.{list-wakes, all-member}
 
 -- What the protocol has to show: an invariant Good of the states of accepted plan p, with these facts.
 pub record Protocol (p : Plan) (Good : State → Type 0) : Type 0 where
@@ -48,8 +50,11 @@ pub record Protocol (p : Plan) (Good : State → Type 0) : Type 0 where
   pub stuck : (s : State) → Sound p s → Good s → All (BlockedWord p s) (s .words) → s .words ≡ []
   -- branches are tree links
   pub branches : (s : State) → Sound p s → Good s → (v k : ℕ) → markAt p s v k ≡ BRANCH → TreeLink p k
-  -- at rest, with module v awake, all agree
-  pub agreed : (s : State) → Sound p s → Good s → (v : ℕ) → Awake p s v → s .words ≡ [] → Agreed p s
+  -- at rest, with module v awake, its part agrees
+  pub agreed : (s : State) → Sound p s → Good s → (v : ℕ) → Awake p s v → s .words ≡ [] → Agreed p s (InPart p v)
+  -- a part with nobody awake is as at setup
+  pub asleep : (lent : List ℕ) (s : State) → Sound p s → Good s → (w : ℕ) → ((v : ℕ) → InPart p w v → ¬ Awake p s v)
+      → AsAtSetup p (stateOf (record { field = fresh p; words = replicate (length lent) 0 })) s (InPart p w)
 
 -- ---- refusals
 
@@ -83,11 +88,6 @@ usual-step (kept r (inl e)) x y = absurd (x e)
 usual-step (kept r (inr (inl e))) x y = absurd (y e)
 usual-step (kept r (inr (inr (inl h)))) x y = inr (inl h)
 usual-step (kept r (inr (inr (inr e)))) x y = inr (inr (omega arith, omega arith))
-
--- a list that is not empty has a member
-one-of : {P : ℕ → Type 0} {l : List ℕ} → l ≢ [] → All P l → (v : ℕ) × P v
-one-of n nil = absurd (n refl)
-one-of n (con {x} h t) = (x, h)
 
 module _ (p : Plan) (a : Accepted p) (Good : State → Type 0) (proto : Protocol p Good) where
   calm : Calm p Good
@@ -141,9 +141,13 @@ module _ (p : Plan) (a : Accepted p) (Good : State → Type 0) (proto : Protocol
         within = subst (λ n. n ≤ ceilingOf p + modulesOf p) (sym (ap (λ (x : Ran Held). x .done) (does-state h i (rounds limit)) ∙ ap (λ (x : Ran State). x .done) q)) (r .within);
       }
 
-  -- all of it, for a list of calls on a live field that is good, has sent nothing and has nothing waiting
-  claim : (h : Held) → Live h → h .field .plan ≡ p → Good (stateOf h) → stateOf h .sent ≡ 0 → stateOf h .words ≡ [] → (cs : List Call) → Claim p h cs
-  claim h i e g z none cs =
+  -- all of it, for a list of calls on the field and words of a setup
+  claim : (lent : List ℕ) → let h : Held = record { field = fresh p; words = replicate (length lent) 0 } in Live h → (cs : List Call) → Claim p h cs
+  claim lent i cs =
+      let h : Held = record { field = fresh p; words = replicate (length lent) 0 } in
+      let e : h .field .plan ≡ p = refl in
+      let g = proto .start lent in
+      let none = waiting-zeros (length lent) in
       let h′ = after cs h in
       let i′ = after-live cs h i in
       let e′ : h′ .field .plan ≡ p = after-plan cs h i ∙ e in
@@ -153,12 +157,16 @@ module _ (p : Plan) (a : Accepted p) (Good : State → Type 0) (proto : Protocol
       let w = list-wakes p a cs h i e in
       record {
         branches = proto .branches (stateOf h′) s′ g′;
-        exact = c .sent ∙ omega (arith, z);
+        exact = c .sent ∙ omega arith;
         messages = times-conserved p a cs h i e none;
-        waiting = omega (arith, c .sent, z, number-conserved p a cs h i e none);
+        waiting = omega (arith, c .sent, number-conserved p a cs h i e none);
         ceiling = s′ .fits .ceiling;
         refusals = allowed cs h i e g;
-        agreed = λ n r. let k = one-of n (w .woken) in proto .agreed (stateOf h′) s′ g′ (k .0) (k .1) r;
+        agreed = λ r. All-map (λ v k. proto .agreed (stateOf h′) s′ g′ v k r) (w .woken);
+        asleep = λ v n. proto .asleep lent (stateOf h′) s′ g′ v (λ u y k. ⊎-elim
+            (λ q. q .awake (ap (λ (x : Node). x .status) (fresh-node u (omega (arith, k .within, a .modulesOk)))))
+            (λ m. all-member n m y)
+            (w .only u k));
         rests = settling h′ i′ e′ g′;
       }
 
@@ -169,4 +177,4 @@ demand3-from proto p lent z cs =
     let s = started p lent z in
     let a = accepted q (s .plan) in
     let g = proto q a in
-    subst (λ h. Claim q h cs) (sym (s .is)) (claim q a (g .0) (g .1) _ (begun-live q lent (s .plan) (s .room)) refl (g .1 .start lent) refl (waiting-zeros (length lent)) cs)
+    subst (λ h. Claim q h cs) (sym (s .is)) (claim q a (g .0) (g .1) lent (begun-live q lent (s .plan) (s .room)) cs)

@@ -11,6 +11,6 @@ named word n = ascii word ++ decimal n
 abbrev pub line : String → ℕ → List ℕ
 line word n = named word n ++ ascii "\n"
 
--- "A refused plan prints one line, as "refused 19"."
+-- "A refused plan prints one line, as "refused .."."
 abbrev pub refusedText : ℕ → List ℕ
 refusedText number = line "refused " number

@@ -1,10 +1,9 @@
--- Ways, the path rule and "connected" as tests: labels are merged edge by edge.
-use Prim.Native.Nat.{ℕ, zero, suc, _<_}
+-- Ways and the path rule as tests: labels are merged edge by edge.
+use Prim.Native.Nat.{ℕ, zero, suc}
 use mathlib.Core.Path.{_≡_}
 use mathlib.Core.Bool.{Bool, true, not, cond}
 use lib.Dec.{eqb}
-use Rattle.base.specs.Test.{every}
-use Rattle.graph.specs.Graph.{Graph, Way, Any}
+use Rattle.graph.specs.Graph.{Graph}
 use Rattle.graph.specs.Labels.{rename}
 
 -- the edges for which a test says yes
@@ -32,13 +31,3 @@ joinedOver g s u v = eqb (label g s (g.L) u) (label g s (g.L) v)
 unfoldable pub inTree : Graph → (ℕ → ℕ → Bool) → ℕ → Bool
 unfolding joinedOver
 inTree g earlier e = not (joinedOver g (λ f. earlier f e) (g.lo e) (g.hi e))
-
--- CONNECTED
-
--- ways over all edges join every two of the nodes below n
-abbrev pub Connected : Graph → ℕ → Type 0
-Connected g n = (u v : ℕ) → u < n → v < n → Way g Any u v
-
-unfoldable pub connected : Graph → ℕ → Bool
-unfolding every joinedOver
-connected g n = every n (λ v. joinedOver g (λ e. true) 0 v)

@@ -4,6 +4,7 @@ pub mod Rank
 pub mod Cut
 pub mod Labels
 pub mod Decide
+pub mod Parts
 pub mod Between
 pub mod Sample
 pub mod Span

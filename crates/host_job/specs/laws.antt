@@ -1,3 +1,4 @@
+pub mod Wakes
 pub mod Job
 pub mod Held
 pub mod Agrees

@@ -15,6 +15,7 @@ use Rattle.base.specs.laws.Sets.{front-set}
 use Rattle.base.specs.None.{none}
 use Rattle.base.specs.Limits.{maxModules, maxLinks}
 use Rattle.graph.specs.Between.{across, laterOf, latestFrom}
+use Rattle.graph.specs.Parts.{SamePart}
 use Rattle.graph.specs.laws.Ways.{joins-lt}
 use Rattle.graph.specs.laws.Between.{across-joins}
 use Rattle.plan.specs.Links.{graphOf, Plan, modulesOf}
@@ -35,11 +36,12 @@ pub record Walked (p : Plan) (u v : ℕ) (out₀ out : List ℕ) (worst at i : �
   pub path : treePath p u v ≡ done ++ treePath p at v
   pub written : out ≡ done ++ drop i out₀
   pub inside : at < modulesOf p
+  pub part : SamePart (graphOf p) at v
   pub held : WorstSoFar worst
   pub latest : latestFrom (earlier p) worst (treePath p at v) ≡ worstOn p (treePath p u v)
 
-pub walked-none : (p : Plan) (u v : ℕ) (out : List ℕ) → u < modulesOf p → Walked p u v out out none u 0
-walked-none p u v out l = record { done = []; count = refl; path = refl; written = refl; inside = l; held = inl refl; latest = refl }
+pub walked-none : (p : Plan) (u v : ℕ) (out : List ℕ) → u < modulesOf p → SamePart (graphOf p) u v → Walked p u v out out none u 0
+walked-none p u v out l s = record { done = []; count = refl; path = refl; written = refl; inside = l; part = s; held = inl refl; latest = refl }
 
 -- the first link of a path that begins with link k
 head-is : {l r : List ℕ} {k : ℕ} → l ≡ k ∷ r → headOr none l ≡ k
@@ -53,7 +55,7 @@ pub record Goes (p : Plan) (u v : ℕ) (out₀ out : List ℕ) (worst at i k : �
   pub less : length (treePath p (across (graphOf p) k at) v) < length (treePath p at v)
   pub walked : Walked p u v out₀ (set out i k) (laterOf (earlier p) worst k) (across (graphOf p) k at) (i + 1)
 
-module _ (p : Plan) (u v : ℕ) (out₀ out : List ℕ) (worst at i : ℕ) (ok : Accepted p) (lv : v < modulesOf p) (w : Walked p u v out₀ out worst at i) where
+module _ (p : Plan) (u v : ℕ) (out₀ out : List ℕ) (worst at i : ℕ) (ok : Accepted p) (w : Walked p u v out₀ out worst at i) where
   -- what is written and what is left make the path
   walked-length : i + length (treePath p at v) ≡ length (treePath p u v)
   walked-length = omega (arith, ap length (w.path), length-append (w.done) (treePath p at v), w.count)
@@ -61,10 +63,10 @@ module _ (p : Plan) (u v : ℕ) (out₀ out : List ℕ) (worst at i : ℕ) (ok :
   -- the link to go is the one that the search knows
   module _ (by : List ℕ) (known : LinksTo p v u by) (d : at ≢ v) where
     abbrev n : Next p at v
-    n = pathSteps p ok v lv .next at (w.inside) d
+    n = pathSteps p ok v .next at (w.part) d
 
     link-is : getD by at 0 ≡ n.link
-    link-is = known.each at (w.inside) (omega (arith, walked-length)) ∙ head-is (n.rest)
+    link-is = known.each at (w.inside) (w.part) (omega (arith, walked-length)) ∙ head-is (n.rest)
 
     length-next : length (treePath p at v) ≡ suc (length (treePath p (n.to) v))
     length-next = ap length (n.rest)
@@ -83,6 +85,7 @@ module _ (p : Plan) (u v : ℕ) (out₀ out : List ℕ) (worst at i : ℕ) (ok :
       path = w.path ∙ ap (λ l. w.done ++ l) (n.rest) ∙ sym (append-snoc (w.done) (n.link) (treePath p (n.to) v));
       written = ap (λ l. set l i (n.link)) (w.written) ∙ stored;
       inside = n.inside;
+      part = n.part;
       held = cond-has WorstSoFar (eqb worst none) (n.link) (cond (earlier p worst (n.link)) (n.link) worst) (inr link-below)
           (cond-has WorstSoFar (earlier p worst (n.link)) (n.link) worst (inr link-below) (w.held));
       latest = sym (ap (latestFrom (earlier p) worst) (n.rest)) ∙ w.latest;
@@ -106,7 +109,7 @@ module _ (p : Plan) (u v : ℕ) (out₀ out : List ℕ) (worst at i : ℕ) (ok :
   walked-all e = (sym (ap (latestFrom (earlier p) worst) left) ∙ w.latest, w.written ∙ ap₂ (λ l n. l ++ drop n out₀) (sym all) (sym length-all))
     where
       left : treePath p at v ≡ []
-      left = ap (λ x. treePath p x v) e ∙ pathSteps p ok v lv .here
+      left = ap (λ x. treePath p x v) e ∙ pathSteps p ok v .here
 
       all : treePath p u v ≡ w.done
       all = w.path ∙ ap (λ l. w.done ++ l) left ∙ append-nil (w.done)

@@ -18,6 +18,7 @@ ghost use Rattle.base.specs.None.{none};
 ghost use Rattle.base.specs.Limits.{maxModules, maxLinks};
 ghost use Rattle.base.specs.Table.{tabulate};
 ghost use Rattle.graph.specs.Between.{across, laterOf};
+ghost use Rattle.graph.specs.Parts.{SamePart};
 ghost use Rattle.plan.specs.Links.{graphOf, modulesOf};
 ghost use Rattle.plan.specs.Weights.{earlier};
 ghost use Rattle.plan.specs.Refusal.{planRefusal};
@@ -26,11 +27,12 @@ ghost use Rattle.path.specs.Near.{markNear};
 ghost use Rattle.path_search.specs.Spread.{far, hopsTo, LinksTo};
 
 // What a call for a path answers.
-fn told(refusal: u32, length: u16, worst: u16) -> PathFound
-    ensures { λ r. ⌜ r ≡ record { refusal = refusal; length = length; worst = worst } ⌝ }
+fn told(refusal: u32, way: u32, length: u16, worst: u16) -> PathFound
+    ensures { λ r. ⌜ r ≡ record { refusal = refusal; way = way; length = length; worst = worst } ⌝ }
 {
     PathFound {
         refusal: refusal,
+        way: way,
         length: length,
         worst: worst,
     }
@@ -58,9 +60,9 @@ fn across(plan: &Plan, k: u16, u: u16) -> u16
     plan::lower(plan, k as usize)
 }
 
-// The path from u to v at the front of out, by the links to go first. Answers its latest link.
+// The path from u to v, of one part, at the front of out, by the links to go first. Answers its latest link.
 fn walk<'a>(plan: &'a Plan, by: &'a FirstLinks, u: u16, v: u16, out: &mut [u16]) -> u16
-    requires { ⌜ (planRefusal (now plan) ≡ 0) × (u < modulesOf (now plan)) × (v < modulesOf (now plan)) × LinksTo (now plan) v u (now by)
+    requires { ⌜ (planRefusal (now plan) ≡ 0) × (u < modulesOf (now plan)) × SamePart (graphOf (now plan)) u v × LinksTo (now plan) v u (now by)
         × (hopsTo (now plan) v u ≤ length (now out)) ⌝ }
     ensures { λ r. ⌜ (r ≡ worstOn (now (plan .entry)) (treePath (now (plan .entry)) u v))
         × (now (out .exit) ≡ treePath (now (plan .entry)) u v ++ drop (hopsTo (now (plan .entry)) v u) (now (out .entry))) ⌝ }
@@ -78,7 +80,7 @@ fn walk<'a>(plan: &'a Plan, by: &'a FirstLinks, u: u16, v: u16, out: &mut [u16])
     worst
 }
 
-// The path between two modules of a plan that was checked: 79, or its links at the front of out.
+// The path between two modules of a plan that was checked: no way, 79, or its links at the front of out.
 fn found(plan: &Plan, from: u16, to: u16, out: &mut [u16]) -> PathFound
     requires { ⌜ (planRefusal (now plan) ≡ 0) × (from < modulesOf (now plan)) × (to < modulesOf (now plan)) ⌝ }
     ensures { λ r. ⌜ record { answer = r; buffer = now (out .exit) } ≡ pathBetween (now (plan .entry)) from to (now (out .entry)) ⌝ }
@@ -87,26 +89,29 @@ fn found(plan: &Plan, from: u16, to: u16, out: &mut [u16]) -> PathFound
     let mut by = [NONE; NODES];
     path_search::spread_to(plan, &mut hops, &mut by, to, from);
     let length = hops[from as usize];
+    if length == FAR {
+        return told(0, 0, 0, NONE);
+    }
     if out.len() < length as usize {
-        return told(79, 0, NONE);
+        return told(79, 0, 0, NONE);
     }
     let worst = walk(plan, &by, from, to, out);
-    told(0, length as u16, worst)
+    told(0, 1, length as u16, worst)
 }
 
-// The path between two modules of any plan value: 14 to 19, 41, 79, or its links at the front of out.
+// The path between two modules of any plan value: 14 to 18, 41, no way, 79, or its links at the front of out.
 pub fn between(plan: &Plan, from: u16, to: u16, out: &mut [u16]) -> PathFound
     ensures { λ r. ⌜ record { answer = r; buffer = now (out .exit) } ≡ pathBetween (now (plan .entry)) from to (now (out .entry)) ⌝ }
 {
     let bad = plan_check::check(plan);
     if bad != 0 {
-        return told(bad, 0, NONE);
+        return told(bad, 0, 0, NONE);
     }
     if plan::modules(plan) <= from {
-        return told(41, 0, NONE);
+        return told(41, 0, 0, NONE);
     }
     if plan::modules(plan) <= to {
-        return told(41, 0, NONE);
+        return told(41, 0, 0, NONE);
     }
     found(plan, from, to, out)
 }
@@ -138,7 +143,7 @@ fn at_most(h: u32, n: u16) -> u8
     (n - 1) as u8
 }
 
-// The modules within h branches of one, of any plan value: 14 to 19, 41, 79, or N bytes at the front of out.
+// The modules within h branches of one, of any plan value: 14 to 18, 41, 79, or N bytes at the front of out, 0 for other parts.
 pub fn near(plan: &Plan, from: u16, h: u32, out: &mut [u8]) -> u32
     ensures { λ r. ⌜ record { refusal = r; state = now (out .exit) } ≡ markNear (now (plan .entry)) from h (now (out .entry)) ⌝ }
 {

@@ -14,7 +14,7 @@ ghost use Rattle.plan.specs.Links.{linksOf};
 ghost use Rattle.plan.specs.Trimmed.{trimmed};
 ghost use Rattle.field.specs.Held.{unmarked, fresh, blankField, setUp};
 
-// What a call that makes a field answers: the refusal, or 0 and the field; a field of zeros beside a refusal. Setup refuses by 14 to 19 and 21, restoring a
+// What a call that makes a field answers: the refusal, or 0 and the field; a field of zeros beside a refusal. Setup refuses by 14 to 18 and 21, restoring a
 // point by 76, 77 and 21.
 pub struct NewField {
     pub refusal: u32,

@@ -38,7 +38,7 @@ pub fn hand_back(g: Field, cells: &mut Cells, marks: &mut Marks, sent: &mut u32)
     *sent = g.sent;
 }
 
-// Setup: 14 to 19, then 21. `held` is the plan's place in the field.
+// Setup: 14 to 18, then 21. `held` is the plan's place in the field.
 #[no_mangle]
 pub extern "C" fn muruapy_setup_parts(
     plan: &Plan,

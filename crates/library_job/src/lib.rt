@@ -8,7 +8,7 @@ ghost use Rattle.text_report.specs.Text.{reportText};
 ghost use Rattle.library_job.specs.Lent.{jobInto};
 ghost use Rattle.field.specs.Held.{fieldFrom, heldFrom};
 
-// Setup, a wake of module 0 where there is one, rounds to rest: 14 to 19, then 21. `held` is the plan's place in the field; `rounds` gets the rounds completed.
+// Setup, a wake of the lowest module of each part, rounds to rest: 14 to 18, then 21. `held` is the plan's place in the field; `rounds` gets the rounds completed.
 #[no_mangle]
 pub extern "C" fn muruapy_job_parts(
     plan: &Plan,

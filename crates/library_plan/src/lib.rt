@@ -10,7 +10,7 @@ ghost use Rattle.plan_file.specs.Writing.{writePlan};
 ghost use Rattle.plan_tree.specs.Tree.{centralTree};
 ghost use Rattle.library_plan.specs.Lent.{planInto, costOrNone};
 
-// The first of a plan's refusals 11 to 19 that applies to the bytes, or 0 for taken.
+// The first of a plan's refusals 11 to 18 that applies to the bytes, or 0 for taken.
 #[no_mangle]
 pub extern "C" fn muruapy_plan_check(bytes: &[u8]) -> u32
     ensures { λ r. ⌜ r ≡ readRefusal (now (bytes .entry)) ⌝ }
@@ -18,7 +18,7 @@ pub extern "C" fn muruapy_plan_check(bytes: &[u8]) -> u32
     plan_file::check(bytes)
 }
 
-// A plan's bytes read into a lent plan: 11 to 19.
+// A plan's bytes read into a lent plan: 11 to 18.
 #[no_mangle]
 pub extern "C" fn muruapy_plan_read(bytes: &[u8], plan: &mut Plan) -> u32
     ensures { λ r. ⌜ record { refusal = r; state = now (plan .exit) } ≡ planInto (now (bytes .entry)) (now (plan .entry)) ⌝ }
@@ -31,7 +31,7 @@ pub extern "C" fn muruapy_plan_read(bytes: &[u8], plan: &mut Plan) -> u32
     got.refusal
 }
 
-// The check of any plan value: 14 to 19.
+// The check of any plan value: 14 to 18.
 #[no_mangle]
 pub extern "C" fn muruapy_plan_value_check(plan: &Plan) -> u32
     ensures { λ r. ⌜ r ≡ planRefusal (now (plan .entry)) ⌝ }
@@ -39,7 +39,7 @@ pub extern "C" fn muruapy_plan_value_check(plan: &Plan) -> u32
     plan_check::check(plan)
 }
 
-// Any plan value, written: 14 to 19, then 22.
+// Any plan value, written: 14 to 18, then 22.
 #[no_mangle]
 pub extern "C" fn muruapy_plan_write(plan: &Plan, bytes: &mut [u8]) -> u32
     ensures { λ r. ⌜ record { refusal = r; state = now (bytes .exit) } ≡ writePlan (now (plan .entry)) (now (bytes .entry)) ⌝ }
@@ -69,7 +69,7 @@ pub extern "C" fn muruapy_ceiling(modules: u16, links: u16) -> u32
     plan::ceiling(modules, links)
 }
 
-// The central tree of any plan value: 14 to 19, then 20.
+// The central tree of any plan value: 14 to 18, then 20.
 #[no_mangle]
 pub extern "C" fn muruapy_tree(plan: &Plan, tree: &mut [u8]) -> u32
     ensures { λ r. ⌜ record { refusal = r; state = now (tree .exit) } ≡ centralTree (now (plan .entry)) (now (tree .entry)) ⌝ }

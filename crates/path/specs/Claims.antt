@@ -1,8 +1,8 @@
--- What request 07 claims, as types: of every path that is answered (`PathClaim`), of the same path from its other end (`TurnedClaim`), of the room that it
+-- What requests 07 and 08 claim, as types: of every answer that is no refusal (`PathClaim`), of the same path from its other end (`TurnedClaim`), of the room that it
 -- needs (`RoomClaim`), of the marks (`NearClaim`).
 use Prim.Native.Nat.{ℕ, suc, _≤_, _<_}
 use mathlib.Core.Path.{_≡_}
-use mathlib.Core.Logic.{_≢_}
+use mathlib.Core.Logic.{_≢_, _⊎_}
 use mathlib.Core.Bool.{false}
 use mathlib.Core.List.{List, reverse}
 use lib.ListN.{length, getD, take, drop}
@@ -11,6 +11,7 @@ use Rattle.base.specs.Cond.{bit}
 use Rattle.base.specs.None.{none}
 use Rattle.base.specs.Twice.{NoTwice}
 use Rattle.graph.specs.Graph.{Way, Any}
+use Rattle.graph.specs.Parts.{SamePart}
 use Rattle.graph.specs.Path.{edgesOf}
 use Rattle.graph.specs.Between.{Latest}
 use Rattle.plan.specs.Links.{graphOf, Plan, modulesOf}
@@ -27,6 +28,7 @@ shownLinks r = take (r .answer .length) (r .buffer)
 
 -- of a path that was answered, from u to v in this lent buffer
 pub record PathHolds (p : Plan) (u v : ℕ) (lent : List ℕ) (r : PathShown) : Type 0 where
+  pub found : r .answer .way ≡ 1
   -- "the tree path as link numbers, from the first module on, at the front": a way over tree links on which no module comes twice, ..
   pub path : TreePath p u v
   pub shows : shownLinks r ≡ edgesOf (path .way)
@@ -47,13 +49,23 @@ pub record PathHolds (p : Plan) (u v : ℕ) (lent : List ℕ) (r : PathShown) : 
   pub rest : drop (r .answer .length) (r .buffer) ≡ drop (r .answer .length) lent
   pub size : length (r .buffer) ≡ length lent
 
+-- "A path between parts is answered "no way"." (request 08): no links join the two modules, and the buffer keeps
+pub record NoWay (p : Plan) (u v : ℕ) (lent : List ℕ) (r : PathShown) : Type 0 where
+  pub found : r .answer .way ≡ 0
+  pub apart : ¬ SamePart (graphOf p) u v
+  pub empty : (r .answer .length ≡ 0) × (r .answer .worst ≡ none)
+  pub keeps : r .buffer ≡ lent
+
 -- every plan value, any two numbers and any buffer
 abbrev pub PathClaim : Type 0
-PathClaim = (p : Plan) (u v : ℕ) (lent : List ℕ) → pathBetween p u v lent .answer .refusal ≡ 0 → PathHolds p u v lent (pathBetween p u v lent)
+PathClaim =
+    (p : Plan) (u v : ℕ) (lent : List ℕ) → pathBetween p u v lent .answer .refusal ≡ 0
+    → PathHolds p u v lent (pathBetween p u v lent) ⊎ NoWay p u v lent (pathBetween p u v lent)
 
--- from the other end it is the same path turned round, with the same worst link, wherever there is room for it
+-- from the other end it is the same path turned round, with the same worst link, wherever there is room for it, or no way again
 pub record TurnedRound (r s : PathShown) : Type 0 where
   pub taken : s .answer .refusal ≡ 0
+  pub found : s .answer .way ≡ r .answer .way
   pub links : shownLinks s ≡ reverse (shownLinks r)
   pub worst : s .answer .worst ≡ r .answer .worst
 
@@ -75,8 +87,10 @@ RoomClaim = (p : Plan) (u v : ℕ) (lent : List ℕ) → pathBetween p u v lent 
 
 -- of marks that were written for this module and h in this lent buffer
 pub record NearHolds (p : Plan) (m h : ℕ) (lent bytes : List ℕ) : Type 0 where
-  -- "1 for each module within h branches of one module and 0 otherwise": there is a path, and its length decides
-  pub paths : (v : ℕ) → v < modulesOf p → TreePath p m v
+  -- "1 for each module within h branches of one module and 0 otherwise": where there is a path its length decides, and there is one to each module of the part;
+  -- modules of other parts get 0 (request 08)
+  pub paths : (v : ℕ) → v < modulesOf p → SamePart (graphOf p) m v → TreePath p m v
+  pub apart : (v : ℕ) → v < modulesOf p → ¬ SamePart (graphOf p) m v → getD bytes v 0 ≡ 0
   pub marks : (v : ℕ) → v < modulesOf p → (q : TreePath p m v) → getD bytes v 0 ≡ bit (leb (length (edgesOf (q .way))) h)
   -- "The rest .. keeps."
   pub rest : drop (modulesOf p) bytes ≡ drop (modulesOf p) lent

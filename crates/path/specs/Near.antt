@@ -1,6 +1,6 @@
 -- Document 02's request 07: "A second answer writes N bytes, 1 for each module within h branches of one module and 0 otherwise."
 use Prim.Native.Nat.{ℕ}
-use mathlib.Core.Bool.{Bool}
+use mathlib.Core.Bool.{Bool, _&&_}
 use mathlib.Core.List.{List, _++_}
 use lib.ListN.{length, drop}
 use lib.Dec.{ltb, leb}
@@ -8,16 +8,17 @@ use Rattle.base.specs.Cond.{bit}
 use Rattle.base.specs.Loop.{After, answering}
 use Rattle.base.specs.Refuse.{orElse, firstRefusal}
 use Rattle.base.specs.Table.{tabulate}
-use Rattle.plan.specs.Links.{Plan, modulesOf}
+use Rattle.graph.specs.Parts.{together}
+use Rattle.plan.specs.Links.{graphOf, Plan, modulesOf}
 use Rattle.plan.specs.Refusal.{planRefusal}
 use Rattle.path.specs.Between.{treePath}
 
--- "within h branches": tree links, of the tree path
+-- "within h branches": tree links, of the tree path; a module of another part is not (request 08)
 abbrev pub withinBranches : Plan → ℕ → ℕ → ℕ → Bool
-withinBranches p m h v = leb (length (treePath p m v)) h
+withinBranches p m h v = together (graphOf p) m v && leb (length (treePath p m v)) h
 
 unfoldable pub nearBytes : Plan → ℕ → ℕ → List ℕ
-unfolding tabulate treePath
+unfolding tabulate together treePath
 nearBytes p m h = tabulate (modulesOf p) (λ v. bit (withinBranches p m h v))
 
 -- "Errors: 79 a buffer shorter .. than N for the marks; it follows the plan's checks and 41."

@@ -21,7 +21,7 @@ pub const NODES: usize = MAX_MODULES as usize;
 // The tree links, from the front on.
 pub type BranchList = [u16; LINKS];
 
-// For each node its hops to the goal, FAR where they are not known yet, and the first link of its path, none there and at the goal itself.
+// For each node its hops to the goal, FAR where they are not known, and the first link of its path, none there and at the goal itself.
 pub type Hops = [u8; NODES];
 
 pub type FirstLinks = [u16; NODES];
@@ -135,21 +135,28 @@ fn pass(
     any
 }
 
-// All nodes that are no further from v than u become known.
+// The nodes of v's part that are no further from v than u become known, and so u itself if it is one of them.
 pub fn spread_to(plan: &Plan, hops: &mut Hops, by: &mut FirstLinks, v: u16, u: u16)
     requires { ⌜ (planRefusal (now plan) ≡ 0) × BothSized (now hops) (now by) × (v < modulesOf (now plan)) × (u < modulesOf (now plan)) ⌝ }
     ensures { λ _. ⌜ KnownTo (now (plan .entry)) v u (now (hops .exit)) (now (by .exit)) ⌝ }
 {
     let mut list = [0u16; LINKS];
     let n = begin(plan, &mut list, hops, by, v);
+    let last = (plan::modules(plan) - 1) as u8;
     let mut h: u8 = 0;
-    while hops[u as usize] == FAR {
-        pass(plan, &list, n, hops, by, h);
+    while h < last {
+        if hops[u as usize] != FAR {
+            return;
+        }
+        let news = pass(plan, &list, n, hops, by, h);
+        if !news {
+            return;
+        }
         h += 1;
     }
 }
 
-// The nodes within `most` hops of v become known, and no others.
+// The nodes of v's part within `most` hops of v become known, and no others.
 pub fn spread_within(plan: &Plan, hops: &mut Hops, by: &mut FirstLinks, v: u16, most: u8)
     requires { ⌜ (planRefusal (now plan) ≡ 0) × BothSized (now hops) (now by) × (v < modulesOf (now plan)) × (most < modulesOf (now plan)) ⌝ }
     ensures { λ _. ⌜ KnownWithin (now (plan .entry)) v most (now (hops .exit)) ⌝ }

@@ -4,8 +4,7 @@ use mathlib.Core.Bool.{Bool, true, not, _&&_, _||_}
 use lib.Dec.{eqb, ltb, leb}
 use Rattle.base.specs.Refuse.{orElse, firstRefusal}
 use Rattle.base.specs.Limits.{maxModules, maxLinks, maxReading}
-use Rattle.plan.specs.Links.{Plan, modulesOf, linksOf, lowerOf, higherOf, nearOf, farOf, graphOf}
-use Rattle.graph.specs.Decide.{connected}
+use Rattle.plan.specs.Links.{Plan, modulesOf, linksOf, lowerOf, higherOf, nearOf, farOf}
 
 -- "14 N .. above 192; 15 L above 600 or not fitting the length": of a plan value and of its bytes. (Request 04: "Refusal 14 is now only for N above 192")
 abbrev pub countsRefusal : ℕ → ℕ → Bool → ℕ
@@ -35,9 +34,6 @@ unfoldable pub linksRefusal : Plan → ℕ → ℕ → ℕ
 linksRefusal p zero k = 0
 linksRefusal p (suc n) k = firstRefusal (linkRefusal p k) (linksRefusal p n (suc k))
 
--- "14 ..; 15 ..; then for each link ..; at the end 19 not connected". A value has no length that L might not fit.
+-- "14 ..; 15 ..; then for each link ..", and no more: "A plan in several parts is accepted" (request 08). A value has no length that L might not fit.
 unfoldable pub planRefusal : Plan → ℕ
-planRefusal p =
-    firstRefusal (countsRefusal (modulesOf p) (linksOf p) true)
-    (firstRefusal (linksRefusal p (linksOf p) 0)
-    (orElse (not (connected (graphOf p) (modulesOf p))) 19 0))
+planRefusal p = firstRefusal (countsRefusal (modulesOf p) (linksOf p) true) (linksRefusal p (linksOf p) 0)

@@ -8,10 +8,9 @@ use mathlib.Core.Bool.{Bool, true, false}
 use lib.Dec.{ltb}
 use borrow.Author.Tests.{lt-ltb, le-ltb, le-leb, lt-leb, eq-eqb, ne-eqb}
 use Rattle.base.specs.laws.Cond.{bool-cases}
-use Rattle.graph.specs.Decide.{connected}
 use Rattle.base.specs.Limits.{maxModules, maxLinks, maxReading}
-use Rattle.plan.specs.Links.{Plan, modulesOf, linksOf, lowerOf, higherOf, nearOf, farOf, graphOf}
-use Rattle.plan.specs.laws.Accepted.{Counts, counted, link-accepted, links-accepted}
+use Rattle.plan.specs.Links.{Plan, modulesOf, linksOf, lowerOf, higherOf, nearOf, farOf}
+use Rattle.plan.specs.laws.Accepted.{Counts, counted}
 use Rattle.plan.specs.Refusal.{countsRefusal, ascends, inOrder, linkVerdict, linkRefusal, linksRefusal, planRefusal}
 
 -- THE ORDER OF TWO LINKS
@@ -85,10 +84,6 @@ pub links-over : (p : Plan) (l k : ℕ) → l ≤ k → linksRefusal p (l - k) k
 unfolding linksRefusal
 links-over p l k m = (let e : l - k ≡ 0 = omega arith in ap (λ n. linksRefusal p n k) e)
 
--- links that pass end at modules below maxModules
-pub ends-inside : (p : Plan) → modulesOf p ≤ maxModules → linksRefusal p (linksOf p) 0 ≡ 0 → (k : ℕ) → k < linksOf p → (lowerOf p k < maxModules) × (higherOf p k < maxModules)
-ends-inside p n z k l = let o = link-accepted p k (links-accepted p (linksOf p) 0 z k (omega arith) (omega arith)) in (omega (arith, o .ordered, o .inside), omega (arith, o .inside))
-
 -- N AND L
 
 module _ (n l : ℕ) (fits : Bool) where
@@ -117,16 +112,6 @@ module _ (p : Plan) (n : ℕ) (a : n ≡ countsRefusal (modulesOf p) (linksOf p)
   p-counts d = rw (← a, ne-eqb n 0 d)
 
   module _ (b : n ≡ 0) where
-    module _ (r : ℕ) (e : r ≡ linksRefusal p (linksOf p) 0) where
-      pub p-link : r ≢ 0 → r ≡ planRefusal p
-      unfolding planRefusal
-      p-link h = rw (← a, eq-eqb n 0 b, ← e, ne-eqb r 0 h)
-
-      module _ (z : r ≡ 0) where
-        pub p-fine : connected (graphOf p) (modulesOf p) ≡ true → 0 ≡ planRefusal p
-        unfolding planRefusal
-        p-fine h = rw (← a, eq-eqb n 0 b, ← e, eq-eqb r 0 z, h)
-
-        pub p-apart : connected (graphOf p) (modulesOf p) ≡ false → 19 ≡ planRefusal p
-        unfolding planRefusal
-        p-apart h = rw (← a, eq-eqb n 0 b, ← e, eq-eqb r 0 z, h)
+    pub p-links : (r : ℕ) → r ≡ linksRefusal p (linksOf p) 0 → r ≡ planRefusal p
+    unfolding planRefusal
+    p-links r e = rw (← a, eq-eqb n 0 b, ← e)

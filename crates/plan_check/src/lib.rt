@@ -1,4 +1,4 @@
-// The check of a plan value: N and L, each link, whether the links join all modules.
+// The check of a plan value: N and L, each link.
 use base::MAX_LINKS;
 use base::MAX_MODULES;
 use base::MAX_READING;
@@ -8,8 +8,6 @@ ghost use Prim.Native.Nat.{_<_, _≤_};
 ghost use Rattle.base.specs.Limits.{maxLinks};
 ghost use Rattle.plan.specs.Links.{linksOf};
 ghost use Rattle.plan.specs.Refusal.{countsRefusal, ascends, inOrder, linkVerdict, linkRefusal, linksRefusal, planRefusal};
-
-mod parts;
 
 // Whether link (lo2, hi2) stands after link (lo, hi).
 fn ascends(lo: u16, hi: u16, lo2: u16, hi2: u16) -> bool
@@ -108,7 +106,7 @@ pub fn counts_check(n: u16, l: u16, fits: bool) -> u32
     0
 }
 
-// The check of a plan value: the first of 14 to 19 that applies, or 0.
+// The check of a plan value: the first of 14 to 18 that applies, or 0.
 pub fn check(p: &Plan) -> u32
     ensures { λ r. ⌜ r ≡ planRefusal (now (p .entry)) ⌝ }
 {
@@ -116,12 +114,5 @@ pub fn check(p: &Plan) -> u32
     if counts != 0 {
         return counts;
     }
-    let r = links_check(p);
-    if r != 0 {
-        return r;
-    }
-    if parts::connected(p) {
-        return 0;
-    }
-    19
+    links_check(p)
 }

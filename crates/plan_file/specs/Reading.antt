@@ -1,4 +1,4 @@
--- Which bytes are taken: the plan writer's refusals 11 to 19, "in this order".
+-- Which bytes are taken: the plan writer's refusals 11 to 18, "in this order".
 use Prim.Native.Nat.{ℕ, _+_, _*_, _-_}
 use mathlib.Core.Path.{_≡_}
 use mathlib.Core.Bool.{cond, not, _||_}
@@ -20,7 +20,7 @@ headVerdict size version len counts =
 abbrev pub headRefusal : List ℕ → ℕ
 headRefusal s = headVerdict (length s) (getD s 0 0) (numberAt s 0) (countsRefusal (numberAt s 1) (numberAt s 2) (eqb (numberAt s 0) (4 + 8 * numberAt s 2)))
 
--- "then for each link 16 ..; 17 ..; 18 ..; at the end 19 not connected": as of the plan value
+-- "then for each link 16 ..; 17 ..; 18 ..": as of the plan value
 unfoldable pub readRefusal : List ℕ → ℕ
 readRefusal s = firstRefusal (headRefusal s) (planRefusal (decode s))
 

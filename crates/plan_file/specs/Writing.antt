@@ -13,7 +13,7 @@ use Rattle.plan_file.specs.Layout.{encode}
 abbrev pub size : Plan → ℕ
 size p = 7 + 8 * linksOf p
 
--- "The plan writer refuses a plan value by 14 to 19 likewise, then 22 if its buffer is too short"
+-- "The plan writer refuses a plan value .. likewise, then 22 if its buffer is too short": by 14 to 18, since request 08
 unfoldable pub writeRefusal : Plan → List ℕ → ℕ
 unfolding planRefusal
 writeRefusal p out = firstRefusal (planRefusal p) (orElse (ltb (length out) (size p)) 22 0)

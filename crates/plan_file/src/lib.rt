@@ -73,7 +73,7 @@ pub fn load(s: &[u8], plan: &mut Plan) -> u32
     plan_check::check(plan)
 }
 
-// Whether bytes are a plan: the first of 11 to 19 that applies, or 0.
+// Whether bytes are a plan: the first of 11 to 18 that applies, or 0.
 pub fn check(s: &[u8]) -> u32
     ensures { λ r. ⌜ r ≡ readRefusal (now (s .entry)) ⌝ }
 {
@@ -81,7 +81,7 @@ pub fn check(s: &[u8]) -> u32
     load(s, &mut plan)
 }
 
-// The plan that bytes are, or the first of 11 to 19 that applies.
+// The plan that bytes are, or the first of 11 to 18 that applies.
 pub fn read(s: &[u8]) -> Outcome
     ensures { λ r. ⌜ r ≡ readPlan (now (s .entry)) ⌝ }
 {
@@ -115,7 +115,7 @@ pub fn put_plan(p: &Plan, out: &mut [u8])
     }
 }
 
-// Writes a plan value at the front of the buffer: the first of 14 to 19 that applies, 22, or 0.
+// Writes a plan value at the front of the buffer: the first of 14 to 18 that applies, 22, or 0.
 pub fn write(p: &Plan, out: &mut [u8]) -> u32
     ensures { λ r. ⌜ record { refusal = r; state = now (out .exit) } ≡ writePlan (now (p .entry)) (now (out .entry)) ⌝ }
 {

@@ -3,14 +3,18 @@
 use base::MAX_MODULES;
 use plan::Plan;
 ghost use mathlib.Core.Path.{_≡_};
-ghost use mathlib.Core.Bool.{true};
+ghost use mathlib.Core.Bool.{not};
 ghost use Prim.Native.Nat.{ℕ, _<_, _≤_};
 ghost use lib.ListN.{length, getD};
+ghost use lib.Dec.{eqb};
+ghost use Rattle.base.specs.Cond.{bit};
+ghost use Rattle.base.specs.Sum.{sum};
+ghost use Rattle.base.specs.Test.{every};
 ghost use Rattle.base.specs.Limits.{maxModules, maxLinks};
 ghost use Rattle.base.specs.Table.{tabulate};
 ghost use Rattle.graph.specs.Labels.{rename};
-ghost use Rattle.graph.specs.Decide.{label};
-ghost use Rattle.plan.specs.Links.{linksOf, lowerOf, higherOf, graphOf};
+ghost use Rattle.plan.specs.Links.{linksOf, lowerOf, higherOf};
+ghost use Rattle.plan_labels.specs.Labels.{partLabels};
 
 pub const LABELS: usize = MAX_MODULES as usize;
 
@@ -61,7 +65,7 @@ pub fn join(parts: &mut PartLabels, from: u8, to: u8)
 pub fn merge(plan: &Plan, parts: &mut PartLabels)
     requires { ⌜ (length (now parts) ≡ maxModules) × (linksOf (now plan) ≤ maxLinks)
         × ((k : ℕ) → k < linksOf (now plan) → (lowerOf (now plan) k < maxModules) × (higherOf (now plan) k < maxModules)) ⌝ }
-    ensures { λ _. ⌜ now (parts .exit) ≡ tabulate maxModules (label (graphOf (now (plan .entry))) (λ _. true) (linksOf (now (plan .entry)))) ⌝ }
+    ensures { λ _. ⌜ now (parts .exit) ≡ partLabels (now (plan .entry)) ⌝ }
 {
     number(parts);
     let end = plan::links(plan) as usize;
@@ -72,4 +76,43 @@ pub fn merge(plan: &Plan, parts: &mut PartLabels)
         join(parts, a, b);
         k += 1;
     }
+}
+
+// Whether u and v have one label: are in one part, once all links are merged.
+pub fn same(parts: &PartLabels, u: usize, v: usize) -> bool
+    requires { ⌜ (u < maxModules) × (v < maxModules) ⌝ }
+    ensures { λ r. ⌜ r ≡ eqb (getD (now (parts .entry)) u 0) (getD (now (parts .entry)) v 0) ⌝ }
+{
+    parts[u] == parts[v]
+}
+
+// Whether no node below v has v's label.
+pub fn lowest(parts: &PartLabels, v: usize) -> bool
+    requires { ⌜ v < maxModules ⌝ }
+    ensures { λ r. ⌜ r ≡ every v (λ u. not (eqb (getD (now (parts .entry)) u 0) (getD (now (parts .entry)) v 0))) ⌝ }
+{
+    let mut u: usize = v;
+    while 0 < u {
+        u -= 1;
+        if parts[u] == parts[v] {
+            return false;
+        }
+    }
+    true
+}
+
+// How many of the nodes below n have u's label.
+pub fn nodes_with(parts: &PartLabels, n: usize, u: usize) -> usize
+    requires { ⌜ (n ≤ maxModules) × (u < maxModules) ⌝ }
+    ensures { λ r. ⌜ r ≡ sum n (λ v. bit (eqb (getD (now (parts .entry)) u 0) (getD (now (parts .entry)) v 0))) ⌝ }
+{
+    let mut count: usize = 0;
+    let mut v: usize = 0;
+    while v < n {
+        if parts[u] == parts[v] {
+            count += 1;
+        }
+        v += 1;
+    }
+    count
 }

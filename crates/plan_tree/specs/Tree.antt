@@ -23,7 +23,7 @@ unfoldable pub treeBytes : Plan → List ℕ
 unfolding tabulate inTree
 treeBytes p = tabulate (linksOf p) (λ k. bit (treeLink p k))
 
--- the plan's refusals 14 to 19, then "20 tree buffer not L bytes"
+-- the plan's refusals 14 to 18, then "20 tree buffer not L bytes"
 unfoldable pub treeRefusal : Plan → List ℕ → ℕ
 unfolding planRefusal
 treeRefusal p out = firstRefusal (planRefusal p) (orElse (not (eqb (length out) (linksOf p))) 20 0)

@@ -4,3 +4,4 @@ pub mod Tree
 pub mod Theorems
 pub mod Paths
 pub mod Samples
+pub mod Uses

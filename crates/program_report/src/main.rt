@@ -1,5 +1,5 @@
-// The reporting program: reads a plan on standard input, wakes module 0 where there is one, runs rounds to rest and prints the tree that the
-// field has come to. A refused plan prints one line, as "refused 19".
+// The reporting program: reads a plan on standard input, wakes the lowest module of each part, runs rounds to rest and prints the tree that each
+// part has come to. A refused plan prints one line, as "refused 16".
 ghost use mathlib.Core.Path.{_≡_};
 ghost use Rattle.format_text.specs.Input.{OfInput};
 ghost use Rattle.format_text.specs.Put.{page, put};

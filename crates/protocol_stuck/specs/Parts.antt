@@ -1,9 +1,10 @@
--- STUCK MEANS FINISHED (`stuck-finished`), and so does rest (`rest-finished`): what such a state says of each part of the graph.
+-- STUCK MEANS FINISHED (`stuck-finished`), and so does rest (`rest-finished`): what such a state says of each part of the graph. A part with nobody awake is
+-- as at setup in every state with the invariant (`part-asleep`).
 use Rattle.protocol.specs.Prelude.{ℕ, _≤_, _<_, arith, _≡_, refl, sym, ap, subst, _≢_, _⊎_, inl, inr, ⊎-elim, by-eq, List, [], _∷_}
-use Rattle.protocol.specs.Prelude.{Network, Edge, Tree, up, down, flip, wider, Way, ProtocolState, setupState, Idle, GL, GC, In, first, in-nil, Inv}
+use Rattle.protocol.specs.Prelude.{Network, Edge, Tree, up, down, flip, wider, ProtocolState, setupState, Idle, GL, GC, In, first, in-nil, Inv}
 use Rattle.protocol.specs.Prelude.{sleep-lev, sleep-id, sleep-te, sleep-fc, sleep-halt, sleep-ib}
 use mathlib.Core.Logic.{_↔_}
-use Rattle.graph.specs.Graph.{Any}
+use Rattle.graph.specs.Parts.{SamePart}
 use Rattle.graph.specs.laws.Ways.{way-reverse}
 use Rattle.protocol_stuck.specs.Informed.{Stuck}
 use Rattle.protocol_stuck.specs.Finished.{edge?, part, part-awake, nothing}
@@ -11,33 +12,29 @@ use Rattle.protocol_stuck.specs.Rest.{leaves, tree-branch, other-rejecte
 
 -- ---- what is said of a part
 
--- the part of v: the nodes that a way over the plan's edges joins to v
-abbrev pub SamePart : Network → ℕ → ℕ → Type 0
-SamePart p v u = Way p.g Any v u
-
 -- exactly two of v's part have halted, the ends of one of its tree edges
 pub record PartCore (p : Network) (s : ProtocolState) (v : ℕ) : Type 0 where
   pub edge : ℕ
   pub within : edge < p.g.L
   pub tree : Tree p edge
-  pub inside : SamePart p v (p.g.lo edge)
+  pub inside : SamePart p.g v (p.g.lo edge)
   pub apart : p.g.lo edge ≢ p.g.hi edge
-  pub halted : (u : ℕ) → SamePart p v u → (s.halt u ≡ 1) ↔ ((u ≡ p.g.lo edge) ⊎ (u ≡ p.g.hi edge))
+  pub halted : (u : ℕ) → SamePart p.g v u → (s.halt u ≡ 1) ↔ ((u ≡ p.g.lo edge) ⊎ (u ≡ p.g.hi edge))
 
 -- v is a part by itself, has no edge, and has halted
 pub record PartOfOne (p : Network) (s : ProtocolState) (v : ℕ) : Type 0 where
-  pub only : (u : ℕ) → SamePart p v u → u ≡ v
+  pub only : (u : ℕ) → SamePart p.g v u → u ≡ v
   pub edgeless : (k u : ℕ) → ¬ Edge p k v u
   pub halted : s.halt v ≡ 1
 
 -- v's part is finished: both ends of each of its tree edges Branch, of its other edges Rejected, and who has halted
 pub record PartFinished (p : Network) (s : ProtocolState) (v : ℕ) : Type 0 where
-  pub tree : (k a b : ℕ) → Edge p k a b → SamePart p v a → Tree p k → (s.mark a k ≡ 1) × (s.mark b k ≡ 1)
-  pub others : (k a b : ℕ) → Edge p k a b → SamePart p v a → ¬ Tree p k → (s.mark a k ≡ 2) × (s.mark b k ≡ 2)
+  pub tree : (k a b : ℕ) → Edge p k a b → SamePart p.g v a → Tree p k → (s.mark a k ≡ 1) × (s.mark b k ≡ 1)
+  pub others : (k a b : ℕ) → Edge p k a b → SamePart p.g v a → ¬ Tree p k → (s.mark a k ≡ 2) × (s.mark b k ≡ 2)
   pub halted : PartCore p s v ⊎ PartOfOne p s v
 
 -- v's values in the tables, and its marks, are as at setup
-pub record AsAtSetup (s : ProtocolState) (v : ℕ) : Type 0 where
+pub record NodeAsleep (s : ProtocolState) (v : ℕ) : Type 0 where
   pub status : s.st v ≡ setupState.st v
   pub level : s.lev v ≡ setupState.lev v
   pub identity : s.id v ≡ setupState.id v
@@ -51,21 +48,21 @@ pub record AsAtSetup (s : ProtocolState) (v : ℕ) : Type 0 where
 
 -- v's part is as at setup, its channels with it
 pub record PartAsleep (p : Network) (s : ProtocolState) (v : ℕ) : Type 0 where
-  pub nodes : (u : ℕ) → SamePart p v u → AsAtSetup s u
-  pub channels : (k a b : ℕ) → Edge p k a b → SamePart p v a → s.ch a k ≡ setupState.ch a k
+  pub nodes : (u : ℕ) → SamePart p.g v u → NodeAsleep s u
+  pub channels : (k a b : ℕ) → Edge p k a b → SamePart p.g v a → s.ch a k ≡ setupState.ch a k
 
 -- no message is on any channel; each part with an awake node, u, is finished; each part with none is asleep
 pub record AllFinished (p : Network) (s : ProtocolState) : Type 0 where
   pub silent : (k a b : ℕ) → Edge p k a b → s.ch a k ≡ []
-  pub awake : (v u : ℕ) → SamePart p v u → s.st u ≢ 0 → PartFinished p s v
-  pub asleep : (v : ℕ) → ((u : ℕ) → SamePart p v u → s.st u ≡ 0) → PartAsleep p s v
+  pub awake : (v u : ℕ) → SamePart p.g v u → s.st u ≢ 0 → PartFinished p s v
+  pub asleep : (v : ℕ) → ((u : ℕ) → SamePart p.g v u → s.st u ≡ 0) → PartAsleep p s v
 
 -- ---- a part in which nobody is awake, in any state with the invariant
 
-part-asleep : {p : Network} {s : ProtocolState} → Inv p s → (v : ℕ) → ((u : ℕ) → SamePart p v u → s.st u ≡ 0) → PartAsleep p s v
+pub part-asleep : {p : Network} {s : ProtocolState} → Inv p s → (v : ℕ) → ((u : ℕ) → SamePart p.g v u → s.st u ≡ 0) → PartAsleep p s v
 part-asleep {p} {s} i v z = record { nodes = λ u w. node u (z u w); channels = λ k a b e w. i.hush.g6o k a b e (z a w) }
   where
-    node : (u : ℕ) → s.st u ≡ 0 → AsAtSetup s u
+    node : (u : ℕ) → s.st u ≡ 0 → NodeAsleep s u
     node u e = record {
       status = e;
       level = sleep-lev i u e;
@@ -94,14 +91,14 @@ module _ {p : Network} {s : ProtocolState} (i : Inv p s) (t : Stuck p s) (w : �
     core-ends = up (i.cores.g5r w level) refl refl
 
     -- each of the part has an edge
-    has-edge : (v : ℕ) → SamePart p w v → (k : ℕ) × (u : ℕ) × Edge p k v u
+    has-edge : (v : ℕ) → SamePart p.g w v → (k : ℕ) × (u : ℕ) × Edge p k v u
     has-edge v y = by-eq v w (λ e. (j, x, subst (λ z. Edge p j z x) (sym e) f)) (λ n. leaves (way-reverse y) n)
 
     end-of : {v y : ℕ} → Edge p core v y → (v ≡ p.g.lo core) ⊎ (v ≡ p.g.hi core)
     end-of (up l e f) = inl (sym e)
     end-of (down l e f) = inr (sym e)
 
-    is-end : (v : ℕ) → SamePart p w v → s.halt v ≡ 1 → (v ≡ p.g.lo core) ⊎ (v ≡ p.g.hi core)
+    is-end : (v : ℕ) → SamePart p.g w v → s.halt v ≡ 1 → (v ≡ p.g.lo core) ⊎ (v ≡ p.g.hi core)
     is-end v y h =
         let e = has-edge v y in
         let c = halted-core i t (e .0) v (e .1) (e .2) (λ q. omega arith) in

@@ -111,7 +111,7 @@ actAnswers (a ∷ l) c = record { act = a; refusal = acts a c .refusal } ∷ act
 
 -- "Besides its own numbers, 76, 77, 78 and 21 can occur; 31, 32, 33 cannot." (0 is no refusal.)
 abbrev pub MayAnswer : Act → ℕ → Type 0
-MayAnswer (setsUp p) r = (r ≡ 0) ⊎ ((14 ≤ r) × (r ≤ 19)) ⊎ (r ≡ 21)
+MayAnswer (setsUp p) r = (r ≡ 0) ⊎ ((14 ≤ r) × (r ≤ 18)) ⊎ (r ≡ 21)
 MayAnswer (calls x) r = Allowed x r
 MayAnswer (saves i name) r = (r ≡ 0) ⊎ ((76 ≤ r) × (r ≤ 78))
 MayAnswer (finds i name) r = (r ≡ 0) ⊎ ((76 ≤ r) × (r ≤ 77))

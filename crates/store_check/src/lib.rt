@@ -95,7 +95,7 @@ fn words_part<'a>(r: &'a [u8], plan: &Plan) -> &'a [u8]
 
 // READING
 
-// A record's plan, into a plan of zeros: the first of 11 to 19 that applies, or 0.
+// A record's plan, into a plan of zeros: the first of 11 to 18 that applies, or 0.
 fn read_plan(r: &[u8], plan: &mut Plan) -> u32
     requires { ⌜ now plan ≡ blank ⌝ }
     ensures { λ t. ⌜ Loaded (planBytes (now (r .entry))) t (now (plan .exit)) ⌝ }

@@ -21,6 +21,7 @@ jobText r = cond (eqb (r .refusal) 0) (reportText (r .state .field) (r .done)) (
 unfoldable pub planText : Outcome → List ℕ
 planText g = cond (eqb (g .refusal) 0) (jobText (jobRun (g .plan) (replicate (ceilingOf (g .plan)) 0))) (refusedText (g .refusal))
 
--- "The reporting program reads a plan on standard input, wakes module 0, runs rounds with limit 65535."; request 04: it "skips the wake" where there is nobody
+-- "The reporting program reads a plan on standard input, wakes module 0, runs rounds with limit 65535."; request 04: it "skips the wake" where there is nobody;
+-- request 08: it "wakes the lowest module of each part and prints a core line for each"
 abbrev pub reported : List ℕ → List ℕ
 reported s = planText (readPlan s)

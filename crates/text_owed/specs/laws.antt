@@ -2,6 +2,7 @@ pub mod Reported
 pub mod ReportFits
 pub mod ReportLong
 pub mod Tree
+pub mod Lines
 pub mod Agrees
 pub mod Sample
 pub mod Traced

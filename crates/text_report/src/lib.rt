@@ -1,18 +1,23 @@
 // The report of a field, line by line, put into a lent buffer.
-ghost use Prim.Native.Nat.{min};
+ghost use Prim.Native.Nat.{min, _<_, _≤_};
 ghost use mathlib.Core.Path.{_≡_};
+ghost use mathlib.Core.Bool.{cond};
+ghost use mathlib.Core.List.{[]};
 ghost use Rattle.base.specs.Limits.{maxModules, maxLinks};
-ghost use Rattle.plan.specs.Links.{modulesOf, linksOf};
+ghost use Rattle.graph.specs.Parts.{lowest};
+ghost use Rattle.plan.specs.Links.{modulesOf, linksOf, graphOf};
+ghost use Rattle.plan_labels.specs.Labels.{partLabels};
 ghost use Rattle.format_text.specs.Put.{page, put};
 ghost use Rattle.text_report.specs.Total.{total as Total·total};
-ghost use Rattle.text_report.specs.Text.{sizesText, branchText, branchLines, endText, endsText, coreText, tailText, reportText};
+ghost use Rattle.text_report.specs.Text.{sizesText, branchText, branchLines, endText, endsText, partText, partLines, coreText, tailText, reportText};
 use base::MAX_LINKS;
-use base::MAX_MODULES;
 use field::Cells;
 use field::Field;
 use field::Marks;
 use node::BRANCH;
 use plan::Plan;
+use plan_labels::LABELS;
+use plan_labels::PartLabels;
 
 // The smaller of two: a field has room for no more than `most`.
 fn at_most(x: u16, most: u16) -> usize
@@ -50,13 +55,6 @@ fn links_shown(plan: &Plan) -> usize
     at_most(plan::links(plan), MAX_LINKS)
 }
 
-// The modules that are shown, likewise.
-fn modules_shown(plan: &Plan) -> usize
-    ensures { λ r. ⌜ r ≡ min (modulesOf (now (plan .entry))) maxModules ⌝ }
-{
-    at_most(plan::modules(plan), MAX_MODULES)
-}
-
 fn branches<'a>(plan: &'a Plan, marks: &'a Marks, out: &mut [u8], at: usize) -> usize
     ensures { λ r. ⌜ page r (now (out .exit)) ≡ put (page at (now (out .entry))) (branchLines (now (plan .entry)) (now (marks .entry)) (min (linksOf (now (plan .entry))) maxLinks)) ⌝ }
 {
@@ -89,40 +87,116 @@ fn total<'a>(plan: &'a Plan, marks: &'a Marks) -> u64
     sum
 }
 
-// Module v's name, where it has halted.
-fn end(out: &mut [u8], at: usize, halted: u16, v: usize) -> usize
-    ensures { λ r. ⌜ page r (now (out .exit)) ≡ put (page at (now (out .entry))) (endText halted v) ⌝ }
+// Module v's name, where it is of the part and has halted.
+fn end(out: &mut [u8], at: usize, in_part: bool, halted: u16, v: usize) -> usize
+    ensures { λ r. ⌜ page r (now (out .exit)) ≡ put (page at (now (out .entry))) (endText in_part halted v) ⌝ }
 {
+    if !in_part {
+        return at;
+    }
     if halted != 1 {
         return at;
     }
     format_text::put_named(out, at, b" ", v as u64)
 }
 
-fn ends<'a>(plan: &'a Plan, cells: &'a Cells, out: &mut [u8], at: usize) -> usize
-    ensures { λ r. ⌜ page r (now (out .exit)) ≡ put (page at (now (out .entry))) (endsText (now (cells .entry)) (min (modulesOf (now (plan .entry))) maxModules)) ⌝ }
+// The ends of the core of u's part.
+fn ends<'a>(
+    plan: &'a Plan,
+    labels: &'a PartLabels,
+    cells: &'a Cells,
+    u: usize,
+    out: &mut [u8],
+    at: usize,
+) -> usize
+    requires { ⌜ (modulesOf (now plan) ≤ maxModules) × (now labels ≡ partLabels (now plan)) × (u < modulesOf (now plan)) ⌝ }
+    ensures { λ r. ⌜ page r (now (out .exit)) ≡ put (page at (now (out .entry))) (endsText (graphOf (now (plan .entry))) (now (cells .entry)) u (modulesOf (now (plan .entry)))) ⌝ }
 {
-    let n = modules_shown(plan);
+    let n = plan::modules(plan) as usize;
     let mut a = at;
     let mut v: usize = 0;
     while v < n {
         let node = field_cells::load(cells, v as u16);
-        a = end(out, a, node.halted, v);
+        let in_part = plan_labels::same(labels, u, v);
+        a = end(out, a, in_part, node.halted, v);
         v += 1;
     }
     a
 }
 
-// The ends of the core. A module alone halts too, and has no core; nor has a plan with nobody in it.
-fn core<'a>(plan: &'a Plan, cells: &'a Cells, out: &mut [u8], at: usize) -> usize
-    ensures { λ r. ⌜ page r (now (out .exit)) ≡ put (page at (now (out .entry))) (coreText (modulesOf (now (plan .entry))) (now (cells .entry))) ⌝ }
+// The core line of u's part. A module alone halts too, and has no core.
+fn part<'a>(
+    plan: &'a Plan,
+    labels: &'a PartLabels,
+    cells: &'a Cells,
+    u: usize,
+    out: &mut [u8],
+    at: usize,
+) -> usize
+    requires { ⌜ (modulesOf (now plan) ≤ maxModules) × (now labels ≡ partLabels (now plan)) × (u < modulesOf (now plan)) ⌝ }
+    ensures { λ r. ⌜ page r (now (out .exit)) ≡ put (page at (now (out .entry))) (partText (graphOf (now (plan .entry))) (modulesOf (now (plan .entry))) (now (cells .entry)) u) ⌝ }
 {
-    if plan::modules(plan) < 2 {
+    let n = plan::modules(plan) as usize;
+    if plan_labels::nodes_with(labels, n, u) == 1 {
         return format_text::put(out, at, b"core none\n");
     }
     let a = format_text::put(out, at, b"core");
-    let b = ends(plan, cells, out, a);
+    let b = ends(plan, labels, cells, u, out, a);
     format_text::put(out, b, b"\n")
+}
+
+// The same where u is its part's lowest, so once for each part.
+fn part_of_lowest<'a>(
+    plan: &'a Plan,
+    labels: &'a PartLabels,
+    cells: &'a Cells,
+    u: usize,
+    out: &mut [u8],
+    at: usize,
+) -> usize
+    requires { ⌜ (modulesOf (now plan) ≤ maxModules) × (now labels ≡ partLabels (now plan)) × (u < modulesOf (now plan)) ⌝ }
+    ensures { λ r. ⌜ page r (now (out .exit)) ≡ put (page at (now (out .entry)))
+        (cond (lowest (graphOf (now (plan .entry))) u) (partText (graphOf (now (plan .entry))) (modulesOf (now (plan .entry))) (now (cells .entry)) u) []) ⌝ }
+{
+    if !plan_labels::lowest(labels, u) {
+        return at;
+    }
+    part(plan, labels, cells, u, out, at)
+}
+
+fn parts<'a>(
+    plan: &'a Plan,
+    labels: &'a PartLabels,
+    cells: &'a Cells,
+    out: &mut [u8],
+    at: usize,
+) -> usize
+    requires { ⌜ (modulesOf (now plan) ≤ maxModules) × (now labels ≡ partLabels (now plan)) ⌝ }
+    ensures { λ r. ⌜ page r (now (out .exit)) ≡ put (page at (now (out .entry))) (partLines (now (plan .entry)) (now (cells .entry)) (modulesOf (now (plan .entry)))) ⌝ }
+{
+    let n = plan::modules(plan) as usize;
+    let mut a = at;
+    let mut u: usize = 0;
+    while u < n {
+        a = part_of_lowest(plan, labels, cells, u, out, a);
+        u += 1;
+    }
+    a
+}
+
+// A core line for each part; a single one of a plan with nobody in it, or that would be refused.
+fn core<'a>(plan: &'a Plan, cells: &'a Cells, out: &mut [u8], at: usize) -> usize
+    ensures { λ r. ⌜ page r (now (out .exit)) ≡ put (page at (now (out .entry))) (coreText (now (plan .entry)) (now (cells .entry))) ⌝ }
+{
+    if plan::modules(plan) == 0 {
+        return format_text::put(out, at, b"core none\n");
+    }
+    if plan_check::check(plan) != 0 {
+        return format_text::put(out, at, b"core none\n");
+    }
+    let mut labels = [0u8; LABELS];
+    plan_labels::merge(plan, &mut labels);
+    parts(plan, &labels, cells, out, at)
 }
 
 fn tail(out: &mut [u8], at: usize, sent: u32, most: u32, rounds: u16) -> usize

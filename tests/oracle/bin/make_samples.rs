@@ -2,7 +2,7 @@
 
 use oracle::field::{setup_value, WAKE};
 use oracle::plan::{Link, Plan};
-use oracle::plans::{blank, complete, connected, path, plan, ring, star, worse_reading, Readings};
+use oracle::plans::{blank, complete, connected, path, plan, ring, star, two_banks, unlinked, worse_reading, Readings};
 use oracle::points::{points, save};
 use oracle::report::report;
 use oracle::rng::Rng;
@@ -65,6 +65,8 @@ fn main() {
         ("two-modules", two_modules()),
         ("triangle", triangle()),
         ("worse-reading", worse_reading()),
+        ("two-banks", two_banks()),
+        ("two-apart", unlinked(2)),
         ("path-8", plan(rng, 8, path(8), Readings::Wide)),
         ("star-16", plan(rng, 16, star(16, 5), Readings::Few)),
         ("ring-12", plan(rng, 12, ring(12), Readings::Same)),
@@ -73,7 +75,6 @@ fn main() {
         ("mesh-9", mesh(rng, 9, 16)),
         ("refused-17-not-ascending", not_ascending),
         ("refused-18-reading-2001", reading_2001),
-        ("refused-19-two-parts", Plan { modules: 2, links: vec![] }),
     ];
     let mesh = &plans.iter().find(|(name, _)| *name == "mesh-9").expect("a sample").1;
     std::fs::write(format!("{folder}/mesh-9.store"), moments(mesh)).expect("the folder can be written to");

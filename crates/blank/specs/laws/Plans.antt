@@ -17,8 +17,7 @@ use Rattle.base.specs.Loop.{takenTo, refusedBy}
 use Rattle.base.specs.Refuse.{orElse, firstRefusal}
 use Rattle.base.specs.laws.Refuse.{orElse-zero}
 use Rattle.base.specs.Table.{tabulate}
-use Rattle.graph.specs.Decide.{connected}
-use Rattle.plan.specs.Links.{Plan, modulesOf, linksOf, lowerOf, higherOf, nearOf, farOf, graphOf}
+use Rattle.plan.specs.Links.{Plan, modulesOf, linksOf, lowerOf, higherOf, nearOf, farOf}
 use Rattle.plan.specs.Refusal.{countsRefusal, inOrder, linkVerdict, linkRefusal, linksRefusal, planRefusal}
 use Rattle.plan.specs.laws.Accepted.{counted-back, accepted-back}
 use Rattle.plan_file.specs.declared.Outcome.{Outcome}
@@ -41,7 +40,6 @@ module _ (p : Plan) (b : Blank p) where
     modulesOk = omega (arith, b .nobody);
     linksOk = omega (arith, b .unlinked);
     each = λ k l. absurd (omega (arith, b .unlinked));
-    whole = λ u v l m. absurd (omega (arith, b .nobody));
   })
 
   pub blank-ceiling : ceilingOf p ≡ 0
@@ -137,8 +135,7 @@ module _ (p : Plan) where
   above-192 = (
     (λ e. bool-cases (ltb maxModules (modulesOf p)) (λ t. ltb-true _ _ t)
         (λ f. absurd (not-first (countsRefusal (modulesOf p) (linksOf p) true) (counts-not (modulesOf p) (linksOf p) true f)
-        (not-first (linksRefusal p (linksOf p) 0) (links-not (linksOf p) 0)
-        (not-orElse (not (connected (graphOf p) (modulesOf p))) 19 (λ e. omega arith) (λ e. omega arith))) e))),
+        (links-not (linksOf p) 0) e))),
     (λ l. rw (lt-ltb maxModules (modulesOf p) l) refl),
   )
 

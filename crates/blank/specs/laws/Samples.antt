@@ -4,7 +4,7 @@ use mathlib.Core.Path.{_≡_, refl}
 use mathlib.Core.List.{List, [], _∷_, map}
 use Rattle.base.specs.Table.{tabulate}
 use Rattle.base.specs.Test.{every}
-use Rattle.graph.specs.Decide.{label, joinedOver, connected}
+use Rattle.graph.specs.Decide.{label, joinedOver}
 use Rattle.plan.specs.Refusal.{ascends, inOrder, linkVerdict, linksRefusal, planRefusal}
 use Rattle.plan.specs.Trimmed.{padded}
 use Rattle.plan_file.specs.Layout.{decode}
@@ -18,5 +18,5 @@ linked len n l = 0x01 ∷ 0x00 ∷ len ∷ 0x00 ∷ n ∷ 0x00 ∷ l ∷ 0x00 �
 pub nobody-samples :
     map (λ s. readPlan s .refusal) (blankBytes ∷ linked 12 0 1 ∷ linked 12 0 2 ∷ linked 12 0 0 ∷ linked 11 0 1 ∷ linked 12 192 2 ∷ linked 12 193 2 ∷ [])
     ≡ 0 ∷ 16 ∷ 15 ∷ 15 ∷ 13 ∷ 15 ∷ 14 ∷ []
-unfolding tabulate every label joinedOver connected ascends inOrder linkVerdict linksRefusal planRefusal padded decode headVerdict readRefusal readPlan
+unfolding tabulate every label joinedOver ascends inOrder linkVerdict linksRefusal planRefusal padded decode headVerdict readRefusal readPlan
 nobody-samples = refl

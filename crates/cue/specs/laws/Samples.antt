@@ -1,6 +1,8 @@
--- A cue on a triangle, computed: a start, deliveries that are heard and idle, and each refusal in its order (`start-samples`, `delivery-samples`); the answer's numbers (`number-samples`);
--- a run of deliveries (`run-samples`); copies counted and followed one by one (`count-samples`, `follow-samples`, `channel-samples`, `order-samples`).
-use Prim.Native.Nat.{ℕ}
+-- A cue on a triangle, and on a show on two banks (request 08), computed: a start, deliveries that are heard and idle, and each refusal in its order (`start-samples`,
+-- `delivery-samples`); the answer's numbers (`number-samples`); a run of deliveries (`run-samples`); copies counted and followed one by one (`count-samples`,
+-- `bank-samples`, `follow-samples`, `channel-samples`, `order-samples`); the bank that a cue reaches (`bank-heard`).
+use Prim.Native.Nat.{ℕ, zero, suc}
+use native.Mathlib.Omega.{arith}
 use mathlib.Core.Path.{_≡_, refl}
 use mathlib.Core.List.{List, [], _∷_, map}
 use lib.ListN.{replicate}
@@ -10,9 +12,14 @@ use Rattle.base.specs.Test as base2
 use Rattle.base.specs.Cond as base3
 use Rattle.graph.specs.Decide as graph1
 use Rattle.graph.specs.Labels as graph2
+use Rattle.graph.specs.Parts as graph3
+use Rattle.graph.specs.Parts.{partNodes}
+use Rattle.graph.specs.laws.Parts.{two-parts}
+use Rattle.plan.specs.Links.{graphOf}
 use Rattle.plan.specs.Refusal as plan1
 use Rattle.plan.specs.Weights as plan2
 use Rattle.plan.specs.laws.Samples.{worseReading}
+use Rattle.plan_tree.specs.laws.Samples.{twoBanks}
 use Rattle.node.specs.Work as node1
 use Rattle.field.specs.Edges as field1
 use Rattle.field.specs.Valid as field2
@@ -27,7 +34,7 @@ use Rattle.cue.specs.Calls as cue2
 use Rattle.cue.specs.Calls.{startCue, deliverCue}
 use Rattle.cue.specs.Follow as cue3
 use Rattle.cue.specs.Claims as cue4
-use Rattle.cue.specs.Claims.{deliveries, heardOver}
+use Rattle.cue.specs.Claims.{deliveries, heardOver, AllHeard}
 use Rattle.cue.specs.Copies.{copiesSent, copiesWaiting}
 use Rattle.cue.specs.Calls.{refusalNumber, heardNumber}
 use Rattle.cue.specs.Follow.{Followed, followStart, follow, arrives}
@@ -63,6 +70,16 @@ marked marks = record { field = record { plan = worseReading; cells = freshCells
 abbrev alone : Held
 alone = record { field = record { plan = 1 ∷ 0 ∷ []; cells = freshCells 1; marks = []; sent = 0 }; words = [] }
 
+-- two parts, links 0-1 and 2-3; M is 44. At rest with both woken, or with module 2 alone: then link 0 is not marked.
+abbrev banks : List ℕ → Held
+banks marks = record { field = record { plan = twoBanks; cells = freshCells 4; marks = marks; sent = 0 }; words = replicate 44 0 }
+
+abbrev bothWoken : Held
+bothWoken = banks (1 ∷ 1 ∷ 1 ∷ 1 ∷ [])
+
+abbrev oneWoken : Held
+oneWoken = banks (0 ∷ 0 ∷ 1 ∷ 1 ∷ [])
+
 -- heard, cue, link, hops
 abbrev rec : ℕ → ℕ → ℕ → ℕ → Cue
 rec heard cue link hops = record { heard = heard; cue = cue; link = link; hops = hops }
@@ -83,6 +100,19 @@ two = rec 1 7 2 2
 abbrev four : Cue → Cue → Cue → List Cue
 four a b c = a ∷ b ∷ c ∷ past ∷ []
 
+-- on two banks, with cue 9
+abbrev five : Cue → Cue → Cue → Cue → List Cue
+five a b c d = a ∷ b ∷ c ∷ d ∷ past ∷ []
+
+abbrev sender9 : Cue
+sender9 = rec 1 9 none 0
+
+abbrev begun9 : List Cue
+begun9 = five unheard unheard sender9 unheard
+
+abbrev reached9 : List Cue
+reached9 = five unheard unheard sender9 (rec 1 9 1 1)
+
 pub record StartRow : Type 0 where
   pub at : Held
   pub lent : List Cue
@@ -95,11 +125,13 @@ pub record StartRow : Type 0 where
 abbrev no : Held → List Cue → ℕ → ℕ → StartRow
 no h lent s r = record { at = h; lent = lent; sender = s; cue = 7; refusal = r; left = lent }
 
--- a cue is started: at module 0; on one module; then "They follow 31 in that order": 31, 71, 72, 73
+-- a cue is started: at module 0; on one module; at module 2 on two banks, and 71 there while one bank sleeps; then "They follow 31 in that order": 31, 71, 72, 73
 abbrev starts : List StartRow
 starts =
     record { at = finished; lent = four past past past; sender = 0; cue = 7; refusal = 0; left = four sender (rec 0 0 none 0) (rec 0 0 none 0) }
     ∷ record { at = alone; lent = past ∷ []; sender = 0; cue = 65535; refusal = 0; left = rec 1 65535 none 0 ∷ [] }
+    ∷ record { at = bothWoken; lent = five past past past past; sender = 2; cue = 9; refusal = 0; left = begun9 }
+    ∷ no oneWoken (five past past past past) 2 71
     ∷ no spoilt [] 3 31
     ∷ no strayed [] 3 31
     ∷ no lacking [] 3 71
@@ -114,7 +146,7 @@ starts =
     ∷ []
 
 pub start-samples : map (λ r. startCue (r .at) (r .lent) (r .sender) (r .cue)) starts ≡ map (λ r. record { refusal = r .refusal; state = r .left }) starts
-unfolding base1.log2-to base1.log2 base2.every graph1.label graph1.joinedOver graph1.connected graph1.inTree graph2.rename plan1.ascends plan1.inOrder plan1.linkVerdict plan1.linksRefusal plan1.planRefusal plan2.cost plan2.earlier node1.number field1.isOwn field2.allOf field2.waitingIn field2.wordFits field2.nodeFits field2.fits field3.freshCells field3.valid cue2.branchesAgree cue2.startRefusal cue2.startCue
+unfolding base1.log2-to base1.log2 base2.every graph1.label graph1.joinedOver graph1.inTree graph2.rename plan1.ascends plan1.inOrder plan1.linkVerdict plan1.linksRefusal plan1.planRefusal plan2.cost plan2.earlier node1.number field1.isOwn field2.allOf field2.waitingIn field2.wordFits field2.nodeFits field2.fits field3.freshCells field3.valid cue2.branchesAgree cue2.startRefusal cue2.startCue
 start-samples = refl
 
 pub record DeliveryRow : Type 0 where
@@ -166,10 +198,15 @@ rows =
     ∷ keeps finished (four sender one two) 5 Idle
     ∷ keeps finished (four sender one two) 6 (Refused 42)
     ∷ keeps alone (sender ∷ []) 0 (Refused 42)
+    -- two banks: heard in the sender's part; idle in the other; 73: heard there from nobody, or from a second sender
+    ∷ record { at = bothWoken; lent = begun9; link = 2; answer = Heard; left = reached9 }
+    ∷ keeps bothWoken reached9 0 Idle
+    ∷ keeps bothWoken (five unheard (rec 1 9 0 1) sender9 unheard) 2 (Refused 73)
+    ∷ keeps bothWoken (five sender9 (rec 1 9 0 1) sender9 unheard) 2 (Refused 73)
     ∷ []
 
 pub delivery-samples : map (λ r. deliverCue (r .at) (r .lent) (r .link)) rows ≡ map (λ r. record { answer = r .answer; cues = r .left }) rows
-unfolding base1.log2-to base1.log2 base2.every graph1.label graph1.joinedOver graph1.connected graph1.inTree graph2.rename plan1.ascends plan1.inOrder plan1.linkVerdict plan1.linksRefusal plan1.planRefusal plan2.cost plan2.earlier node1.number field1.isOwn field1.endOf field2.allOf field2.waitingIn field2.wordFits field2.nodeFits field2.fits field3.freshCells field3.valid cue1.sentOver cue1.arrivedOver cue1.delivered cue2.branchesAgree cue2.rightOf cue2.rightAt cue2.leftBySending cue2.deliveryRefusal cue2.deliverCue
+unfolding base1.log2-to base1.log2 base2.every graph1.label graph1.joinedOver graph1.inTree graph2.rename plan1.ascends plan1.inOrder plan1.linkVerdict plan1.linksRefusal plan1.planRefusal plan2.cost plan2.earlier node1.number field1.isOwn field1.endOf field2.allOf field2.waitingIn field2.wordFits field2.nodeFits field2.fits field3.freshCells field3.valid cue1.sentOver cue1.arrivedOver cue1.delivered cue2.branchesAgree cue2.rightOf cue2.rightAt cue2.leftBySending cue2.deliveryRefusal cue2.deliverCue
 delivery-samples = refl
 
 -- Copies followed one by one: what the six channels hold after a start at module 1, and after deliveries: over 1 to module 0, which has no other branch; over
@@ -201,7 +238,7 @@ order = 2 ∷ 0 ∷ 0 ∷ 9 ∷ 4 ∷ []
 pub run-samples :
     _≡_ {A = List ℕ × List Cue} (heardOver finished order (four sender unheard unheard), deliveries finished order (four sender unheard unheard))
     (0 ∷ 4 ∷ [], four sender one two)
-unfolding base1.log2-to base1.log2 base2.every graph1.label graph1.joinedOver graph1.connected graph1.inTree graph2.rename plan1.ascends plan1.inOrder plan1.linkVerdict plan1.linksRefusal plan1.planRefusal plan2.cost plan2.earlier node1.number field1.isOwn field1.endOf field2.allOf field2.waitingIn field2.wordFits field2.nodeFits field2.fits field3.freshCells field3.valid cue1.sentOver cue1.arrivedOver cue1.delivered cue2.branchesAgree cue2.rightOf cue2.rightAt cue2.leftBySending cue2.deliveryRefusal cue2.deliverCue cue4.heardOver cue4.deliveries
+unfolding base1.log2-to base1.log2 base2.every graph1.label graph1.joinedOver graph1.inTree graph2.rename plan1.ascends plan1.inOrder plan1.linkVerdict plan1.linksRefusal plan1.planRefusal plan2.cost plan2.earlier node1.number field1.isOwn field1.endOf field2.allOf field2.waitingIn field2.wordFits field2.nodeFits field2.fits field3.freshCells field3.valid cue1.sentOver cue1.arrivedOver cue1.delivered cue2.branchesAgree cue2.rightOf cue2.rightAt cue2.leftBySending cue2.deliveryRefusal cue2.deliverCue cue4.heardOver cue4.deliveries
 run-samples = refl
 
 -- sent and waiting
@@ -210,6 +247,21 @@ pub count-samples :
     ≡ (1 ∷ 1 ∷ []) ∷ (2 ∷ 1 ∷ []) ∷ (2 ∷ 0 ∷ []) ∷ (2 ∷ 2 ∷ []) ∷ []
 unfolding graph1.label graph1.joinedOver graph1.inTree graph2.rename plan2.cost plan2.earlier cue1.sentOver cue1.arrivedOver
 count-samples = refl
+
+-- on two banks: sent and waiting, and how many modules the sender's part has; then each of those has heard
+pub bank-samples :
+    map (λ l. copiesSent twoBanks l ∷ copiesWaiting twoBanks l ∷ partNodes (graphOf twoBanks) 4 2 ∷ []) (begun9 ∷ reached9 ∷ [])
+    ≡ (1 ∷ 1 ∷ 2 ∷ []) ∷ (1 ∷ 0 ∷ 2 ∷ []) ∷ []
+unfolding graph1.label graph1.joinedOver graph1.inTree graph2.rename graph3.partNodes plan2.cost plan2.earlier cue1.sentOver cue1.arrivedOver
+bank-samples = refl
+
+pub bank-heard : AllHeard twoBanks 2 reached9
+unfolding graph1.label graph1.joinedOver graph2.rename graph3.together
+bank-heard zero l w = absurd (two-parts (graphOf twoBanks) 2 0 refl w)
+bank-heard (suc zero) l w = absurd (two-parts (graphOf twoBanks) 2 1 refl w)
+bank-heard (suc (suc zero)) l w = refl
+bank-heard (suc (suc (suc zero))) l w = refl
+bank-heard (suc (suc (suc (suc v)))) l w = absurd (omega arith)
 
 -- a channel of two copies: the first one arrives, the other stays; what is passed on stands last
 pub channel-samples :

@@ -114,7 +114,7 @@ abbrev wants : List StepRow → List (After Held)
 wants l = map (λ r. r .want) l
 
 pub step-samples : gots table ≡ wants table
-unfolding base1.upd base2.place base3.log2-to base3.log2 base5.every graph1.label graph1.joinedOver graph1.connected message1.partsOf message1.msgOf message2.bare message2.listedAs message2.listed plan1.ascends plan1.inOrder plan1.linkVerdict plan1.linksRefusal plan1.planRefusal base7.beforeBy plan2.cost plan2.earlier node1.wakeOn node1.awake node1.doReport node1.testOn node1.changeRoot node1.countUp node1.absorb node1.coreEnd node1.onConnect node1.seek node1.onInitiate node1.onTest node1.childReport node1.coreReport node1.onReport node1.unlessAsleep node1.respondTo node2.earliest node2.number node2.onEach field0.isOwn field0.endOf field0.marksIn field1.newMarks field2.carryOut field2.wake field2.hand field2.backOf field2.serve field2.step field3.allOf field3.waitingIn field3.wordFits field3.nodeFits field3.fits field4.valid field4.freshCells field4.setUp field4.stepAlone
+unfolding base1.upd base2.place base3.log2-to base3.log2 base5.every graph1.label graph1.joinedOver message1.partsOf message1.msgOf message2.bare message2.listedAs message2.listed plan1.ascends plan1.inOrder plan1.linkVerdict plan1.linksRefusal plan1.planRefusal base7.beforeBy plan2.cost plan2.earlier node1.wakeOn node1.awake node1.doReport node1.testOn node1.changeRoot node1.countUp node1.absorb node1.coreEnd node1.onConnect node1.seek node1.onInitiate node1.onTest node1.childReport node1.coreReport node1.onReport node1.unlessAsleep node1.respondTo node2.earliest node2.number node2.onEach field0.isOwn field0.endOf field0.marksIn field1.newMarks field2.carryOut field2.wake field2.hand field2.backOf field2.serve field2.step field3.allOf field3.waitingIn field3.wordFits field3.nodeFits field3.fits field4.valid field4.freshCells field4.setUp field4.stepAlone
 step-samples = refl
 
 -- What 31 says of a waking link, in the triangle of links 0-1, 0-2 and 1-2: a module with its status, level, identity, halted and waking link.

@@ -1,4 +1,4 @@
--- The tests decide: ways (`way?`), the path rule (`inTree?`) and "connected" (`connected?`).
+-- The tests decide: ways (`way?`) and the path rule (`inTree?`).
 use Prim.Native.Nat.{ℕ, zero, suc, _<_, _≤_}
 use native.Mathlib.Omega.{arith}
 use native.Mathlib.Nat.{not-suc-le-zero}
@@ -6,14 +6,14 @@ use mathlib.Core.Path.{_≡_, refl, sym, ap, _∙_}
 use mathlib.Core.Logic.{_⊎_, inl, inr}
 use mathlib.Core.Bool.{Bool, true, false, not, cond, true≢false}
 use Rattle.base.specs.laws.Cond.{eqb-cases, eqb-same, bool-cases}
-use Rattle.base.specs.laws.Test.{every-all, all-every, decides, decided-yes, yes-decided, dec-test}
+use Rattle.base.specs.laws.Test.{decides, decided-yes, yes-decided, dec-test}
 use Rattle.base.specs.laws.Search.{lt-suc-cases}
-use Rattle.graph.specs.Graph.{Graph, up, Way, Any}
+use Rattle.graph.specs.Graph.{Graph, up, Way}
 use Rattle.graph.specs.Order.{Earlier, InTree}
-use Rattle.graph.specs.laws.Ways.{way-append, way-reverse, wider}
+use Rattle.graph.specs.laws.Ways.{wider}
 use Rattle.graph.specs.Labels.{rename}
 use Rattle.graph.specs.laws.Labels.{Labels, With, labels-way, labels-same, labels-add, labels-none}
-use Rattle.graph.specs.Decide.{Set, label, joinedOver, inTree, Connected, connected}
+use Rattle.graph.specs.Decide.{Set, label, joinedOver, inTree}
 
 -- the edges of s below k
 abbrev pub Upto : (ℕ → Bool) → ℕ → ℕ → Type 0
@@ -74,18 +74,3 @@ way-or-tree g earlier e = bool-cases (joinedOver g (λ f. earlier f e) (g.lo e) 
 unfoldable pub inTree? : (g : Graph) (earlier : ℕ → ℕ → Bool) (e : ℕ) → Dec (InTree g earlier e)
 unfolding inTree dec-test
 inTree? g earlier e = dec-test (inTree g earlier e) (inTree-tree g earlier e) (tree-inTree g earlier e)
-
-pub connected-ways : (g : Graph) (n : ℕ) → connected g n ≡ true → Connected g n
-unfolding connected
-connected-ways g n h u v lu lv = way-append (way-reverse (from u lu)) (from v lv)
-  where
-    from : (w : ℕ) → w < n → Way g Any 0 w
-    from w l = wider (λ e le t. tt) (joined-way g (λ e. true) 0 w (every-all n (λ x. joinedOver g (λ e. true) 0 x) h w l))
-
-pub ways-connected : (g : Graph) (n : ℕ) → Connected g n → connected g n ≡ true
-unfolding connected
-ways-connected g n h = all-every n (λ v. joinedOver g (λ e. true) 0 v) (λ v l. way-joined g (λ e. true) 0 v (wider (λ e le t. refl) (h 0 v (omega arith) l)))
-
-unfoldable pub connected? : (g : Graph) (n : ℕ) → Dec (Connected g n)
-unfolding connected dec-test
-connected? g n = dec-test (connected g n) (connected-ways g n) (ways-connected g n)

@@ -1,4 +1,4 @@
--- No set of edges that joins what the edges join has a smaller total cost than the tree (`tree-least`); a set that joins all nodes is one (`spanning-all`).
+-- No set of edges that joins what the edges join has a smaller total cost than the tree (`tree-least`); a set that joins each part's nodes is one (`spanning-parts`).
 use Prim.Native.Nat.{ℕ, zero, suc, _+_, _≤_, _<_, zero-le}
 use native.Mathlib.Omega.{arith}
 use native.Mathlib.Nat.{not-suc-le-zero}
@@ -10,7 +10,8 @@ use Rattle.base.specs.Cond.{upd}
 use Rattle.base.specs.laws.Cond.{by-eq, bool-cases, upd-same, upd-other, upd-elim}
 use Rattle.base.specs.laws.Sum.{sum-le, sum-change}
 use Rattle.base.specs.laws.Search.{least, Least, lt-suc-cases}
-use Rattle.graph.specs.Graph.{Graph, Joins, up, Way}
+use Rattle.graph.specs.Graph.{Graph, Joins, up, Way, stop, go}
+use Rattle.graph.specs.Parts.{SamePart}
 use Rattle.graph.specs.Order.{Order}
 use Rattle.graph.specs.laws.Ways.{But, Uses, uses-wider, around, split, edge-way, wider, through, way-as-met, joins-lt}
 use Rattle.graph.specs.laws.Rank.{rankIn, rankIn-inj, rank-bound, rank-earlier, tree-rank}
@@ -152,10 +153,11 @@ module _ (g : Graph) (o : Order (g.L)) (cost : ℕ → ℕ) (mono : (a b : ℕ) 
   pub tree-least : (s : ℕ → Bool) → Spanning g s → totalCost g cost (inTree g (o.earlier)) ≤ totalCost g cost s
   tree-least s sp = least-from (g.L) 0 (omega arith) s sp (λ e l t z. absurd (not-suc-le-zero z))
 
--- a set that joins all nodes spans, for edges between nodes below n
-pub spanning-all : (g : Graph) (n : ℕ) → ((e : ℕ) → e < g.L → (g.lo e < n) × (g.hi e < n))
-    → (s : ℕ → Bool) → ((u v : ℕ) → u < n → v < n → Way g (Set s) u v) → Spanning g s
-spanning-all g n ends s all e u v j = way-as-met j (let p = ends e (joins-lt j) in all (g.lo e) (g.hi e) (p .0) (p .1))
+-- a set that joins each part's nodes spans, for edges between nodes below n
+pub spanning-parts : (g : Graph) (n : ℕ) → ((e : ℕ) → e < g.L → (g.lo e < n) × (g.hi e < n))
+    → (s : ℕ → Bool) → ((u v : ℕ) → u < n → v < n → SamePart g u v → Way g (Set s) u v) → Spanning g s
+spanning-parts g n ends s all e u v j =
+    way-as-met j (let p = ends e (joins-lt j) in all (g.lo e) (g.hi e) (p .0) (p .1) (go e (up (joins-lt j) refl refl) tt stop))
 
 -- the tree spans
 pub tree-spanning : (g : Graph) (o : Order (g.L)) → Spanning g (inTree g (o.earlier))

@@ -1,7 +1,8 @@
--- What is agreed on by the plan as a field holds it is agreed on by every plan value that means the same (`same-agreed`).
+-- What is agreed on by the plan as a field holds it is agreed on by every plan value that means the same, and of the same modules, however they are told
+-- (`same-agreed`).
 use Prim.Native.Nat.{ℕ, _<_}
 use native.Mathlib.Omega.{arith}
-use mathlib.Core.Path.{_≡_, sym, ap, _∙_}
+use mathlib.Core.Path.{_≡_, sym, ap, subst, _∙_}
 use mathlib.Core.Logic.{⊎-elim, inl, inr}
 use Rattle.plan.specs.Links.{Plan, linksOf, lowerOf, higherOf}
 use Rattle.plan.specs.Same.{Same}
@@ -21,25 +22,33 @@ module _ {p q : Plan} (e : Same p q) (s : State) where
     higher = ap (λ v. markAt q s v k) (sym (e .highs k l)) ∙ sym (same-mark (higherOf p k) k l) ∙ b .higher;
   }
 
-  same-core : Core p s → Core q s
-  same-core c =
-      let k = c .link in
-      let l = c .within in
-      record {
-        link = k;
-        within = omega (arith, e .links);
-        tree = tree-same e k l (c .tree);
-        apart = λ z. c .apart (e .lows k l ∙ z ∙ sym (e .highs k l));
-        halted = λ v m.
-            let h = c .halted v (omega (arith, e .modules)) in (
-              (λ y. ⊎-elim (λ a. inl (a ∙ e .lows k l)) (λ b. inr (b ∙ e .highs k l)) (h .0 y)),
-              (λ y. h .1 (⊎-elim (λ a. inl (a ∙ sym (e .lows k l))) (λ b. inr (b ∙ sym (e .highs k l))) y)),
-            );
-      }
+  -- the modules that are In are those that are Also: of In say the facts by p, of Also those by q
+  module _ {In Also : ℕ → Type 0} (to : (v : ℕ) → In v → Also v) (back : (v : ℕ) → Also v → In v) where
+    same-core : Core p s In → Core q s Also
+    same-core c =
+        let k = c .link in
+        let l = c .within in
+        record {
+          link = k;
+          within = omega (arith, e .links);
+          tree = tree-same e k l (c .tree);
+          inside = subst Also (e .lows k l) (to _ (c .inside));
+          across = subst Also (e .highs k l) (to _ (c .across));
+          apart = λ z. c .apart (e .lows k l ∙ z ∙ sym (e .highs k l));
+          halted = λ v m.
+              let h = c .halted v (back v m) in (
+                (λ y. ⊎-elim (λ a. inl (a ∙ e .lows k l)) (λ b. inr (b ∙ e .highs k l)) (h .0 y)),
+                (λ y. h .1 (⊎-elim (λ a. inl (a ∙ sym (e .lows k l))) (λ b. inr (b ∙ sym (e .highs k l))) y)),
+              );
+        }
 
-  pub same-agreed : Agreed p s → Agreed q s
-  same-agreed a = record {
-    tree = λ k l t. let m : k < linksOf p = omega (arith, e .links) in same-ends _ k m (a .tree k m (tree-same (same-sym e) k l t));
-    others = λ k l n. let m : k < linksOf p = omega (arith, e .links) in same-ends _ k m (a .others k m (λ t. n (tree-same e k m t)));
-    core = λ m. same-core (a .core (omega (arith, e .modules)));
-  }
+    pub same-agreed : Agreed p s In → Agreed q s Also
+    same-agreed a = record {
+      tree = λ k l i t. let m : k < linksOf p = omega (arith, e .links) in same-ends _ k m (a .tree k m (inside k m i) (tree-same (same-sym e) k l t));
+      others = λ k l i n. let m : k < linksOf p = omega (arith, e .links) in same-ends _ k m (a .others k m (inside k m i) (λ t. n (tree-same e k m t)));
+      alone = λ v i h. a .alone v (back v i) (λ u j. h u (to u j));
+      core = λ u v i j n. same-core (a .core u v (back u i) (back v j) n);
+    }
+      where
+        inside : (k : ℕ) → k < linksOf p → Also (lowerOf q k) → In (lowerOf p k)
+        inside k m i = back (lowerOf p k) (subst Also (sym (e .lows k m)) i)

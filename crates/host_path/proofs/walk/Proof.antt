@@ -21,11 +21,11 @@ goes c =
     let l = c .before .loop in
     let s = c .before .before .before in
     let a = s .args in
-    walked-on (a .plan .now) (a .u) (a .v) (a .out .now) (l .out) (l .worst) (l .at) (l .i) (accepted (a .plan .now) (s .pre .0)) (s .pre .2) (l .inv .1)
+    walked-on (a .plan .now) (a .u) (a .v) (a .out .now) (l .out) (l .worst) (l .at) (l .i) (accepted (a .plan .now) (s .pre .0)) (l .inv .1)
     (a .by .now) (s .pre .3) (c .loop-test .taken) (s .pre .4)
 
 loop-holds : tie.Need-loop-holds Inv-loop μ-loop
-loop-holds c = let s = c .before in (refl, walked-none (s .args .plan .now) (s .args .u) (s .args .v) (s .args .out .now) (s .pre .1))
+loop-holds c = let s = c .before in (refl, walked-none (s .args .plan .now) (s .args .u) (s .args .v) (s .args .out .now) (s .pre .1) (s .pre .2))
 
 cast-k : tie.Need-cast-k Inv-loop μ-loop
 cast-k c = omega (arith, goes c .node)
@@ -67,7 +67,7 @@ returns c =
     let l = c .before .loop in
     let s = c .before .before .before in
     let a = s .args in
-    walked-all (a .plan .now) (a .u) (a .v) (a .out .now) (l .out) (l .worst) (l .at) (l .i) (accepted (a .plan .now) (s .pre .0)) (s .pre .2) (l .inv .1)
+    walked-all (a .plan .now) (a .u) (a .v) (a .out .now) (l .out) (l .worst) (l .at) (l .i) (accepted (a .plan .now) (s .pre .0)) (l .inv .1)
     (c .loop-test .left)
 
 pub walk-spec : {M : Type 1} → statement M

@@ -1,14 +1,14 @@
--- Request 07's claims, proved: of every path that is answered (`path-claim`), of the same path from its other end (`turned-claim`), of the room that it needs
--- (`room-claim`), of the marks (`near-claim`).
+-- The claims of requests 07 and 08, proved: of every answer that is no refusal (`path-claim`), of the same path from its other end (`turned-claim`), of the
+-- room that it needs (`room-claim`), of the marks (`near-claim`).
 use Prim.Native.Nat.{ℕ, _≤_, _<_}
 use native.Mathlib.Omega.{arith}
-use mathlib.Core.Path.{_≡_, refl, sym, ap, subst, subst₂, _∙_}
-use mathlib.Core.Logic.{_≢_, inl, inr}
-use mathlib.Core.Bool.{Bool, true, false, cond}
+use mathlib.Core.Path.{_≡_, refl, sym, ap, ap₂, subst, subst₂, _∙_}
+use mathlib.Core.Logic.{_≢_, inl, inr, ⊎-elim}
+use mathlib.Core.Bool.{Bool, true, false, cond, _&&_, and-eq-true-iff}
 use mathlib.Core.List.{List, [], _++_, reverse}
-use lib.ListN.{length, drop, length-append, length-drop, length-reverse, List·getD-append}
+use lib.ListN.{length, getD, drop, length-append, length-drop, length-reverse, List·getD-append}
 use lib.Seq.{take-append-seam, drop-append-seam, drop-at}
-use lib.Dec.{leb}
+use lib.Dec.{ltb, leb}
 use borrow.Author.Tests.{ltb-true, leb-false}
 use Rattle.base.specs.Cond.{bit}
 use Rattle.base.specs.None.{none}
@@ -19,8 +19,11 @@ use Rattle.base.specs.laws.Cond.{eqb-cases, by-eq}
 use Rattle.base.specs.laws.Refuse.{or-false}
 use Rattle.base.specs.laws.Table.{length-tabulate, getD-tabulate}
 use Rattle.graph.specs.Graph.{Way, stop}
+use Rattle.graph.specs.Parts.{SamePart, together}
 use Rattle.graph.specs.Path.{edgesOf}
 use Rattle.graph.specs.Between.{latestFrom, Latest}
+use Rattle.graph.specs.laws.Ways.{way-reverse, wider}
+use Rattle.graph.specs.laws.Parts.{together-part, part-together, apart-together, part?}
 use Rattle.graph.specs.laws.Path.{paths-same, edges-once, edges-below}
 use Rattle.graph.specs.laws.Decide.{inTree-tree}
 use Rattle.graph.specs.laws.Latest.{latest-of, latest-same, latest-turned, all-some, edges-some, best-way}
@@ -32,10 +35,10 @@ use Rattle.plan.specs.laws.Accepted.{Accepted, accepted}
 use Rattle.plan.specs.laws.Numbers.{PlanNumber, plan-number}
 use Rattle.plan_tree.specs.Claim.{TreePath}
 use Rattle.plan_tree.specs.laws.Paths.{tree-spare, tree-path}
-use Rattle.path.specs.Between.{treePath, worstOn, thisPath, pathRefusal}
+use Rattle.path.specs.Between.{treePath, worstOn, noWay, thisPath, pathRefusal}
 use Rattle.path.specs.Near.{withinBranches, nearBytes}
-use Rattle.path.specs.Claims.{PathHolds, PathClaim, TurnedRound, TurnedClaim, TooShort, RoomClaim, NearHolds, NearClaim}
-use Rattle.path.specs.laws.Outcomes.{path-zero, path-taken, path-refused, path-answered, path-shown, near-answered, near-written}
+use Rattle.path.specs.Claims.{PathHolds, NoWay, PathClaim, TurnedRound, TurnedClaim, TooShort, RoomClaim, NearHolds, NearClaim}
+use Rattle.path.specs.laws.Outcomes.{PathTaken, path-zero, path-taken, path-no-way, path-refused, path-answered, path-shown, no-way-shown, taken-zero, near-answered, near-written}
 use Rattle.path.specs.laws.Steps.{path-is, tree-path-turned, path-short}
 
 -- THE PATH
@@ -50,10 +53,11 @@ module _ (p : Plan) (a : Accepted p) where
   latest : {S : ℕ → Type 0} {u v : ℕ} → u ≢ v → (w : Way (graphOf p) S u v) → Latest (earlier p) (edgesOf w) (worstOn p (edgesOf w))
   latest d w = latest-of (orderOf p) (edgesOf w) (edges-some d w) (all-some (orderOf p) few-links (edges-below w))
 
-  pub path-holds : (u v : ℕ) (lent : List ℕ) → u < modulesOf p → v < modulesOf p → length (treePath p u v) ≤ length lent
+  pub path-holds : (u v : ℕ) (lent : List ℕ) → u < modulesOf p → SamePart (graphOf p) u v → length (treePath p u v) ≤ length lent
       → PathHolds p u v lent (thisPath p (treePath p u v) lent)
   unfolding latestFrom
-  path-holds u v lent lu lv fits = record {
+  path-holds u v lent lu s fits = record {
+    found = refl;
     path = q;
     shows = take-append-seam links left ∙ is;
     many = ap length is;
@@ -64,13 +68,13 @@ module _ (p : Plan) (a : Accepted p) where
     best = λ d w k x. subst₂ (λ j l. earlier p j (worstOn p l) ≡ false) (latest-same (orderOf p) (edges-below w) (λ P h. h) (λ P h. h) (latest d w) x) (sym is)
         (best-way (graphOf p) (orderOf p) few-links (λ k l. inTree-tree (graphOf p) (earlier p) k) d q w);
     same = λ e. (ap length (path-here e), ap (worstOn p) (path-here e));
-    few = path-short p a lu lv;
+    few = path-short p a lu s;
     rest = drop-append-seam links left;
     size = omega (arith, length-append links left, length-drop (length links) lent);
   }
     where
       q : TreePath p u v
-      q = tree-path p a lu lv
+      q = tree-path p s
 
       links : List ℕ
       links = treePath p u v
@@ -81,23 +85,30 @@ module _ (p : Plan) (a : Accepted p) where
       is : links ≡ edgesOf (q .way)
       is = path-is p q
 
+pub no-way-holds : (p : Plan) (u v : ℕ) (lent : List ℕ) → ¬ SamePart (graphOf p) u v → NoWay p u v lent (noWay lent)
+no-way-holds p u v lent n = record { found = refl; apart = n; empty = (refl, refl); keeps = refl }
+
 pub path-claim : PathClaim
 path-claim p u v lent e =
     let t = path-answered p u v lent e in
-    subst (PathHolds p u v lent) (path-shown p u v lent e) (path-holds p (accepted p (t .checked)) u v lent (t .fromOk) (t .toOk) (t .fits))
+    ⊎-elim
+    (λ s. inl (subst (PathHolds p u v lent) (path-shown p u v lent t s) (path-holds p (accepted p (t .checked)) u v lent (t .fromOk) s (t .fits s))))
+    (λ n. inr (subst (NoWay p u v lent) (no-way-shown p u v lent t n) (no-way-holds p u v lent n)))
+    (part? (graphOf p) u v)
 
 -- TURNED ROUND
 
-pub path-turns : (p : Plan) → Accepted p → (u v : ℕ) (lent lent′ : List ℕ) → u < modulesOf p → v < modulesOf p
+pub path-turns : (p : Plan) → Accepted p → (u v : ℕ) (lent lent′ : List ℕ) → SamePart (graphOf p) u v
     → TurnedRound (thisPath p (treePath p u v) lent) (thisPath p (treePath p v u) lent′)
-path-turns p a u v lent lent′ lu lv = record {
+path-turns p a u v lent lent′ s = record {
   taken = refl;
+  found = refl;
   links = take-append-seam back (drop (length back) lent′) ∙ turned ∙ ap reverse (sym (take-append-seam links (drop (length links) lent)));
   worst = ap (worstOn p) turned ∙ latest-turned (orderOf p) (few-links p a) links (subst (All (λ k. k < linksOf p)) (sym (path-is p q)) (edges-below (q .way)));
 }
   where
     q : TreePath p u v
-    q = tree-path p a lu lv
+    q = tree-path p s
 
     links : List ℕ
     links = treePath p u v
@@ -106,16 +117,21 @@ path-turns p a u v lent lent′ lu lv = record {
     back = treePath p v u
 
     turned : back ≡ reverse links
-    turned = tree-path-turned p a lu lv
+    turned = tree-path-turned p s
 
 pub turned-claim : TurnedClaim
-turned-claim p u v lent lent′ e f =
-    let t = path-answered p u v lent e in
-    let a = accepted p (t .checked) in
-    let shown = path-shown p u v lent e in
-    let back = ap length (tree-path-turned p a (t .fromOk) (t .toOk)) in
-    let fits : length (treePath p v u) ≤ length lent′ = omega (arith, back, length-reverse (treePath p u v), ap (λ r. r .answer .length) shown, f) in
-    subst₂ TurnedRound shown (path-taken p v u lent′ (t .checked) (t .toOk) (t .fromOk) fits) (path-turns p a u v lent lent′ (t .fromOk) (t .toOk))
+turned-claim p u v lent lent′ e f = ⊎-elim
+    (λ s. let there = path-shown p u v lent t s in
+    let fits : length (treePath p v u) ≤ length lent′ =
+    omega (arith, ap length (tree-path-turned p s), length-reverse (treePath p u v), ap (λ r. r .answer .length) there, f) in
+    let back = path-taken p v u lent′ (t .checked) (t .toOk) (t .fromOk) (way-reverse s) fits in
+    subst₂ TurnedRound there back (path-turns p (accepted p (t .checked)) u v lent lent′ s))
+    (λ n. subst₂ TurnedRound (no-way-shown p u v lent t n) (path-no-way p v u lent′ (t .checked) (t .toOk) (t .fromOk) (λ w. n (way-reverse w)))
+    (record { taken = refl; found = refl; links = refl; worst = refl }))
+    (part? (graphOf p) u v)
+  where
+    t : PathTaken p (length lent) u v
+    t = path-answered p u v lent e
 
 -- ROOM
 
@@ -139,27 +155,26 @@ refused-short : (p : Plan) (room u v : ℕ) → pathRefusal p room u v ≡ 79 �
 unfolding pathRefusal
 refused-short p room u v e =
     let f = refused-79 (planRefusal p) _ _ (plan-number p) e in
-    let b = or-false _ _ (f .1 .0) in
-    let a = accepted p (f .0) in
-    let lu = leb-false _ _ (b .0) in
-    let lv = leb-false _ _ (b .1) in
-    let short = path-short p a lu lv in
-    let long = ltb-true room (length (treePath p u v)) (f .1 .1) in
-    record { there = tree-path p a lu lv; path = λ q. subst (λ l. room < length l) (path-is p q) long; most = omega (arith, short, long) }
+    let c = and-eq-true-iff (together (graphOf p) u v) (ltb room (length (treePath p u v))) .0 (f .1 .1) in
+    let s = together-part (graphOf p) u v (c .0) in
+    let short = path-short p (accepted p (f .0)) (leb-false _ _ (or-false _ _ (f .1 .0) .0)) s in
+    let long = ltb-true room (length (treePath p u v)) (c .1) in
+    record { there = tree-path p s; path = λ q. subst (λ l. room < length l) (path-is p q) long; most = omega (arith, short, long) }
 
 pub room-claim : RoomClaim
 room-claim p u v lent e = refused-short p (length lent) u v (by-eq (pathRefusal p (length lent) u v) 0
-    (λ z. let t = path-zero p u v (length lent) z in absurd (omega (arith, ap (λ r. r .answer .refusal) (path-taken p u v lent (t .checked) (t .fromOk) (t .toOk) (t .fits)), e)))
+    (λ z. absurd (omega (arith, taken-zero p u v lent (path-zero p u v (length lent) z), e)))
     (λ n. ap (λ r. r .answer .refusal) (path-refused p u v lent n) ∙ e))
 
 -- THE MARKS
 
-pub near-holds : (p : Plan) → Accepted p → (m h : ℕ) (lent : List ℕ) → m < modulesOf p → modulesOf p ≤ length lent
+pub near-holds : (p : Plan) (m h : ℕ) (lent : List ℕ) → modulesOf p ≤ length lent
     → NearHolds p m h lent (nearBytes p m h ++ drop (modulesOf p) lent)
 unfolding nearBytes
-near-holds p a m h lent lm fits = record {
-  paths = λ v l. tree-path p a lm l;
-  marks = λ v l q. List·getD-append bytes left 0 v (omega (arith, size)) ∙ getD-tabulate n (λ w. bit (withinBranches p m h w)) v l ∙ ap (λ r. bit (leb (length r) h)) (path-is p q);
+near-holds p m h lent fits = record {
+  paths = λ v l s. tree-path p s;
+  apart = λ v l d. byte v l ∙ ap (λ t. bit (t && leb (length (treePath p m v)) h)) (apart-together (graphOf p) m v d);
+  marks = λ v l q. byte v l ∙ ap₂ (λ t r. bit (t && leb (length r) h)) (part-together (graphOf p) m v (wider (λ k x y. tt) (q .way))) (path-is p q);
   rest = drop-at bytes left n size;
   size = omega (arith, size, length-append bytes left, length-drop n lent);
 }
@@ -176,7 +191,9 @@ near-holds p a m h lent lm fits = record {
     size : length bytes ≡ n
     size = length-tabulate n (λ w. bit (withinBranches p m h w))
 
+    byte : (v : ℕ) → v < n → getD (bytes ++ left) v 0 ≡ bit (withinBranches p m h v)
+    byte v l = List·getD-append bytes left 0 v (omega (arith, size)) ∙ getD-tabulate n (λ w. bit (withinBranches p m h w)) v l
+
 pub near-claim : NearClaim
 near-claim p m h lent e =
-    let t = near-answered p m h lent e in
-    subst (NearHolds p m h lent) (sym (near-written p m h lent e)) (near-holds p (accepted p (t .checked)) m h lent (t .moduleOk) (t .fits))
+    subst (NearHolds p m h lent) (sym (near-written p m h lent e)) (near-holds p m h lent (near-answered p m h lent e .fits))

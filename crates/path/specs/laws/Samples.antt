@@ -1,15 +1,17 @@
--- Paths and marks on small plans, as rows that the definitions compute: request 07's samples and every refusal (`path-samples`, `near-samples`).
+-- Paths and marks on small plans, as rows that the definitions compute: the samples of requests 07 and 08 and every refusal (`path-samples`, `near-samples`).
 use Prim.Native.Nat.{ℕ}
 use mathlib.Core.Path.{_≡_, refl}
 use mathlib.Core.List.{List, [], _∷_, map}
 use Rattle.base.specs.None.{none}
 use Rattle.base.specs.Loop.{After}
-use Rattle.graph.specs.Decide.{connected, inTree}
+use Rattle.graph.specs.Decide.{inTree}
 use Rattle.graph.specs.Between.{latestFrom}
+use Rattle.graph.specs.Parts.{together}
 use Rattle.plan.specs.Links.{Plan}
 use Rattle.plan.specs.Weights.{cost, earlier}
 use Rattle.plan.specs.Refusal.{ascends, inOrder, linkVerdict, linksRefusal, planRefusal}
 use Rattle.plan.specs.laws.Samples.{worseReading}
+use Rattle.plan_tree.specs.laws.Samples.{twoBanks}
 use Rattle.path.specs.Between.{PathShown, pathBetween}
 use Rattle.path.specs.Near.{markNear}
 
@@ -25,6 +27,10 @@ bySum = 3 ∷ 3 ∷ 0 ∷ 1 ∷ 4 ∷ 4 ∷ 0 ∷ 2 ∷ 4 ∷ 1 ∷ 1 ∷ 2 ∷ 
 
 abbrev byNumber : Plan
 byNumber = 3 ∷ 3 ∷ 0 ∷ 1 ∷ 2 ∷ 3 ∷ 0 ∷ 2 ∷ 2 ∷ 3 ∷ 1 ∷ 2 ∷ 2 ∷ 3 ∷ []
+
+-- two modules without a link
+abbrev unlinked : Plan
+unlinked = 2 ∷ 0 ∷ []
 
 -- what is refused: 16 the first link's ends, 17 the same link twice, 18 a reading
 abbrev turnedLink : Plan
@@ -44,19 +50,24 @@ pub record PathRow : Type 0 where
   pub to : ℕ
   pub lent : List ℕ
   pub refusal : ℕ
+  pub way : ℕ
   pub length : ℕ
   pub worst : ℕ
   pub buffer : List ℕ
 
 -- what is answered, and what the buffer holds then
 abbrev shows : Plan → ℕ → ℕ → List ℕ → ℕ → ℕ → List ℕ → PathRow
-shows p u v lent length worst buffer = record { plan = p; from = u; to = v; lent = lent; refusal = 0; length = length; worst = worst; buffer = buffer }
+shows p u v lent length worst buffer = record { plan = p; from = u; to = v; lent = lent; refusal = 0; way = 1; length = length; worst = worst; buffer = buffer }
 
 -- refused by a number, the buffer as it was
 abbrev refuses : Plan → ℕ → ℕ → List ℕ → ℕ → PathRow
-refuses p u v lent refusal = record { plan = p; from = u; to = v; lent = lent; refusal = refusal; length = 0; worst = none; buffer = lent }
+refuses p u v lent refusal = record { plan = p; from = u; to = v; lent = lent; refusal = refusal; way = 0; length = 0; worst = none; buffer = lent }
 
--- the request's samples: 0 to 2 over module 1, which is the longer way by number of links and the better one
+-- no way: no refusal, the buffer as it was
+abbrev lacks : Plan → ℕ → ℕ → List ℕ → PathRow
+lacks p u v lent = refuses p u v lent 0
+
+-- request 07's samples: 0 to 2 over module 1, which is the longer way by number of links and the better one
 unfoldable pub pathRows : List PathRow
 pathRows =
     shows worseReading 0 2 (7 ∷ 7 ∷ 7 ∷ 7 ∷ []) 2 2 (0 ∷ 2 ∷ 7 ∷ 7 ∷ [])
@@ -90,7 +101,17 @@ pathRows =
     ∷ refuses turnedLink 0 1 [] 16
     ∷ refuses twoLinks 0 1 (7 ∷ []) 17
     ∷ refuses highReading 2 1 [] 18
-    ∷ refuses (2 ∷ 0 ∷ []) 0 1 (7 ∷ 7 ∷ []) 19
+    -- request 08: no way over the water, with or without room, after 41; along one bank as before
+    ∷ lacks twoBanks 0 2 []
+    ∷ lacks twoBanks 3 1 (7 ∷ 8 ∷ 9 ∷ [])
+    ∷ shows twoBanks 0 1 (7 ∷ 8 ∷ []) 1 0 (0 ∷ 8 ∷ [])
+    ∷ shows twoBanks 3 2 (7 ∷ []) 1 1 (1 ∷ [])
+    ∷ shows twoBanks 2 2 [] 0 none []
+    ∷ refuses twoBanks 2 3 [] 79
+    ∷ refuses twoBanks 0 4 [] 41
+    ∷ lacks unlinked 0 1 (7 ∷ 7 ∷ [])
+    ∷ lacks unlinked 1 0 []
+    ∷ shows unlinked 1 1 [] 0 none []
     ∷ []
 
 unfoldable pub pathDone : PathRow → PathShown
@@ -98,10 +119,10 @@ unfolding pathBetween
 pathDone r = pathBetween (r .plan) (r .from) (r .to) (r .lent)
 
 abbrev pub pathSaid : PathRow → PathShown
-pathSaid r = record { answer = record { refusal = r .refusal; length = r .length; worst = r .worst }; buffer = r .buffer }
+pathSaid r = record { answer = record { refusal = r .refusal; way = r .way; length = r .length; worst = r .worst }; buffer = r .buffer }
 
 pub path-samples : map pathDone pathRows ≡ map pathSaid pathRows
-unfolding pathRows pathDone earlier cost planRefusal linksRefusal linkVerdict inOrder ascends connected inTree latestFrom
+unfolding pathRows pathDone earlier cost planRefusal linksRefusal linkVerdict inOrder ascends together inTree latestFrom
 path-samples = refl
 
 -- MARKS
@@ -141,7 +162,12 @@ nearRows =
     ∷ leaves turnedLink 2 1 (7 ∷ 7 ∷ []) 16
     ∷ leaves twoLinks 0 1 (7 ∷ 7 ∷ []) 17
     ∷ leaves highReading 0 1 [] 18
-    ∷ leaves (2 ∷ 0 ∷ []) 2 9 (7 ∷ []) 19
+    -- request 08: the other bank is not marked, however large h
+    ∷ marks twoBanks 2 5 (7 ∷ 7 ∷ 7 ∷ 7 ∷ 7 ∷ []) (0 ∷ 0 ∷ 1 ∷ 1 ∷ 7 ∷ [])
+    ∷ marks twoBanks 0 0 (7 ∷ 7 ∷ 7 ∷ 7 ∷ []) (1 ∷ 0 ∷ 0 ∷ 0 ∷ [])
+    ∷ marks unlinked 1 9 (7 ∷ 7 ∷ []) (0 ∷ 1 ∷ [])
+    ∷ leaves unlinked 0 9 (7 ∷ []) 79
+    ∷ leaves unlinked 2 9 (7 ∷ []) 41
     ∷ []
 
 unfoldable pub marksDone : NearRow → After (List ℕ)
@@ -152,5 +178,5 @@ abbrev pub marksSaid : NearRow → After (List ℕ)
 marksSaid r = record { refusal = r .refusal; state = r .bytes }
 
 pub near-samples : map marksDone nearRows ≡ map marksSaid nearRows
-unfolding nearRows marksDone earlier cost planRefusal linksRefusal linkVerdict inOrder ascends connected inTree
+unfolding nearRows marksDone earlier cost planRefusal linksRefusal linkVerdict inOrder ascends together inTree
 near-samples = refl

@@ -1,12 +1,13 @@
--- Paths towards one goal, link by link (`PathSteps`): what the search for them goes by. An accepted plan has them (`pathSteps`): what is computed as `treePath` is the
--- tree's one path (`path-is`), and from its other end the same one turned round (`tree-path-turned`).
+-- Paths towards one goal, link by link (`PathSteps`): what the search for them goes by. An accepted plan has them (`pathSteps`): what is computed as `treePath`
+-- is the tree's one path (`path-is`), and from its other end the same one turned round (`tree-path-turned`).
 use Prim.Native.Nat.{ℕ, _<_}
 use mathlib.Core.Path.{_≡_}
 use mathlib.Core.Logic.{_≢_, _⊎_}
 use mathlib.Core.Bool.{true}
 use mathlib.Core.List.{[], _∷_, reverse}
 use lib.ListN.{length}
-use Rattle.graph.specs.Graph.{Joins}
+use Rattle.graph.specs.Graph.{Joins, go}
+use Rattle.graph.specs.Parts.{SamePart}
 use Rattle.graph.specs.Path.{edgesOf}
 use Rattle.graph.specs.laws.Ways.{flip}
 use Rattle.graph.specs.laws.Path.{path-below}
@@ -25,44 +26,51 @@ pub record Next (p : Plan) (u v : ℕ) : Type 0 where
   pub joins : Joins (graphOf p) link u to
   pub tree : treeLink p link ≡ true
   pub inside : to < modulesOf p
+  pub part : SamePart (graphOf p) to v
   pub rest : treePath p u v ≡ link ∷ treePath p to v
 
--- paths to module v
+-- paths to module v, from the modules of its part
 pub record PathSteps (p : Plan) (v : ℕ) : Type 0 where
   pub here : treePath p v v ≡ []
-  pub next : (u : ℕ) → u < modulesOf p → u ≢ v → Next p u v
+  pub next : (u : ℕ) → SamePart (graphOf p) u v → u ≢ v → Next p u v
   -- of the two ends of a tree link one is one link nearer, by that link
-  pub beside : (k a b : ℕ) → Joins (graphOf p) k a b → treeLink p k ≡ true → (treePath p b v ≡ k ∷ treePath p a v) ⊎ (treePath p a v ≡ k ∷ treePath p b v)
-  pub short : (u : ℕ) → u < modulesOf p → length (treePath p u v) < modulesOf p
+  pub beside : (k a b : ℕ) → SamePart (graphOf p) a v → Joins (graphOf p) k a b → treeLink p k ≡ true
+      → (treePath p b v ≡ k ∷ treePath p a v) ⊎ (treePath p a v ≡ k ∷ treePath p b v)
+  pub short : (u : ℕ) → u < modulesOf p → SamePart (graphOf p) u v → length (treePath p u v) < modulesOf p
 
 module _ (p : Plan) where
   pub path-is : {u v : ℕ} (q : TreePath p u v) → treePath p u v ≡ edgesOf (q .way)
   unfolding treePath
   path-is q = between-path (graphOf p) (treeLink p) (tree-spare p) q
 
+  pub tree-path-turned : {u v : ℕ} → SamePart (graphOf p) u v → treePath p v u ≡ reverse (treePath p u v)
+  unfolding treePath
+  tree-path-turned s = between-turned (graphOf p) (treeLink p) (tree-spare p) (tree-spans p s)
+
   module _ (a : Accepted p) where
-    pub tree-path-turned : {u v : ℕ} → u < modulesOf p → v < modulesOf p → treePath p v u ≡ reverse (treePath p u v)
-    unfolding treePath
-    tree-path-turned {u} {v} l m = between-turned (graphOf p) (treeLink p) (tree-spare p) (tree-spans p a u v l m)
-
     -- the first link on from u
-    next-of : {u v : ℕ} → u < modulesOf p → v < modulesOf p → u ≢ v → Next p u v
+    next-of : {u v : ℕ} → SamePart (graphOf p) u v → u ≢ v → Next p u v
     unfolding treePath
-    next-of {u} {v} l m d =
-        let o = between-next (graphOf p) (treeLink p) (tree-spare p) (tree-spans p a u v l m) d in
-        record { link = o .edge; to = o .to; joins = o .joins; tree = o .used; inside = link-inside p a (o .edge) u (o .to) (o .joins); rest = o .rest }
+    next-of {u} s d =
+        let o = between-next (graphOf p) (treeLink p) (tree-spare p) (tree-spans p s) d in
+        record {
+          link = o .edge;
+          to = o .to;
+          joins = o .joins;
+          tree = o .used;
+          inside = link-inside p a (o .edge) u (o .to) (o .joins);
+          part = go (o .edge) (flip (o .joins)) tt s;
+          rest = o .rest;
+        }
 
-    pub path-short : {u v : ℕ} → u < modulesOf p → v < modulesOf p → length (treePath p u v) < modulesOf p
-    path-short {u} {v} l m =
-        let q = tree-path p a l m in
-        rw (path-is q) (path-below (modulesOf p) (link-inside p a) l q)
+    pub path-short : {u v : ℕ} → u < modulesOf p → SamePart (graphOf p) u v → length (treePath p u v) < modulesOf p
+    path-short l s = let q = tree-path p s in rw (path-is q) (path-below (modulesOf p) (link-inside p a) l q)
 
-    pub pathSteps : (v : ℕ) → v < modulesOf p → PathSteps p v
+    pub pathSteps : (v : ℕ) → PathSteps p v
     unfolding treePath
-    pathSteps v m = record {
+    pathSteps v = record {
       here = between-here (graphOf p) (treeLink p) (tree-spare p) v;
-      next = λ u l d. next-of l m d;
-      beside = λ k x y j t.
-          between-beside (graphOf p) (treeLink p) (tree-spare p) (tree-spans p a x v (link-inside p a k y x (flip j)) m) j t;
-      short = λ u l. path-short l m;
+      next = λ u s d. next-of s d;
+      beside = λ k x y s j t. between-beside (graphOf p) (treeLink p) (tree-spare p) (tree-spans p s) j t;
+      short = λ u l s. path-short l s;
     }

@@ -18,7 +18,7 @@ returns c =
     let s = b .before .before .before in
     let p = s .args .plan .now in
     let ok = accepted p (s .pre .0) in
-    (c .branches .ensures, start-level p (s .args .v) (pathSteps p ok (s .args .v) (s .pre .3)) (ok .modulesOk) (s .pre .3) _ _ (b .start .ensures .0) (b .start .ensures .1))
+    (c .branches .ensures, start-level p (s .args .v) (pathSteps p ok (s .args .v)) (ok .modulesOk) (s .pre .3) _ _ (b .start .ensures .0) (b .start .ensures .1))
 
 pub begin-spec : {M : Type 1} → statement M
 begin-spec = tie.close (tie.spec start-requires (λ c κs. search needs) returns)

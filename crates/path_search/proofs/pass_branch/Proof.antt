@@ -1,5 +1,5 @@
 -- path_search::pass_branch: up the branch (`branch-first`), else down it or not at all (`branch-second`).
-use Prim.Native.Nat.{ℕ, _<_, _≤_}
+use Prim.Native.Nat.{ℕ, _≤_}
 use native.Mathlib.Omega.{arith}
 use mathlib.Core.Path.{sym}
 use borrow.Author.Needs.{needs}
@@ -37,7 +37,7 @@ branch c =
       beside = omega (arith, c .higher .ensures, o .inside);
     }
 
-steps : (c : tie.After-higher) → (v : ℕ) → v < modulesOf (start c .args .plan .now) → PathSteps (start c .args .plan .now) v
+steps : (c : tie.After-higher) → (v : ℕ) → PathSteps (start c .args .plan .now) v
 steps c = pathSteps (start c .args .plan .now) (accepted (start c .args .plan .now) (start c .pre .0))
 
 reach-requires : tie.Need-reach-requires

@@ -1,4 +1,4 @@
--- path_search::spread_within: a loop; level h, as `begin` and `pass` ensure, at most as far as asked for; nobody is further where none became
+-- path_search::spread_within: a loop; level h, as `begin` and `pass` ensure, at most as far as asked for; nobody of the part is further where none became
 -- known (`nobody-further`).
 use Prim.Native.Nat.{suc, _-_, _≤_}
 use native.Mathlib.Omega.{arith}
@@ -30,7 +30,7 @@ few : (c : tie.After-begin Inv-loop μ-loop) → modulesOf (start c .args .plan 
 few c = accepted (start c .args .plan .now) (start c .pre .0) .modulesOk
 
 steps : (c : tie.After-begin Inv-loop μ-loop) → PathSteps (start c .args .plan .now) (start c .args .v)
-steps c = let s = start c in pathSteps (s .args .plan .now) (accepted (s .args .plan .now) (s .pre .0)) (s .args .v) (s .pre .2)
+steps c = let s = start c in pathSteps (s .args .plan .now) (accepted (s .args .plan .now) (s .pre .0)) (s .args .v)
 
 loop-holds : tie.Need-loop-holds Inv-loop μ-loop
 loop-holds c = (omega arith, c .begin .ensures .1)
@@ -48,7 +48,7 @@ passed : (c : tie.After-pass Inv-loop μ-loop) → let l = c .before .before .be
 passed c =
     let l = c .before .before .before .before .before in
     let s = start (l .before) in
-    c .pass .ensures .next (s .args .v) (s .pre .2) (l .loop .inv .1)
+    c .pass .ensures .next (s .args .v) (l .loop .inv .1)
 
 -- none became known
 returns : tie.Need-returns Inv-loop μ-loop
@@ -59,10 +59,10 @@ returns c =
     let s = start (l .before) in
     let a = s .args in
     let p = a .plan .now in
-    let near = nobody-further p (a .v) (steps (l .before)) (l .loop .h) (q .pass .ensures .last (not-true _ (c .if1 .taken)) (a .v) (s .pre .2) (l .loop .inv .1)) in
+    let near = nobody-further p (a .v) (steps (l .before)) (l .loop .h) (q .pass .ensures .last (not-true _ (c .if1 .taken)) (a .v) (l .loop .inv .1)) in
     known-within p (a .v) (steps (l .before)) (few (l .before)) (suc (l .loop .h)) (a .most) _ _ (passed q)
-    (λ w lw d. omega (arith, near w lw, i .loop-test .taken))
-    (λ w lw d. absurd (omega (arith, near w lw)))
+    (λ w lw d. omega (arith, near w lw (d .part), i .loop-test .taken))
+    (λ w lw d part. absurd (omega (arith, near w lw part, d part)))
 
 add-h : tie.Need-add-h Inv-loop μ-loop
 add-h c =
@@ -85,8 +85,8 @@ returns-2 c =
     let s = start (l .before) in
     let a = s .args in
     known-within (a .plan .now) (a .v) (steps (l .before)) (few (l .before)) (l .loop .h) (a .most) (l .loop .hops) (l .loop .by) (l .loop .inv .1)
-    (λ w lw d. omega (arith, l .loop .inv .0))
-    (λ w lw d. omega (arith, c .loop-test .left))
+    (λ w lw d. omega (arith, d .near, l .loop .inv .0))
+    (λ w lw d part. omega (arith, d part, c .loop-test .left))
 
 pub spread-within-spec : {M : Type 1} → statement M
 spread-within-spec =

@@ -1,4 +1,4 @@
--- What an accepted plan is: the conditions behind refusals 14 to 19, as facts. `planRefusal p ≡ 0` holds exactly for these plans (`accepted`,
+-- What an accepted plan is: the conditions behind refusals 14 to 18, as facts. `planRefusal p ≡ 0` holds exactly for these plans (`accepted`,
 -- `accepted-back`).
 use Prim.Native.Nat.{ℕ, zero, suc, _+_, _≤_, _<_}
 use native.Mathlib.Omega.{arith}
@@ -8,9 +8,7 @@ use borrow.Author.Tests.{ltb-false, leb-false, le-ltb, lt-leb, not-false}
 use Rattle.base.specs.laws.Cond.{by-eq}
 use Rattle.base.specs.Limits.{maxModules, maxLinks, maxReading}
 use Rattle.base.specs.laws.Refuse.{orElse-zero, firstRefusal-zero, zero-firstRefusal, or-false}
-use Rattle.graph.specs.Decide.{Connected}
-use Rattle.graph.specs.laws.Decide.{connected-ways, ways-connected}
-use Rattle.plan.specs.Links.{Plan, modulesOf, linksOf, lowerOf, higherOf, nearOf, farOf, graphOf}
+use Rattle.plan.specs.Links.{Plan, modulesOf, linksOf, lowerOf, higherOf, nearOf, farOf}
 use Rattle.plan.specs.Refusal.{countsRefusal, inOrder, linkVerdict, linkRefusal, linksRefusal, planRefusal}
 
 -- link k is as document 01 says
@@ -25,7 +23,6 @@ pub record Accepted (p : Plan) : Type 0 where
   pub modulesOk : modulesOf p ≤ maxModules
   pub linksOk : linksOf p ≤ maxLinks
   pub each : (k : ℕ) → k < linksOf p → LinkOk p k
-  pub whole : Connected (graphOf p) (modulesOf p)
 
 -- N and L within their limits
 pub record Counts (n l : ℕ) : Type 0 where
@@ -86,13 +83,10 @@ module _ (p : Plan) where
   accepted h =
       let f = firstRefusal-zero _ h in
       let o = counted (modulesOf p) (linksOf p) true (f .0) .0 in
-      let fl = firstRefusal-zero _ (f .1) in
-      let f19 = orElse-zero _ 18 (fl .1) in
       record {
         modulesOk = o .modulesOk;
         linksOk = o .linksOk;
-        each = λ k l. link-accepted k (links-accepted (linksOf p) 0 (fl .0) k (omega arith) (omega arith));
-        whole = connected-ways _ _ (not-false _ (f19 .0));
+        each = λ k l. link-accepted k (links-accepted (linksOf p) 0 (f .1) k (omega arith) (omega arith));
       }
 
   -- AND BACK
@@ -100,4 +94,4 @@ module _ (p : Plan) where
   unfolding planRefusal
   accepted-back a =
       zero-firstRefusal (counted-back (modulesOf p) (linksOf p) (record { modulesOk = a .modulesOk; linksOk = a .linksOk }))
-      (zero-firstRefusal (accepted-links (linksOf p) 0 (λ j l m. accepted-link j (a .each j (omega arith)))) (rw (ways-connected (graphOf p) (modulesOf p) (a .whole))))
+      (accepted-links (linksOf p) 0 (λ j l m. accepted-link j (a .each j (omega arith))))

@@ -1,4 +1,4 @@
--- The numbers that a plan value is refused by: 14 to 19 (`plan-number`).
+-- The numbers that a plan value is refused by: 14 to 18 (`plan-number`).
 use Prim.Native.Nat.{ℕ, zero, suc, _≤_}
 use native.Mathlib.Omega.{arith}
 use mathlib.Core.Path.{_≡_, refl}
@@ -8,13 +8,12 @@ use lib.Dec.{ltb, leb}
 use Rattle.base.specs.Limits.{maxModules, maxLinks, maxReading}
 use Rattle.base.specs.Refuse.{firstRefusal}
 use Rattle.base.specs.laws.Cond.{eqb-cases, cond-has}
-use Rattle.graph.specs.Decide.{connected}
-use Rattle.plan.specs.Links.{Plan, modulesOf, linksOf, lowerOf, higherOf, nearOf, farOf, graphOf}
+use Rattle.plan.specs.Links.{Plan, modulesOf, linksOf, lowerOf, higherOf, nearOf, farOf}
 use Rattle.plan.specs.Refusal.{countsRefusal, inOrder, linkVerdict, linkRefusal, linksRefusal, planRefusal}
 
--- 0, or one of 14 to 19
+-- 0, or one of 14 to 18
 abbrev pub PlanNumber : ℕ → Type 0
-PlanNumber r = (r ≡ 0) ⊎ ((14 ≤ r) × (r ≤ 19))
+PlanNumber r = (r ≡ 0) ⊎ ((14 ≤ r) × (r ≤ 18))
 
 first-number : (a b : ℕ) → PlanNumber a → PlanNumber b → PlanNumber (firstRefusal a b)
 first-number a b x y = eqb-cases a 0 (λ t. PlanNumber (cond t b a)) (λ e. y) (λ n. x)
@@ -36,5 +35,4 @@ pub plan-number : (p : Plan) → PlanNumber (planRefusal p)
 unfolding planRefusal
 plan-number p = first-number (countsRefusal (modulesOf p) (linksOf p) true) _
     (cond-has PlanNumber (ltb maxModules (modulesOf p)) 14 _ (inr (omega arith, omega arith)) (cond-has PlanNumber (ltb maxLinks (linksOf p) || not true) 15 _ (inr (omega arith, omega arith)) (inl refl)))
-    (first-number (linksRefusal p (linksOf p) 0) _ (link-number p (linksOf p) 0)
-    (cond-has PlanNumber (not (connected (graphOf p) (modulesOf p))) 19 _ (inr (omega arith, omega arith)) (inl refl)))
+    (link-number p (linksOf p) 0)

@@ -36,7 +36,7 @@ module _ {p q : Plan} (e : Same p q) where
   joins-below (up l a b) = l
   joins-below (down l a b) = l
 
-  same-way : {S R : ℕ → Type 0} → ((k : ℕ) → k < linksOf p → S k → R k) → {u v : ℕ} → Way (graphOf p) S u v → Way (graphOf q) R u v
+  pub same-way : {S R : ℕ → Type 0} → ((k : ℕ) → k < linksOf p → S k → R k) → {u v : ℕ} → Way (graphOf p) S u v → Way (graphOf q) R u v
   same-way f stop = stop
   same-way f (go k j s w) = go k (same-joins j) (f k (joins-below j) s) (same-way f w)
 
@@ -50,7 +50,6 @@ module _ {p q : Plan} (e : Same p q) where
     modulesOk = omega (arith, a .modulesOk, e .modules);
     linksOk = omega (arith, a .linksOk, e .links);
     each = λ k l. let m : k < linksOf p = omega (arith, e .links) in same-link k m (a .each k m);
-    whole = λ u v lu lv. same-way (λ k l s. s) (a .whole u v (omega (arith, e .modules)) (omega (arith, e .modules)));
   }
 
   -- an accepted plan value, in other entries past its links

@@ -1,11 +1,12 @@
--- The tree's links as edges of the plan's graph: none can be spared (`tree-spare`), they join all modules (`tree-spans`), and each leads to a module
--- (`link-inside`). So there is a tree path between any two modules (`tree-path`).
+-- The tree's links as edges of the plan's graph: none can be spared (`tree-spare`), they join each part's modules (`tree-spans`), and each leads to a module
+-- (`link-inside`). So there is a tree path between any two modules of a part (`tree-path`).
 use Prim.Native.Nat.{ℕ, _<_}
 use native.Mathlib.Omega.{arith}
 use mathlib.Core.Path.{_≡_}
 use mathlib.Core.Bool.{true}
 use Rattle.graph.specs.Graph.{Joins, up, down, Way}
 use Rattle.graph.specs.Decide.{Set}
+use Rattle.graph.specs.Parts.{SamePart}
 use Rattle.graph.specs.laws.Ways.{But, wider, through}
 use Rattle.graph.specs.laws.Decide.{inTree-tree}
 use Rattle.graph.specs.laws.Path.{path-of}
@@ -16,7 +17,7 @@ use Rattle.plan.specs.Weights.{earlier}
 use Rattle.plan.specs.laws.Weights.{orderOf}
 use Rattle.plan.specs.laws.Accepted.{Accepted}
 use Rattle.plan_tree.specs.Tree.{treeLink}
-use Rattle.plan_tree.specs.Claim.{JoinsAll, TreePath}
+use Rattle.plan_tree.specs.Claim.{TreePath}
 
 module _ (p : Plan) where
   -- without one of them the others do not join its ends
@@ -24,11 +25,11 @@ module _ (p : Plan) where
   tree-spare k l t w =
       spare (graphOf p) (orderOf p) k l (inTree-tree (graphOf p) (earlier p) k t) (wider (λ f m x. (inTree-tree (graphOf p) (earlier p) f (x .0), x .1)) w)
 
-  pub tree-spans : Accepted p → JoinsAll p (treeLink p)
-  tree-spans a u v l m = through (λ e x y j s. tree-spanning (graphOf p) (orderOf p) e x y j) (a .whole u v l m)
+  pub tree-spans : {u v : ℕ} → SamePart (graphOf p) u v → Way (graphOf p) (Set (treeLink p)) u v
+  tree-spans w = through (λ e x y j s. tree-spanning (graphOf p) (orderOf p) e x y j) w
 
-  pub tree-path : Accepted p → {u v : ℕ} → u < modulesOf p → v < modulesOf p → TreePath p u v
-  tree-path a {u} {v} l m = path-of (tree-spans a u v l m)
+  pub tree-path : {u v : ℕ} → SamePart (graphOf p) u v → TreePath p u v
+  tree-path w = path-of (tree-spans w)
 
   pub link-inside : Accepted p → (k u v : ℕ) → Joins (graphOf p) k u v → v < modulesOf p
   link-inside a k u v (up l e f) = omega (arith, a .each k l .inside)

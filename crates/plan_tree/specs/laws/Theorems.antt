@@ -1,5 +1,5 @@
 -- What the builder writes (`tree-claim`): exactly the tree by the path rule (`written-tree`, `written-other`); it spans, has no cycle, and no set of links that
--- joins all modules costs less (`written-spans`, `written-acyclic`, `written-least`), nor has at the same cost a smaller sum of readings (`written-least-sum`).
+-- joins each part's modules costs less (`written-spans`, `written-acyclic`, `written-least`), nor has at the same cost a smaller sum of readings (`written-least-sum`).
 -- `centralTree p out` is the builder's contract; an answer of 0 is a plan that was taken.
 use Prim.Native.Nat.{ℕ, _*_, _≤_, _<_}
 use native.Mathlib.Omega.{arith}
@@ -22,14 +22,14 @@ use Rattle.graph.specs.laws.Decide.{inTree-tree, tree-inTree}
 use Rattle.graph.specs.laws.Span.{spans}
 use Rattle.graph.specs.laws.Cycle.{spare}
 use Rattle.graph.specs.Least.{totalCost, Spanning}
-use Rattle.graph.specs.laws.Least.{tree-least, spanning-all}
+use Rattle.graph.specs.laws.Least.{tree-least, spanning-parts}
 use Rattle.graph.specs.laws.Second.{tree-least-second}
 use Rattle.plan.specs.Links.{graphOf, Plan, linksOf, modulesOf, lowerOf, higherOf}
 use Rattle.plan.specs.Weights.{cost, readingSum, earlier}
 use Rattle.plan.specs.laws.Weights.{earlier-cost, earlier-sum, orderOf}
 use Rattle.plan.specs.laws.Accepted.{Accepted, accepted}
 use Rattle.plan_tree.specs.Tree.{treeLink, treeBytes, treeRefusal, centralTree}
-use Rattle.plan_tree.specs.Claim.{chosenBy, totalOf, JoinsAll, TreeClaim}
+use Rattle.plan_tree.specs.Claim.{chosenBy, totalOf, JoinsParts, TreeClaim}
 use Rattle.plan_tree.specs.laws.Tree.{answered, answered-bytes, byte-tells}
 
 module _ (p : Plan) (out : List ℕ) (taken : centralTree p out .refusal ≡ 0) where
@@ -68,12 +68,12 @@ module _ (p : Plan) (out : List ℕ) (taken : centralTree p out .refusal ≡ 0) 
   chosen-tree : (k : ℕ) → k < linksOf p → Set chosen k → InTree (graphOf p) (earlier p) k
   chosen-tree k l e = tree-written k l (eqb-true (byte k) 1 e)
 
-  -- SPANNING: the marked links join whatever links join; so, the plan being connected, all modules
+  -- SPANNING: the marked links join whatever links join
   pub written-joins : {S : ℕ → Type 0} {u v : ℕ} → Way (graphOf p) S u v → Way (graphOf p) (Set chosen) u v
   written-joins w = wider (λ k l t. eq-eqb (byte k) 1 (written-tree k l t)) (spans (graphOf p) (orderOf p) w)
 
-  pub written-spans : JoinsAll p chosen
-  written-spans u v lu lv = written-joins (plan-ok .whole u v lu lv)
+  pub written-spans : JoinsParts p chosen
+  written-spans u v lu lv w = written-joins w
 
   -- NO CYCLE: without one of them the others do not join its ends
   pub written-acyclic : (k : ℕ) → k < linksOf p → Set chosen k → ¬ Way (graphOf p) (But (Set chosen) k) (lowerOf p k) (higherOf p k)
@@ -84,7 +84,7 @@ module _ (p : Plan) (out : List ℕ) (taken : centralTree p out .refusal ≡ 0) 
   unfolding totalCost
   written-total c = sum-eq (linksOf p) _ _ (λ k l. rw (written-marked k l))
 
-  -- among the sets that join what the links join
+  -- among the sets that join the ends of each link
   pub written-least-parts : (s : ℕ → Bool) → Spanning (graphOf p) s → totalOf p (cost p) chosen ≤ totalOf p (cost p) s
   written-least-parts s sp = rw (written-total (cost p)) (tree-least (graphOf p) (orderOf p) (cost p) (earlier-cost p) s sp)
 
@@ -96,14 +96,14 @@ module _ (p : Plan) (out : List ℕ) (taken : centralTree p out .refusal ≡ 0) 
       (tree-least-second (graphOf p) (orderOf p) (2 * maxReading) (cost p) (readingSum p) (earlier-cost p) (earlier-sum p)
       (λ k b. let o = plan-ok .each k b in omega (arith, o.nearOk, o.farOk)) s sp (rw (written-total (cost p)) at l))
 
-  -- a set that joins all modules is among them
-  joining-spans : (s : ℕ → Bool) → JoinsAll p s → Spanning (graphOf p) s
-  joining-spans = spanning-all (graphOf p) (modulesOf p) (λ k l. let o = plan-ok .each k l in (omega (arith, o.ordered, o.inside), o.inside))
+  -- a set that joins each part's modules is among them
+  joining-spans : (s : ℕ → Bool) → JoinsParts p s → Spanning (graphOf p) s
+  joining-spans = spanning-parts (graphOf p) (modulesOf p) (λ k l. let o = plan-ok .each k l in (omega (arith, o.ordered, o.inside), o.inside))
 
-  pub written-least : (s : ℕ → Bool) → JoinsAll p s → totalOf p (cost p) chosen ≤ totalOf p (cost p) s
+  pub written-least : (s : ℕ → Bool) → JoinsParts p s → totalOf p (cost p) chosen ≤ totalOf p (cost p) s
   written-least s all = written-least-parts s (joining-spans s all)
 
-  pub written-least-sum : (s : ℕ → Bool) → JoinsAll p s → totalOf p (cost p) s ≡ totalOf p (cost p) chosen
+  pub written-least-sum : (s : ℕ → Bool) → JoinsParts p s → totalOf p (cost p) s ≡ totalOf p (cost p) chosen
       → totalOf p (readingSum p) chosen ≤ totalOf p (readingSum p) s
   written-least-sum s all e = written-least-sum-parts s (joining-spans s all) (omega (arith, e))
 

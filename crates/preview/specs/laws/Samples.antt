@@ -145,7 +145,7 @@ table =
 pub preview-samples :
     map (λ r. preview (r .kind) (r .number) (r .at) (r .buffer)) table
     ≡ map (λ r. record { answer = record { refusal = r .refusal; count = r .count }; buffer = r .left }) table
-unfolding base1.upd base2.place base3.log2-to base3.log2 base4.every graph1.label graph1.joinedOver graph1.connected message1.partsOf message1.msgOf message2.bare message2.listedAs message2.listed plan1.ascends plan1.inOrder plan1.linkVerdict plan1.linksRefusal plan1.planRefusal base5.beforeBy plan2.cost plan2.earlier node1.wakeOn node1.awake node1.doReport node1.testOn node1.changeRoot node1.countUp node1.absorb node1.coreEnd node1.onConnect node1.seek node1.onInitiate node1.onTest node1.unlessAsleep node1.respondTo node2.earliest node2.number node2.onEach field0.isOwn field0.endOf field0.marksIn field1.newMarks field2.carryOut field2.wake field2.hand field2.backOf field2.serve field2.step field3.allOf field3.waitingIn field3.wordFits field3.nodeFits field3.fits field4.valid field4.stepAlone calls1.sendsAt preview1.wouldSend preview1.preview
+unfolding base1.upd base2.place base3.log2-to base3.log2 base4.every graph1.label graph1.joinedOver message1.partsOf message1.msgOf message2.bare message2.listedAs message2.listed plan1.ascends plan1.inOrder plan1.linkVerdict plan1.linksRefusal plan1.planRefusal base5.beforeBy plan2.cost plan2.earlier node1.wakeOn node1.awake node1.doReport node1.testOn node1.changeRoot node1.countUp node1.absorb node1.coreEnd node1.onConnect node1.seek node1.onInitiate node1.onTest node1.unlessAsleep node1.respondTo node2.earliest node2.number node2.onEach field0.isOwn field0.endOf field0.marksIn field1.newMarks field2.carryOut field2.wake field2.hand field2.backOf field2.serve field2.step field3.allOf field3.waitingIn field3.wordFits field3.nodeFits field3.fits field4.valid field4.stepAlone calls1.sendsAt preview1.wouldSend preview1.preview
 preview-samples = refl
 
 -- what waited without the word taken, the words sent, the word handed over or put back; all of it after the step
@@ -174,5 +174,5 @@ pub waiting-samples :
     map (λ r. waits (r .at) (r .kind) (r .number) (remaining worseReading (r .kind) (r .number) (stateOf (r .at))) (wouldSend (r .kind) (r .number) (r .at))
     (goesLast worseReading (r .kind) (r .number) (stateOf (r .at))) (waitingIn (stepAlone (r .kind) (r .number) (r .at) .state .words))) steps
     ≡ steps
-unfolding base1.upd base2.place base3.log2-to base3.log2 base4.every graph1.label graph1.joinedOver graph1.connected message1.partsOf message1.msgOf message2.bare message2.listedAs message2.listed plan1.ascends plan1.inOrder plan1.linkVerdict plan1.linksRefusal plan1.planRefusal base5.beforeBy plan2.cost plan2.earlier node1.wakeOn node1.awake node1.coreEnd node1.onConnect node1.onTest node1.respondTo node2.earliest node2.number field0.isOwn field0.endOf field0.marksIn field1.newMarks field2.carryOut field2.wake field2.hand field2.backOf field2.serve field2.step field3.allOf field3.waitingIn field3.wordFits field3.nodeFits field3.fits field4.valid field4.stepAlone calls1.sendsAt preview1.wouldSend claim1.remaining claim1.goesLast
+unfolding base1.upd base2.place base3.log2-to base3.log2 base4.every graph1.label graph1.joinedOver message1.partsOf message1.msgOf message2.bare message2.listedAs message2.listed plan1.ascends plan1.inOrder plan1.linkVerdict plan1.linksRefusal plan1.planRefusal base5.beforeBy plan2.cost plan2.earlier node1.wakeOn node1.awake node1.coreEnd node1.onConnect node1.onTest node1.respondTo node2.earliest node2.number field0.isOwn field0.endOf field0.marksIn field1.newMarks field2.carryOut field2.wake field2.hand field2.backOf field2.serve field2.step field3.allOf field3.waitingIn field3.wordFits field3.nodeFits field3.fits field4.valid field4.stepAlone calls1.sendsAt preview1.wouldSend claim1.remaining claim1.goesLast
 waiting-samples = refl

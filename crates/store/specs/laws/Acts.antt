@@ -150,7 +150,7 @@ pub act-samples : map rehearsal
     ∷ record { answered = replicate 5 0; sent = 1; words = fromOne ∷ []; now = past turned (wake 1 ∷ []); points = point 0 a (past two (wake 0 ∷ [])) ∷ []; known = true }
     ∷ record { answered = 78 ∷ 77 ∷ 77 ∷ 77 ∷ 16 ∷ 41 ∷ 0 ∷ []; sent = 1; words = fromZero 0 ∷ []; now = past two (wake 7 ∷ wake 0 ∷ []); points = []; known = true }
     ∷ []
-unfolding base1.upd base2.place base3.log2-to base3.log2 base4.then base4.loop base5.every base5.sameList base6.tabulate base7.beforeBy graph1.label graph1.joinedOver graph1.connected message1.partsOf message1.msgOf message2.bare message2.listedAs message2.listed plan1.ascends plan1.inOrder plan1.linkVerdict plan1.linksRefusal plan1.planRefusal plan2.cost plan2.earlier plan3.padded plan3.trimmed file1.bytesOf file1.encode file1.decode file2.headVerdict file2.readRefusal node1.wakeOn node1.awake node1.doReport node1.testOn node1.changeRoot node1.countUp node1.absorb node1.coreEnd node1.onConnect node1.seek node1.onInitiate node1.onTest node1.childReport node1.coreReport node1.onReport node1.unlessAsleep node1.respondTo node2.earliest node2.number node2.onEach field0.isOwn field0.endOf field0.marksIn field1.newMarks field2.carryOut field2.wake field2.hand field2.backOf field2.serve field2.step field3.allOf field3.waitingIn field3.wordFits field3.nodeFits field3.fits field4.valid field4.freshCells field4.setUp field4.stepAlone calls3.does store1.whole store1.recordsBy store1.joined store2.nameFits store2.nameIn store2.bodyIn store2.spotFrom store2.withoutFirst store3.entryAt store3.markPlaces store3.placesBelow store3.fieldBytes store3.wordBytes store3.recordBytes store3.recordWith store4.planBytes store4.behindPlan store4.poured store4.heldIn store4.recordFits store5.recordsFit store5.storeFits store5.saved store5.saveRefusal store5.savePoint store5.findRefusal store5.findPoint store5.restoreRefusal store5.restorePoint store6.acts store6.wasSaved store6.pastOf store6.noted store6.known store6.holdsAfter store6.notedAfter store6.allKnown store6.actAnswers
+unfolding base1.upd base2.place base3.log2-to base3.log2 base4.then base4.loop base5.every base5.sameList base6.tabulate base7.beforeBy graph1.label graph1.joinedOver message1.partsOf message1.msgOf message2.bare message2.listedAs message2.listed plan1.ascends plan1.inOrder plan1.linkVerdict plan1.linksRefusal plan1.planRefusal plan2.cost plan2.earlier plan3.padded plan3.trimmed file1.bytesOf file1.encode file1.decode file2.headVerdict file2.readRefusal node1.wakeOn node1.awake node1.doReport node1.testOn node1.changeRoot node1.countUp node1.absorb node1.coreEnd node1.onConnect node1.seek node1.onInitiate node1.onTest node1.childReport node1.coreReport node1.onReport node1.unlessAsleep node1.respondTo node2.earliest node2.number node2.onEach field0.isOwn field0.endOf field0.marksIn field1.newMarks field2.carryOut field2.wake field2.hand field2.backOf field2.serve field2.step field3.allOf field3.waitingIn field3.wordFits field3.nodeFits field3.fits field4.valid field4.freshCells field4.setUp field4.stepAlone calls3.does store1.whole store1.recordsBy store1.joined store2.nameFits store2.nameIn store2.bodyIn store2.spotFrom store2.withoutFirst store3.entryAt store3.markPlaces store3.placesBelow store3.fieldBytes store3.wordBytes store3.recordBytes store3.recordWith store4.planBytes store4.behindPlan store4.poured store4.heldIn store4.recordFits store5.recordsFit store5.storeFits store5.saved store5.saveRefusal store5.savePoint store5.findRefusal store5.findPoint store5.restoreRefusal store5.restorePoint store6.acts store6.wasSaved store6.pastOf store6.noted store6.known store6.holdsAfter store6.notedAfter store6.allKnown store6.actAnswers
 act-samples = refl
 
 -- a store that held the name before the list began: restored as it is, in another store, after a known one
@@ -160,7 +160,7 @@ stocked = holdsAfter (saves 0 a ∷ []) begun
 pub unknown-samples : map (λ l. allKnown l stocked (firstNote two))
     ((restores 0 a ∷ []) ∷ (saves 2 a ∷ restores 0 a ∷ []) ∷ (saves 0 ab ∷ restores 0 ab ∷ restores 0 a ∷ []) ∷ (restores 0 a ∷ saves 0 a ∷ []) ∷ (saves 0 a ∷ restores 0 a ∷ []) ∷ [])
     ≡ false ∷ false ∷ false ∷ false ∷ true ∷ []
-unfolding base1.upd base2.place base3.log2-to base3.log2 base4.then base4.loop base5.every base5.sameList base6.tabulate base7.beforeBy graph1.label graph1.joinedOver graph1.connected message1.partsOf message1.msgOf message2.bare message2.listedAs message2.listed plan1.ascends plan1.inOrder plan1.linkVerdict plan1.linksRefusal plan1.planRefusal plan2.cost plan2.earlier plan3.padded plan3.trimmed file1.bytesOf file1.encode file1.decode file2.headVerdict file2.readRefusal node1.wakeOn node1.awake node1.doReport node1.testOn node1.changeRoot node1.countUp node1.absorb node1.coreEnd node1.onConnect node1.seek node1.onInitiate node1.onTest node1.childReport node1.coreReport node1.onReport node1.unlessAsleep node1.respondTo node2.earliest node2.number node2.onEach field0.isOwn field0.endOf field0.marksIn field1.newMarks field2.carryOut field2.wake field2.hand field2.backOf field2.serve field2.step field3.allOf field3.waitingIn field3.wordFits field3.nodeFits field3.fits field4.valid field4.freshCells field4.setUp field4.stepAlone calls3.does store1.whole store1.recordsBy store1.joined store2.nameFits store2.nameIn store2.bodyIn store2.spotFrom store2.withoutFirst store3.entryAt store3.markPlaces store3.placesBelow store3.fieldBytes store3.wordBytes store3.recordBytes store3.recordWith store4.planBytes store4.behindPlan store4.poured store4.heldIn store4.recordFits store5.recordsFit store5.storeFits store5.saved store5.saveRefusal store5.savePoint store5.findRefusal store5.findPoint store5.restoreRefusal store5.restorePoint store6.acts store6.wasSaved store6.pastOf store6.noted store6.known store6.holdsAfter store6.notedAfter store6.allKnown store6.actAnswers
+unfolding base1.upd base2.place base3.log2-to base3.log2 base4.then base4.loop base5.every base5.sameList base6.tabulate base7.beforeBy graph1.label graph1.joinedOver message1.partsOf message1.msgOf message2.bare message2.listedAs message2.listed plan1.ascends plan1.inOrder plan1.linkVerdict plan1.linksRefusal plan1.planRefusal plan2.cost plan2.earlier plan3.padded plan3.trimmed file1.bytesOf file1.encode file1.decode file2.headVerdict file2.readRefusal node1.wakeOn node1.awake node1.doReport node1.testOn node1.changeRoot node1.countUp node1.absorb node1.coreEnd node1.onConnect node1.seek node1.onInitiate node1.onTest node1.childReport node1.coreReport node1.onReport node1.unlessAsleep node1.respondTo node2.earliest node2.number node2.onEach field0.isOwn field0.endOf field0.marksIn field1.newMarks field2.carryOut field2.wake field2.hand field2.backOf field2.serve field2.step field3.allOf field3.waitingIn field3.wordFits field3.nodeFits field3.fits field4.valid field4.freshCells field4.setUp field4.stepAlone calls3.does store1.whole store1.recordsBy store1.joined store2.nameFits store2.nameIn store2.bodyIn store2.spotFrom store2.withoutFirst store3.entryAt store3.markPlaces store3.placesBelow store3.fieldBytes store3.wordBytes store3.recordBytes store3.recordWith store4.planBytes store4.behindPlan store4.poured store4.heldIn store4.recordFits store5.recordsFit store5.storeFits store5.saved store5.saveRefusal store5.savePoint store5.findRefusal store5.findPoint store5.restoreRefusal store5.restorePoint store6.acts store6.wasSaved store6.pastOf store6.noted store6.known store6.holdsAfter store6.notedAfter store6.allKnown store6.actAnswers
 unknown-samples = refl
 
 -- ---- answers

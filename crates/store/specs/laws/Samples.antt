@@ -149,7 +149,7 @@ pub good-samples : map recordFits
     -- sent 12; module 0's waking link 0; the letter z
     ∷ changed 24 (12 ∷ []) ∷ changed 43 (0 ∷ 0 ∷ []) ∷ changed 7 (122 ∷ []) ∷ [])
     ≡ replicate 6 true
-unfolding base3.log2-to base3.log2 base5.every base6.tabulate graph1.label graph1.joinedOver graph1.connected message2.bare message2.listedAs message2.listed plan1.ascends plan1.inOrder plan1.linkVerdict plan1.linksRefusal plan1.planRefusal plan3.padded plan3.trimmed file1.decode file2.headVerdict file2.readRefusal node2.number field0.isOwn field0.endOf field3.allOf field3.waitingIn field3.wordFits field3.nodeFits field3.fits field4.valid field4.freshCells store2.nameFits store2.nameIn store2.bodyIn store3.markPlaces store3.placesBelow store4.planBytes store4.behindPlan store4.poured store4.heldIn store4.recordFits
+unfolding base3.log2-to base3.log2 base5.every base6.tabulate graph1.label graph1.joinedOver message2.bare message2.listedAs message2.listed plan1.ascends plan1.inOrder plan1.linkVerdict plan1.linksRefusal plan1.planRefusal plan3.padded plan3.trimmed file1.decode file2.headVerdict file2.readRefusal node2.number field0.isOwn field0.endOf field3.allOf field3.waitingIn field3.wordFits field3.nodeFits field3.fits field4.valid field4.freshCells store2.nameFits store2.nameIn store2.bodyIn store3.markPlaces store3.placesBelow store4.planBytes store4.behindPlan store4.poured store4.heldIn store4.recordFits
 good-samples = refl
 
 -- a word 0 at the end, and before the last; a byte more, one less, a mark less, no plan, nothing
@@ -157,7 +157,7 @@ pub short-samples : map recordFits
     ((wokenRecord ++ replicate 8 0) ∷ (take 69 wokenRecord ++ replicate 8 0 ++ drop 69 wokenRecord) ∷ (wokenRecord ++ 0 ∷ []) ∷ take 76 wokenRecord
     ∷ take 67 wokenRecord ∷ take 8 wokenRecord ∷ [] ∷ [])
     ≡ replicate 7 false
-unfolding base3.log2-to base3.log2 base5.every base6.tabulate graph1.label graph1.joinedOver graph1.connected message2.bare message2.listedAs message2.listed plan1.ascends plan1.inOrder plan1.linkVerdict plan1.linksRefusal plan1.planRefusal plan3.padded plan3.trimmed file1.decode file2.headVerdict file2.readRefusal node2.number field0.isOwn field0.endOf field3.allOf field3.waitingIn field3.wordFits field3.nodeFits field3.fits field4.valid field4.freshCells store2.nameFits store2.nameIn store2.bodyIn store3.markPlaces store3.placesBelow store4.planBytes store4.behindPlan store4.poured store4.heldIn store4.recordFits
+unfolding base3.log2-to base3.log2 base5.every base6.tabulate graph1.label graph1.joinedOver message2.bare message2.listedAs message2.listed plan1.ascends plan1.inOrder plan1.linkVerdict plan1.linksRefusal plan1.planRefusal plan3.padded plan3.trimmed file1.decode file2.headVerdict file2.readRefusal node2.number field0.isOwn field0.endOf field3.allOf field3.waitingIn field3.wordFits field3.nodeFits field3.fits field4.valid field4.freshCells store2.nameFits store2.nameIn store2.bodyIn store3.markPlaces store3.placesBelow store4.planBytes store4.behindPlan store4.poured store4.heldIn store4.recordFits
 short-samples = refl
 
 pub bad-samples : map recordFits
@@ -170,7 +170,7 @@ pub bad-samples : map recordFits
     -- a word with bit 42, of kind 0
     ∷ changed 71 (7 ∷ []) ∷ changed 76 (0 ∷ []) ∷ [])
     ≡ replicate 16 false
-unfolding base3.log2-to base3.log2 base5.every base6.tabulate graph1.label graph1.joinedOver graph1.connected message2.bare message2.listedAs message2.listed plan1.ascends plan1.inOrder plan1.linkVerdict plan1.linksRefusal plan1.planRefusal plan3.padded plan3.trimmed file1.decode file2.headVerdict file2.readRefusal node2.number field0.isOwn field0.endOf field3.allOf field3.waitingIn field3.wordFits field3.nodeFits field3.fits field4.valid field4.freshCells store2.nameFits store2.nameIn store2.bodyIn store3.markPlaces store3.placesBelow store4.planBytes store4.behindPlan store4.poured store4.heldIn store4.recordFits
+unfolding base3.log2-to base3.log2 base5.every base6.tabulate graph1.label graph1.joinedOver message2.bare message2.listedAs message2.listed plan1.ascends plan1.inOrder plan1.linkVerdict plan1.linksRefusal plan1.planRefusal plan3.padded plan3.trimmed file1.decode file2.headVerdict file2.readRefusal node2.number field0.isOwn field0.endOf field3.allOf field3.waitingIn field3.wordFits field3.nodeFits field3.fits field4.valid field4.freshCells store2.nameFits store2.nameIn store2.bodyIn store3.markPlaces store3.placesBelow store4.planBytes store4.behindPlan store4.poured store4.heldIn store4.recordFits
 bad-samples = refl
 
 -- none, 13 letters, a capital, what stands before a and behind z
@@ -200,7 +200,7 @@ records-samples = refl
 -- a whole store; with a byte behind the records, a record cut, a damaged one behind a good one, a name twice, also with another between, zeros before a record
 pub whole-samples : map storeFits (both ∷ [] ∷ replicate 9 0 ∷ wokenRecord ∷ set both 220 1 ∷ set both 216 7 ∷ take 215 both ∷ set both 164 1 ∷ (wokenRecord ++ servedRecord) ∷ (wokenRecord ++ mixedRecord ++ servedRecord) ∷ (0 ∷ wokenRecord) ∷ [])
     ≡ replicate 4 true ++ replicate 7 false
-unfolding base3.log2-to base3.log2 base5.every base6.tabulate graph1.label graph1.joinedOver graph1.connected message2.bare message2.listedAs message2.listed plan1.ascends plan1.inOrder plan1.linkVerdict plan1.linksRefusal plan1.planRefusal plan3.padded plan3.trimmed file1.decode file2.headVerdict file2.readRefusal node2.number field0.isOwn field0.endOf field3.allOf field3.waitingIn field3.wordFits field3.nodeFits field3.fits field4.valid field4.freshCells store2.nameFits store2.nameIn store2.bodyIn store3.markPlaces store3.placesBelow store4.planBytes store4.behindPlan store4.poured store4.heldIn store4.recordFits base5.sameList file1.bytesOf file1.encode store1.whole store1.recordsBy store1.joined store2.spotFrom store2.withoutFirst store3.entryAt store3.fieldBytes store3.wordBytes store3.recordBytes store3.recordWith store5.recordsFit store5.storeFits
+unfolding base3.log2-to base3.log2 base5.every base6.tabulate graph1.label graph1.joinedOver message2.bare message2.listedAs message2.listed plan1.ascends plan1.inOrder plan1.linkVerdict plan1.linksRefusal plan1.planRefusal plan3.padded plan3.trimmed file1.decode file2.headVerdict file2.readRefusal node2.number field0.isOwn field0.endOf field3.allOf field3.waitingIn field3.wordFits field3.nodeFits field3.fits field4.valid field4.freshCells store2.nameFits store2.nameIn store2.bodyIn store3.markPlaces store3.placesBelow store4.planBytes store4.behindPlan store4.poured store4.heldIn store4.recordFits base5.sameList file1.bytesOf file1.encode store1.whole store1.recordsBy store1.joined store2.spotFrom store2.withoutFirst store3.entryAt store3.fieldBytes store3.wordBytes store3.recordBytes store3.recordWith store5.recordsFit store5.storeFits
 whole-samples = refl
 
 -- ---- saving
@@ -215,25 +215,25 @@ damaged = wokenRecord ++ replicate 82 0 ++ 1 ∷ []
 pub refused-samples : saveRefusal [] overSent damaged ∷ saveRefusal [] woken damaged ∷ saveRefusal [] woken [] ∷ saveRefusal (71 ∷ 111 ∷ []) woken [] ∷ saveRefusal go woken [] ∷ saveRefusal go woken (replicate 76 0)
     ∷ saveRefusal go woken (replicate 77 0) ∷ saveRefusal go served wokenRecord ∷ saveRefusal go served (wokenRecord ++ replicate 8 0) ∷ saveRefusal b served (servedRecord ++ replicate 75 0) ∷ []
     ≡ 31 ∷ 76 ∷ 77 ∷ 77 ∷ 78 ∷ 78 ∷ 0 ∷ 78 ∷ 0 ∷ 78 ∷ []
-unfolding base3.log2-to base3.log2 base5.every base6.tabulate graph1.label graph1.joinedOver graph1.connected message2.bare message2.listedAs message2.listed plan1.ascends plan1.inOrder plan1.linkVerdict plan1.linksRefusal plan1.planRefusal plan3.padded plan3.trimmed file1.decode file2.headVerdict file2.readRefusal node2.number field0.isOwn field0.endOf field3.allOf field3.waitingIn field3.wordFits field3.nodeFits field3.fits field4.valid field4.freshCells store2.nameFits store2.nameIn store2.bodyIn store3.markPlaces store3.placesBelow store4.planBytes store4.behindPlan store4.poured store4.heldIn store4.recordFits base5.sameList file1.bytesOf file1.encode store1.whole store1.recordsBy store1.joined store2.spotFrom store2.withoutFirst store3.entryAt store3.fieldBytes store3.wordBytes store3.recordBytes store3.recordWith store5.recordsFit store5.storeFits store5.saved store5.saveRefusal
+unfolding base3.log2-to base3.log2 base5.every base6.tabulate graph1.label graph1.joinedOver message2.bare message2.listedAs message2.listed plan1.ascends plan1.inOrder plan1.linkVerdict plan1.linksRefusal plan1.planRefusal plan3.padded plan3.trimmed file1.decode file2.headVerdict file2.readRefusal node2.number field0.isOwn field0.endOf field3.allOf field3.waitingIn field3.wordFits field3.nodeFits field3.fits field4.valid field4.freshCells store2.nameFits store2.nameIn store2.bodyIn store3.markPlaces store3.placesBelow store4.planBytes store4.behindPlan store4.poured store4.heldIn store4.recordFits base5.sameList file1.bytesOf file1.encode store1.whole store1.recordsBy store1.joined store2.spotFrom store2.withoutFirst store3.entryAt store3.fieldBytes store3.wordBytes store3.recordBytes store3.recordWith store5.recordsFit store5.storeFits store5.saved store5.saveRefusal
 refused-samples = refl
 
 -- the first, a longer one in its place, a shorter one again, one that does not fit
 pub saved-samples : map (λ a. a .state) (savePoint go woken (replicate 160 0) ∷ savePoint go served (wokenRecord ++ replicate 83 0) ∷ savePoint go woken (servedRecord ++ replicate 75 0) ∷ savePoint b served (servedRecord ++ replicate 75 0) ∷ [])
     ≡ (wokenRecord ++ replicate 83 0) ∷ (servedRecord ++ replicate 75 0) ∷ (wokenRecord ++ replicate 83 0) ∷ (servedRecord ++ replicate 75 0) ∷ []
-unfolding base3.log2-to base3.log2 base5.every base6.tabulate graph1.label graph1.joinedOver graph1.connected message2.bare message2.listedAs message2.listed plan1.ascends plan1.inOrder plan1.linkVerdict plan1.linksRefusal plan1.planRefusal plan3.padded plan3.trimmed file1.decode file2.headVerdict file2.readRefusal node2.number field0.isOwn field0.endOf field3.allOf field3.waitingIn field3.wordFits field3.nodeFits field3.fits field4.valid field4.freshCells store2.nameFits store2.nameIn store2.bodyIn store3.markPlaces store3.placesBelow store4.planBytes store4.behindPlan store4.poured store4.heldIn store4.recordFits base5.sameList file1.bytesOf file1.encode store1.whole store1.recordsBy store1.joined store2.spotFrom store2.withoutFirst store3.entryAt store3.fieldBytes store3.wordBytes store3.recordBytes store3.recordWith store5.recordsFit store5.storeFits store5.saved store5.saveRefusal store5.savePoint
+unfolding base3.log2-to base3.log2 base5.every base6.tabulate graph1.label graph1.joinedOver message2.bare message2.listedAs message2.listed plan1.ascends plan1.inOrder plan1.linkVerdict plan1.linksRefusal plan1.planRefusal plan3.padded plan3.trimmed file1.decode file2.headVerdict file2.readRefusal node2.number field0.isOwn field0.endOf field3.allOf field3.waitingIn field3.wordFits field3.nodeFits field3.fits field4.valid field4.freshCells store2.nameFits store2.nameIn store2.bodyIn store3.markPlaces store3.placesBelow store4.planBytes store4.behindPlan store4.poured store4.heldIn store4.recordFits base5.sameList file1.bytesOf file1.encode store1.whole store1.recordsBy store1.joined store2.spotFrom store2.withoutFirst store3.entryAt store3.fieldBytes store3.wordBytes store3.recordBytes store3.recordWith store5.recordsFit store5.storeFits store5.saved store5.saveRefusal store5.savePoint
 saved-samples = refl
 
 -- the old record goes, the others close up in their order, the new one stands last, also under a new name
 pub moved-samples : map (λ a. a .state) (savePoint longest mixed both ∷ savePoint go woken both ∷ savePoint go woken (mixedRecord ++ replicate 82 0) ∷ savePoint longest mixed three ∷ savePoint b served three ∷ [])
     ≡ (wokenRecord ++ mixedRecord ++ replicate 5 0) ∷ both ∷ both ∷ (wokenRecord ++ recordBytes b served ++ mixedRecord) ∷ three ∷ []
-unfolding base3.log2-to base3.log2 base5.every base6.tabulate graph1.label graph1.joinedOver graph1.connected message2.bare message2.listedAs message2.listed plan1.ascends plan1.inOrder plan1.linkVerdict plan1.linksRefusal plan1.planRefusal plan3.padded plan3.trimmed file1.decode file2.headVerdict file2.readRefusal node2.number field0.isOwn field0.endOf field3.allOf field3.waitingIn field3.wordFits field3.nodeFits field3.fits field4.valid field4.freshCells store2.nameFits store2.nameIn store2.bodyIn store3.markPlaces store3.placesBelow store4.planBytes store4.behindPlan store4.poured store4.heldIn store4.recordFits base5.sameList file1.bytesOf file1.encode store1.whole store1.recordsBy store1.joined store2.spotFrom store2.withoutFirst store3.entryAt store3.fieldBytes store3.wordBytes store3.recordBytes store3.recordWith store5.recordsFit store5.storeFits store5.saved store5.saveRefusal store5.savePoint
+unfolding base3.log2-to base3.log2 base5.every base6.tabulate graph1.label graph1.joinedOver message2.bare message2.listedAs message2.listed plan1.ascends plan1.inOrder plan1.linkVerdict plan1.linksRefusal plan1.planRefusal plan3.padded plan3.trimmed file1.decode file2.headVerdict file2.readRefusal node2.number field0.isOwn field0.endOf field3.allOf field3.waitingIn field3.wordFits field3.nodeFits field3.fits field4.valid field4.freshCells store2.nameFits store2.nameIn store2.bodyIn store3.markPlaces store3.placesBelow store4.planBytes store4.behindPlan store4.poured store4.heldIn store4.recordFits base5.sameList file1.bytesOf file1.encode store1.whole store1.recordsBy store1.joined store2.spotFrom store2.withoutFirst store3.entryAt store3.fieldBytes store3.wordBytes store3.recordBytes store3.recordWith store5.recordsFit store5.storeFits store5.saved store5.saveRefusal store5.savePoint
 moved-samples = refl
 
 -- what a refused save leaves: by 78 the old record too, by 31, 76 and 77 the store as it was
 pub unmoved-samples : map (λ a. a .state) (savePoint go served wokenRecord ∷ savePoint go woken mixedRecord ∷ savePoint go overSent wokenRecord ∷ savePoint go woken damaged ∷ savePoint [] woken wokenRecord ∷ [])
     ≡ wokenRecord ∷ mixedRecord ∷ wokenRecord ∷ damaged ∷ wokenRecord ∷ []
-unfolding base3.log2-to base3.log2 base5.every base6.tabulate graph1.label graph1.joinedOver graph1.connected message2.bare message2.listedAs message2.listed plan1.ascends plan1.inOrder plan1.linkVerdict plan1.linksRefusal plan1.planRefusal plan3.padded plan3.trimmed file1.decode file2.headVerdict file2.readRefusal node2.number field0.isOwn field0.endOf field3.allOf field3.waitingIn field3.wordFits field3.nodeFits field3.fits field4.valid field4.freshCells store2.nameFits store2.nameIn store2.bodyIn store3.markPlaces store3.placesBelow store4.planBytes store4.behindPlan store4.poured store4.heldIn store4.recordFits base5.sameList file1.bytesOf file1.encode store1.whole store1.recordsBy store1.joined store2.spotFrom store2.withoutFirst store3.entryAt store3.fieldBytes store3.wordBytes store3.recordBytes store3.recordWith store5.recordsFit store5.storeFits store5.saved store5.saveRefusal store5.savePoint
+unfolding base3.log2-to base3.log2 base5.every base6.tabulate graph1.label graph1.joinedOver message2.bare message2.listedAs message2.listed plan1.ascends plan1.inOrder plan1.linkVerdict plan1.linksRefusal plan1.planRefusal plan3.padded plan3.trimmed file1.decode file2.headVerdict file2.readRefusal node2.number field0.isOwn field0.endOf field3.allOf field3.waitingIn field3.wordFits field3.nodeFits field3.fits field4.valid field4.freshCells store2.nameFits store2.nameIn store2.bodyIn store3.markPlaces store3.placesBelow store4.planBytes store4.behindPlan store4.poured store4.heldIn store4.recordFits base5.sameList file1.bytesOf file1.encode store1.whole store1.recordsBy store1.joined store2.spotFrom store2.withoutFirst store3.entryAt store3.fieldBytes store3.wordBytes store3.recordBytes store3.recordWith store5.recordsFit store5.storeFits store5.saved store5.saveRefusal store5.savePoint
 unmoved-samples = refl
 
 -- ---- finding and restoring
@@ -243,20 +243,20 @@ foundAt refusal at size = record { refusal = refusal; at = at; size = size }
 
 pub found-samples : findPoint go both ∷ findPoint longest both ∷ findPoint b three ∷ findPoint (110 ∷ 111 ∷ []) both ∷ findPoint (71 ∷ 111 ∷ []) both ∷ findPoint [] both ∷ findPoint b [] ∷ findPoint go damaged ∷ findPoint [] damaged ∷ []
     ≡ foundAt 0 139 77 ∷ foundAt 0 0 139 ∷ foundAt 0 216 84 ∷ foundAt 77 0 0 ∷ foundAt 77 0 0 ∷ foundAt 77 0 0 ∷ foundAt 77 0 0 ∷ foundAt 76 0 0 ∷ foundAt 76 0 0 ∷ []
-unfolding base3.log2-to base3.log2 base5.every base6.tabulate graph1.label graph1.joinedOver graph1.connected message2.bare message2.listedAs message2.listed plan1.ascends plan1.inOrder plan1.linkVerdict plan1.linksRefusal plan1.planRefusal plan3.padded plan3.trimmed file1.decode file2.headVerdict file2.readRefusal node2.number field0.isOwn field0.endOf field3.allOf field3.waitingIn field3.wordFits field3.nodeFits field3.fits field4.valid field4.freshCells store2.nameFits store2.nameIn store2.bodyIn store3.markPlaces store3.placesBelow store4.planBytes store4.behindPlan store4.poured store4.heldIn store4.recordFits base5.sameList file1.bytesOf file1.encode store1.whole store1.recordsBy store1.joined store2.spotFrom store2.withoutFirst store3.entryAt store3.fieldBytes store3.wordBytes store3.recordBytes store3.recordWith store5.recordsFit store5.storeFits store5.findRefusal store5.findPoint
+unfolding base3.log2-to base3.log2 base5.every base6.tabulate graph1.label graph1.joinedOver message2.bare message2.listedAs message2.listed plan1.ascends plan1.inOrder plan1.linkVerdict plan1.linksRefusal plan1.planRefusal plan3.padded plan3.trimmed file1.decode file2.headVerdict file2.readRefusal node2.number field0.isOwn field0.endOf field3.allOf field3.waitingIn field3.wordFits field3.nodeFits field3.fits field4.valid field4.freshCells store2.nameFits store2.nameIn store2.bodyIn store3.markPlaces store3.placesBelow store4.planBytes store4.behindPlan store4.poured store4.heldIn store4.recordFits base5.sameList file1.bytesOf file1.encode store1.whole store1.recordsBy store1.joined store2.spotFrom store2.withoutFirst store3.entryAt store3.fieldBytes store3.wordBytes store3.recordBytes store3.recordWith store5.recordsFit store5.storeFits store5.findRefusal store5.findPoint
 found-samples = refl
 
 pub shown-samples : map (λ name. partAt (findPoint name both) both) (go ∷ longest ∷ b ∷ []) ≡ wokenRecord ∷ mixedRecord ∷ [] ∷ []
-unfolding base3.log2-to base3.log2 base5.every base6.tabulate graph1.label graph1.joinedOver graph1.connected message2.bare message2.listedAs message2.listed plan1.ascends plan1.inOrder plan1.linkVerdict plan1.linksRefusal plan1.planRefusal plan3.padded plan3.trimmed file1.decode file2.headVerdict file2.readRefusal node2.number field0.isOwn field0.endOf field3.allOf field3.waitingIn field3.wordFits field3.nodeFits field3.fits field4.valid field4.freshCells store2.nameFits store2.nameIn store2.bodyIn store3.markPlaces store3.placesBelow store4.planBytes store4.behindPlan store4.poured store4.heldIn store4.recordFits base5.sameList file1.bytesOf file1.encode store1.whole store1.recordsBy store1.joined store2.spotFrom store2.withoutFirst store3.entryAt store3.fieldBytes store3.wordBytes store3.recordBytes store3.recordWith store5.recordsFit store5.storeFits store5.findRefusal store5.findPoint
+unfolding base3.log2-to base3.log2 base5.every base6.tabulate graph1.label graph1.joinedOver message2.bare message2.listedAs message2.listed plan1.ascends plan1.inOrder plan1.linkVerdict plan1.linksRefusal plan1.planRefusal plan3.padded plan3.trimmed file1.decode file2.headVerdict file2.readRefusal node2.number field0.isOwn field0.endOf field3.allOf field3.waitingIn field3.wordFits field3.nodeFits field3.fits field4.valid field4.freshCells store2.nameFits store2.nameIn store2.bodyIn store3.markPlaces store3.placesBelow store4.planBytes store4.behindPlan store4.poured store4.heldIn store4.recordFits base5.sameList file1.bytesOf file1.encode store1.whole store1.recordsBy store1.joined store2.spotFrom store2.withoutFirst store3.entryAt store3.fieldBytes store3.wordBytes store3.recordBytes store3.recordWith store5.recordsFit store5.storeFits store5.findRefusal store5.findPoint
 shown-samples = refl
 
 pub restored-samples : restorePoint longest both (replicate 23 7) ∷ restorePoint go both (replicate 11 7) ∷ restorePoint b both [] ∷ restorePoint b damaged [] ∷ restorePoint go damaged [] ∷ []
     ≡ takenTo (heldFrom (heldIn mixedRecord .field .plan) (heldIn mixedRecord .field .cells) (heldIn mixedRecord .field .marks) 21 (packed 1 none 4 0 ∷ packed 11 2 1 1 ∷ replicate 21 0))
     ∷ notSetUp 21 (replicate 11 7) ∷ notSetUp 77 [] ∷ notSetUp 76 [] ∷ notSetUp 76 [] ∷ []
-unfolding base3.log2-to base3.log2 base5.every base6.tabulate graph1.label graph1.joinedOver graph1.connected message2.bare message2.listedAs message2.listed plan1.ascends plan1.inOrder plan1.linkVerdict plan1.linksRefusal plan1.planRefusal plan3.padded plan3.trimmed file1.decode file2.headVerdict file2.readRefusal node2.number field0.isOwn field0.endOf field3.allOf field3.waitingIn field3.wordFits field3.nodeFits field3.fits field4.valid field4.freshCells store2.nameFits store2.nameIn store2.bodyIn store3.markPlaces store3.placesBelow store4.planBytes store4.behindPlan store4.poured store4.heldIn store4.recordFits base5.sameList file1.bytesOf file1.encode store1.whole store1.recordsBy store1.joined store2.spotFrom store2.withoutFirst store3.entryAt store3.fieldBytes store3.wordBytes store3.recordBytes store3.recordWith store5.recordsFit store5.storeFits store5.findRefusal store5.restoreRefusal store5.restorePoint
+unfolding base3.log2-to base3.log2 base5.every base6.tabulate graph1.label graph1.joinedOver message2.bare message2.listedAs message2.listed plan1.ascends plan1.inOrder plan1.linkVerdict plan1.linksRefusal plan1.planRefusal plan3.padded plan3.trimmed file1.decode file2.headVerdict file2.readRefusal node2.number field0.isOwn field0.endOf field3.allOf field3.waitingIn field3.wordFits field3.nodeFits field3.fits field4.valid field4.freshCells store2.nameFits store2.nameIn store2.bodyIn store3.markPlaces store3.placesBelow store4.planBytes store4.behindPlan store4.poured store4.heldIn store4.recordFits base5.sameList file1.bytesOf file1.encode store1.whole store1.recordsBy store1.joined store2.spotFrom store2.withoutFirst store3.entryAt store3.fieldBytes store3.wordBytes store3.recordBytes store3.recordWith store5.recordsFit store5.storeFits store5.findRefusal store5.restoreRefusal store5.restorePoint
 restored-samples = refl
 
 -- words as many as M, and one less
 pub words-samples : map (λ n. restorePoint go both (replicate n 7) .refusal) (12 ∷ 11 ∷ []) ≡ 0 ∷ 21 ∷ []
-unfolding base3.log2-to base3.log2 base5.every base6.tabulate graph1.label graph1.joinedOver graph1.connected message2.bare message2.listedAs message2.listed plan1.ascends plan1.inOrder plan1.linkVerdict plan1.linksRefusal plan1.planRefusal plan3.padded plan3.trimmed file1.decode file2.headVerdict file2.readRefusal node2.number field0.isOwn field0.endOf field3.allOf field3.waitingIn field3.wordFits field3.nodeFits field3.fits field4.valid field4.freshCells store2.nameFits store2.nameIn store2.bodyIn store3.markPlaces store3.placesBelow store4.planBytes store4.behindPlan store4.poured store4.heldIn store4.recordFits base5.sameList file1.bytesOf file1.encode store1.whole store1.recordsBy store1.joined store2.spotFrom store2.withoutFirst store3.entryAt store3.fieldBytes store3.wordBytes store3.recordBytes store3.recordWith store5.recordsFit store5.storeFits store5.findRefusal store5.restoreRefusal store5.restorePoint
+unfolding base3.log2-to base3.log2 base5.every base6.tabulate graph1.label graph1.joinedOver message2.bare message2.listedAs message2.listed plan1.ascends plan1.inOrder plan1.linkVerdict plan1.linksRefusal plan1.planRefusal plan3.padded plan3.trimmed file1.decode file2.headVerdict file2.readRefusal node2.number field0.isOwn field0.endOf field3.allOf field3.waitingIn field3.wordFits field3.nodeFits field3.fits field4.valid field4.freshCells store2.nameFits store2.nameIn store2.bodyIn store3.markPlaces store3.placesBelow store4.planBytes store4.behindPlan store4.poured store4.heldIn store4.recordFits base5.sameList file1.bytesOf file1.encode store1.whole store1.recordsBy store1.joined store2.spotFrom store2.withoutFirst store3.entryAt store3.fieldBytes store3.wordBytes store3.recordBytes store3.recordWith store5.recordsFit store5.storeFits store5.findRefusal store5.restoreRefusal store5.restorePoint
 words-samples = refl

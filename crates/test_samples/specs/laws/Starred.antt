@@ -9,7 +9,7 @@ use Rattle.base.specs.Keep.{place}
 use Rattle.base.specs.Log.{log2-to, log2}
 use Rattle.base.specs.Table.{tabulate}
 use Rattle.base.specs.Test.{every}
-use Rattle.graph.specs.Decide.{label, joinedOver, inTree, connected}
+use Rattle.graph.specs.Decide.{label, joinedOver, inTree}
 use Rattle.format_message.specs.Msg.{Msg, connect, initiate, test}
 use Rattle.format_message.specs.Header.{headerOf, carriedOf, partsOf, msgOf}
 use Rattle.format_message.specs.Listed.{bare, listedAs, listed}
@@ -111,7 +111,7 @@ rows =
 pub starred : map (λ r. r .computed) rows ≡ map (λ r. r .said) rows
 unfolding
     upd place log2-to log2 tabulate every
-    label joinedOver inTree connected
+    label joinedOver inTree
     partsOf msgOf bare listedAs listed
     frameRefusal
     ascends inOrder linkVerdict linksRefusal planRefusal

@@ -1,4 +1,4 @@
--- All that the program prints has at most 46202 bytes (`reported-fits`), and no plan that is taken asks for more than 7920 words.
+-- All that the program prints has at most 47157 bytes (`reported-fits`), and no plan that is taken asks for more than 7920 words.
 use Prim.Native.Nat.{ℕ, zero, suc, _≤_}
 use native.Mathlib.Omega.{arith}
 use mathlib.Core.Path.{_≡_, refl, ap}
@@ -22,20 +22,20 @@ use Rattle.text_report.specs.Text.{reportText}
 use Rattle.text_report.specs.laws.Fits.{report-length}
 use Rattle.text_owed.specs.Reported.{jobText, planText, reported}
 
-refused-length : (number : ℕ) → length (refusedText number) ≤ 46202
+refused-length : (number : ℕ) → length (refusedText number) ≤ 47157
 refused-length number = omega (arith, line-length "refused " number)
 
-job-length : (r : Ran Held) → length (jobText r) ≤ 46202
+job-length : (r : Ran Held) → length (jobText r) ≤ 47157
 unfolding jobText
-job-length r = by-test (eqb (r .refusal) 0) (λ b. length (cond b (reportText (r .state .field) (r .done)) (refusedText (r .refusal))) ≤ 46202)
+job-length r = by-test (eqb (r .refusal) 0) (λ b. length (cond b (reportText (r .state .field) (r .done)) (refusedText (r .refusal))) ≤ 47157)
     (report-length (r .state .field) (r .done)) (refused-length (r .refusal))
 
-pub reported-length : (s : List ℕ) → length (reported s) ≤ 46202
+pub reported-length : (s : List ℕ) → length (reported s) ≤ 47157
 unfolding planText
 reported-length s =
     let g = readPlan s in
     let x = jobText (jobRun (g .plan) (replicate (ceilingOf (g .plan)) 0)) in
-    by-test (eqb (g .refusal) 0) (λ b. length (cond b x (refusedText (g .refusal))) ≤ 46202)
+    by-test (eqb (g .refusal) 0) (λ b. length (cond b x (refusedText (g .refusal))) ≤ 47157)
     (job-length (jobRun (g .plan) (replicate (ceilingOf (g .plan)) 0))) (refused-length (g .refusal))
 
 -- The words of a plan that is taken.

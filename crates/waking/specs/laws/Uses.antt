@@ -104,5 +104,5 @@ module _ (p : Plan) (start : Held) (calls : List Call) (c : WakingClaim p start 
 -- ---- a plan that has it
 
 pub triangle-claim : (calls : List Call) → WakingClaim (plan3.trimmed worseReading) (setUp worseReading (replicate 21 0) .state) calls
-unfolding base3.log2-to base3.log2 base5.every graph1.label graph1.joinedOver graph1.connected plan1.ascends plan1.inOrder plan1.linkVerdict plan1.linksRefusal plan1.planRefusal field4.setUp
+unfolding base3.log2-to base3.log2 base5.every graph1.label graph1.joinedOver plan1.ascends plan1.inOrder plan1.linkVerdict plan1.linksRefusal plan1.planRefusal field4.setUp
 triangle-claim calls = who-woke-whom worseReading (replicate 21 0) refl calls
