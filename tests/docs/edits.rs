@@ -38,6 +38,18 @@ pub fn whole(text: &str) -> bool {
     before == "new"
 }
 
+/// The first old line of an edit that its file does not have, for which rt would fail once it comes to that edit.
+pub fn lost<'a>(text: &'a str, read: impl Fn(&str) -> String) -> Option<&'a str> {
+    let mut file = String::new();
+    text.lines().find_map(|line| {
+        let (word, rest) = line.split_once(": ").unwrap_or((line, ""));
+        if word == "file" {
+            file = read(rest.trim());
+        }
+        (word == "old" && !file.contains(rest)).then_some(rest)
+    })
+}
+
 fn text(edit: &str) -> String {
     fs::read_to_string(format!("crates/{}.edit", edit.replace('/', "/must-fail/"))).unwrap_or_default()
 }
@@ -67,6 +79,12 @@ pub fn compare(rows: &[Row], found: &mut Found) {
     let there = there();
     let cut = there.iter().filter(|edit| !whole(&text(edit)));
     found.faults.extend(cut.map(|edit| format!("{edit}: not files with pairs of an old line and another new one")));
+    for edit in &there {
+        let of = edit.split('/').next().unwrap_or_default();
+        let read = |name: &str| fs::read_to_string(format!("crates/{of}/{name}")).unwrap_or_default();
+        let fault = lost(&text(edit), read).map(|old| format!("{edit}: its file has no {old}"));
+        found.faults.extend(fault);
+    }
     let mut listed = BTreeSet::new();
     for row in rows {
         let (all, some) = named(row);

@@ -1,5 +1,5 @@
 use crate::difference;
-use crate::edits::whole;
+use crate::edits::{lost, whole};
 use crate::map;
 use crate::tables::{claims, defined, functions, mentions, numbers, rows, theorems, Found};
 use crate::trust::{closure, unlisted};
@@ -149,6 +149,13 @@ fn the_page_is_compared() {
     assert_eq!(difference("a\nb\n", "a\nb\n"), None);
     assert!(difference("a\nb\n", "a\nc\n").unwrap().starts_with("docs/TRUST.md:2: b\n  the tree gives: c\n"));
     assert!(difference("a\n", "a\nb\n").is_some());
+}
+
+#[test]
+fn an_old_line_is_in_its_file() {
+    let read = |name: &str| format!("text of {name}, and more\n");
+    assert_eq!(lost("file: a\nold: of a,\nnew: x\nfile: b\nold: of b, and\nnew: y\n", read), None);
+    assert_eq!(lost("file: a\nold: of a,\nnew: x\nold: of b\nnew: y\n", read), Some("of b"));
 }
 
 #[test]
