@@ -18,7 +18,7 @@ import re
 import subprocess
 import sys
 
-# Lemmas whose spelling by port.py is now that of a definition: they keep their dash.
+# Lemmas whose spelling by port.py is now that of a definition: they keep their dash. One is also a function of src/, in other crates.
 DASHED = "a_test at_rest fresh_at refused_as cells_are words_are all_but all_hold told_at goes_on held_by by_number blank_step right_of".split()
 
 CUT = re.compile(r"[\s(){}\[\],;.:@«»\"`]+")
@@ -169,7 +169,8 @@ def main():
     names = own_names()
     for path in sources():
         text = read(path)
-        got = turn(text, names)
+        here = {n: new for n, new in names.items() if n not in DASHED or path.endswith(".antt") and (n != "a_test" or path.startswith("crates/node/"))}
+        got = turn(text, here)
         if got != text:
             write(path, got)
     for crate in sorted(os.listdir("crates")):

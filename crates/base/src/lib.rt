@@ -1,5 +1,6 @@
 // Laws of lists, tables, sums and loops (specs/), and the numbers that code of every layer names. specs/None.antt and specs/Limits.antt have these numbers for
 // definitions.
+#![tactic(auto)]
 
 // "none" of document 01: no link.
 pub const NONE: u16 = 65535;

@@ -1,3 +1,2 @@
 -- A plan with nobody in it, through every call: what request 04 claims (`BlankClaim`), and that it holds (`blank-claim`).
 pub mod Claim
-pub mod laws

@@ -4,4 +4,3 @@ pub mod Copies
 pub mod Calls
 pub mod Follow
 pub mod Claims
-pub mod laws

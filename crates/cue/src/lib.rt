@@ -1,10 +1,12 @@
 // Cues: the record that a console lends for each module, what a delivery answers, and both calls as definitions (specs/). A cue goes from its
 // sender over the finished tree, branch by branch. (A broadcast over the tree.)
+#![tactic(auto)]
+
 use base::MAX_MODULES;
 
 // A module's cue record, as the console lends it: document 02's four values, any numbers.
 #[repr(C)]
-#[derive(Drop)]
+#[derive(Clone, Copy)]
 pub struct Cue {
     // 1 if the module has heard the cue, else 0
     pub heard: u8,
@@ -19,7 +21,7 @@ pub struct Cue {
 pub type Row = [Cue; MAX_MODULES as usize];
 
 // What a delivery answers.
-#[derive(Drop)]
+#[derive(Clone, Copy)]
 pub enum Delivery {
     // by the refusal of this number
     Refused(u32),

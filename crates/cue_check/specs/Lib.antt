@@ -1,3 +1,2 @@
 -- 71 and 73 as code decides them.
 pub mod Bytes
-pub mod laws

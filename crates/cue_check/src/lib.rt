@@ -1,4 +1,6 @@
 // Refusals 71 and 73 of cues, and whether a copy waits. 71 builds the tree; after it the marks tell which links are in the tree.
+#![tactic(auto)]
+
 mod record;
 mod tree;
 
@@ -6,7 +8,7 @@ ghost use Rattle.std.specs.Prelude.{◌*◌, ◌<◌, ◌≡◌, true};
 ghost use Rattle.base.specs.Limits.{max_modules};
 ghost use Rattle.plan.specs.Links.{modules_of, links_of};
 ghost use Rattle.plan.specs.Refusal.{plan_refusal};
-ghost use Rattle.plan.specs.laws.Accepted.{Accepted};
+ghost use Rattle.plan.proofs.laws.Accepted.{Accepted};
 ghost use Rattle.field.specs.Edges.{is_own, end_of, from, dest};
 ghost use Rattle.cue.specs.Copies.{waits_on};
 ghost use Rattle.cue.specs.Calls.{branches_agree, left_by_sending};

@@ -2,7 +2,7 @@
 ghost use Rattle.std.specs.Prelude.{◌≤◌, ◌<◌, ◌≡◌, true, not, ◌&&◌, eqb};
 ghost use Rattle.base.specs.Cond.{bit};
 ghost use Rattle.plan.specs.Links.{links_of};
-ghost use Rattle.plan.specs.laws.Accepted.{Accepted};
+ghost use Rattle.plan.proofs.laws.Accepted.{Accepted};
 ghost use Rattle.plan_tree.specs.Tree.{tree_link};
 ghost use Rattle.field.specs.Edges.{is_own};
 ghost use Rattle.cue.specs.Record.{unheard, has_heard, sender_record, heard_record, alike};

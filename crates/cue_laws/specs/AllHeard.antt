@@ -4,18 +4,18 @@ use Rattle.std.specs.Prelude.{ℕ, ◌*◌, ◌<◌, ◌≡◌, ◌≢◌, Bool,
 use Rattle.std.proofs.Common.{arith, sym, ap, ◌∙◌, eqb-true}
 use Rattle.std.proofs.lemmas.Bool.{eqb-false}
 use Rattle.base.specs.Cond.{bit}
-use Rattle.base.specs.laws.Cond.{bool_cases}
-use Rattle.base.specs.laws.Sum.{le-sum}
+use Rattle.base.proofs.laws.Cond.{bool_cases}
+use Rattle.base.proofs.laws.Sum.{le-sum}
 use Rattle.graph.specs.Graph.{Joins, Way}
 use Rattle.graph.specs.Decide.{Set}
-use Rattle.graph.specs.laws.Ways.{Cross, cross, flip}
+use Rattle.graph.proofs.laws.Ways.{Cross, cross, flip}
 use Rattle.plan.specs.Links.{Plan, links_of, graph_of}
 use Rattle.plan_tree.specs.Tree.{tree_link}
 use Rattle.cue.specs.declared.Cue.{Cue}
 use Rattle.cue.specs.Record.{record_of, has_heard}
 use Rattle.cue.specs.Copies.{waits_on, copies_waiting}
 use Rattle.cue.specs.Claims.{AllHeard}
-use Rattle.cue.specs.laws.Copies.{facts-wait}
+use Rattle.cue.proofs.laws.Copies.{facts-wait}
 use Rattle.cue_laws.specs.Net.{Net}
 use Rattle.cue_laws.specs.Good.{GoodCues}
 use Rattle.cue_laws.specs.Told.{told-by}

@@ -5,18 +5,18 @@ use Rattle.std.specs.Prelude.{ℕ, ◌<◌, ◌≡◌, Bool, ◌&&◌, List, len
 use Rattle.std.proofs.Common.{sym, ap, ◌∙◌, true≢false}
 use Rattle.base.specs.Cond.{bit}
 use Rattle.base.specs.None.{none}
-use Rattle.base.specs.laws.Cond.{bool_cases}
+use Rattle.base.proofs.laws.Cond.{bool_cases}
 use Rattle.graph.specs.Parts.{SamePart}
 use Rattle.graph.specs.Path.{edges_of, last_or}
-use Rattle.graph.specs.laws.Ways.{wider}
+use Rattle.graph.proofs.laws.Ways.{wider}
 use Rattle.plan.specs.Links.{Plan, modules_of, graph_of}
 use Rattle.plan_tree.specs.Claim.{TreePath}
-use Rattle.plan_tree.specs.laws.Paths.{tree-path}
+use Rattle.plan_tree.proofs.laws.Paths.{tree-path}
 use Rattle.path.specs.Between.{tree_path, PathShown}
 use Rattle.path.specs.Near.{mark_near}
 use Rattle.path.specs.Claims.{PathHolds, NearHolds}
-use Rattle.path.specs.laws.Claims.{near-claim}
-use Rattle.path.specs.laws.Steps.{path-is}
+use Rattle.path.proofs.laws.Claims.{near-claim}
+use Rattle.path.proofs.laws.Steps.{path-is}
 use Rattle.field.specs.Held.{Held}
 use Rattle.cue.specs.declared.Cue.{Cue}
 use Rattle.cue.specs.Record.{record_of, has_heard}

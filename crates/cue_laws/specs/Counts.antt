@@ -6,17 +6,17 @@ use Rattle.std.proofs.Math.Path.{sym, ap}
 use Rattle.std.proofs.Math.Dec.{eqb}
 use Rattle.base.specs.Cond.{bit}
 use Rattle.base.specs.Sum.{sum}
-use Rattle.base.specs.laws.Cond.{bool_cases, by-eq, eqb_same, eqb-diff}
-use Rattle.base.specs.laws.Sum.{sum-eq, sum-add, sum-zero, sum-change, sum_one}
+use Rattle.base.proofs.laws.Cond.{bool_cases, by-eq, eqb_same, eqb-diff}
+use Rattle.base.proofs.laws.Sum.{sum-eq, sum-add, sum-zero, sum-change, sum_one}
 use Rattle.graph.specs.Graph.{Joins}
-use Rattle.graph.specs.laws.Ways.{joins-lt}
+use Rattle.graph.proofs.laws.Ways.{joins-lt}
 use Rattle.plan.specs.Links.{Plan, modules_of, links_of, graph_of}
 use Rattle.field.specs.Edges.{link_of, from, dest}
 use Rattle.cue.specs.declared.Cue.{Cue}
 use Rattle.cue.specs.Record.{record_of, has_heard, begun_cues}
 use Rattle.cue.specs.Copies.{sent_over, arrived_over, waits_on, arrival, copies_sent, copies_waiting}
-use Rattle.cue.specs.laws.Record.{begun-sender, begun-other}
-use Rattle.cue.specs.laws.Copies.{ArrivedOver, facts-sent, arrived-facts, facts-arrived, waits-facts}
+use Rattle.cue.proofs.laws.Record.{begun-sender, begun-other}
+use Rattle.cue.proofs.laws.Copies.{ArrivedOver, facts-sent, arrived-facts, facts-arrived, waits-facts}
 use Rattle.cue_laws.specs.Net.{Net}
 use Rattle.cue_laws.specs.Good.{GoodCues}
 use Rattle.cue_laws.specs.Told.{told-by, not-told-back}

@@ -10,10 +10,10 @@ use Rattle.cue.specs.Record.{record_of, has_heard, sender_record, begun_cues}
 use Rattle.cue.specs.Copies.{copies_sent, copies_waiting}
 use Rattle.cue.specs.Calls.{start_cue, deliver_cue, refusal_number}
 use Rattle.cue.specs.Claims.{deliveries, heard_over, AllHeard, Reaches, CueHolds, CueClaim, Exact73}
-use Rattle.cue.specs.laws.Record.{length-begun, begun-sender, begun-past}
-use Rattle.cue.specs.laws.Refusals.{FieldReady, StartTaken}
-use Rattle.cue.specs.laws.Calls.{start-taken, start-state}
-use Rattle.graph.specs.laws.Parts.{part_filled}
+use Rattle.cue.proofs.laws.Record.{length-begun, begun-sender, begun-past}
+use Rattle.cue.proofs.laws.Refusals.{FieldReady, StartTaken}
+use Rattle.cue.proofs.laws.Calls.{start-taken, start-state}
+use Rattle.graph.proofs.laws.Parts.{part_filled}
 use Rattle.cue_laws.specs.Net.{Net}
 use Rattle.cue_laws.specs.Good.{GoodCues}
 use Rattle.cue_laws.specs.Once.{hears-once, begun-good}

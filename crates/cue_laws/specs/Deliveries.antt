@@ -4,7 +4,7 @@ use Rattle.std.specs.Prelude.{ℕ, ◌*◌, ◌≤◌, ◌<◌, ◌≡◌, true,
 use Rattle.std.proofs.Common.{arith, sym, subst, ◌∙◌}
 use Rattle.std.proofs.Math.Path.{refl, ap}
 use mathlib.Core.List.{List, [], ◌∷◌, ◌++◌}
-use Rattle.base.specs.laws.Cond.{bool_cases, ltb-cases}
+use Rattle.base.proofs.laws.Cond.{bool_cases, ltb-cases}
 use Rattle.plan.specs.Links.{Plan, links_of}
 use Rattle.field.specs.Held.{Held}
 use Rattle.cue.specs.declared.Cue.{Cue}
@@ -12,9 +12,9 @@ use Rattle.cue.specs.declared.Delivery.TheVariants.{Refused, Idle, Heard}
 use Rattle.cue.specs.Copies.{waits_on, arrival, delivered}
 use Rattle.cue.specs.Calls.{left_by_sending, delivery_refusal, Delivered, deliver_cue}
 use Rattle.cue.specs.Claims.{deliveries, says_heard, heard_over}
-use Rattle.cue.specs.laws.Copies.{delivered-arrival, delivered-idle}
-use Rattle.cue.specs.laws.Refusals.{FieldReady, ready-accepted, delivery-42, facts-delivery}
-use Rattle.cue.specs.laws.Calls.{delivery-keeps, delivery-heard, delivery-idle}
+use Rattle.cue.proofs.laws.Copies.{delivered-arrival, delivered-idle}
+use Rattle.cue.proofs.laws.Refusals.{FieldReady, ready-accepted, delivery-42, facts-delivery}
+use Rattle.cue.proofs.laws.Calls.{delivery-keeps, delivery-heard, delivery-idle}
 use Rattle.cue_laws.specs.Net.{Net}
 use Rattle.cue_laws.specs.NetOf.{net_of}
 use Rattle.cue_laws.specs.Good.{GoodCues}

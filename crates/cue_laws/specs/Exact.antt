@@ -3,15 +3,15 @@ use Rattle.std.specs.Prelude.{ℕ, ◌*◌, ◌≤◌, ◌<◌, ◌≡◌, true,
 use Rattle.std.proofs.Math.Path.{refl, ap}
 use Rattle.std.proofs.Common.{sym, subst, ◌∙◌}
 use Rattle.base.specs.Pool.{All, nil}
-use Rattle.base.specs.laws.Pool.{All-app, All-one}
+use Rattle.base.proofs.laws.Pool.{All-app, All-one}
 use Rattle.plan.specs.Links.{Plan, modules_of, links_of}
 use Rattle.field.specs.Held.{Held}
 use Rattle.cue.specs.declared.Cue.{Cue}
 use Rattle.cue.specs.Record.{begun_cues}
 use Rattle.cue.specs.Calls.{left_by_sending}
 use Rattle.cue.specs.Claims.{deliveries, Sending}
-use Rattle.cue.specs.laws.Refusals.{FieldReady}
-use Rattle.cue.specs.laws.Calls.{start-taken, taken_start, start-state}
+use Rattle.cue.proofs.laws.Refusals.{FieldReady}
+use Rattle.cue.proofs.laws.Calls.{start-taken, taken_start, start-state}
 use Rattle.cue_laws.specs.Good.{GoodCues, Left, begins, goes}
 use Rattle.cue_laws.specs.Once.{begun-good}
 use Rattle.cue_laws.specs.Rule.{test_good, good-test}

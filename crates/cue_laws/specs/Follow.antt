@@ -5,9 +5,9 @@ use Rattle.std.proofs.Common.{arith, sym, ap, ◌∙◌, true≢false}
 use Rattle.std.proofs.Math.Path.{subst}
 use Rattle.base.specs.None.{none}
 use Rattle.base.specs.Cond.{upd}
-use Rattle.base.specs.laws.Cond.{bool_cases, by-eq, upd-elim, upd_other}
+use Rattle.base.proofs.laws.Cond.{bool_cases, by-eq, upd-elim, upd_other}
 use Rattle.graph.specs.Graph.{Joins}
-use Rattle.graph.specs.laws.Ways.{flip, joins-lt}
+use Rattle.graph.proofs.laws.Ways.{flip, joins-lt}
 use Rattle.plan.specs.Links.{Plan, modules_of, links_of, graph_of}
 use Rattle.field.specs.Edges.{link_of, from, dest}
 use Rattle.field.specs.Held.{Held}
@@ -17,11 +17,11 @@ use Rattle.cue.specs.Copies.{waits_on, arrival}
 use Rattle.cue.specs.Calls.{start_cue}
 use Rattle.cue.specs.Claims.{deliveries}
 use Rattle.cue.specs.Follow.{Followed, passes_on, follow_start, arrives, follow}
-use Rattle.cue.specs.laws.Record.{begun-sender, begun-other}
-use Rattle.cue.specs.laws.Copies.{ArrivedOver, WaitsOn, waits-facts, facts-wait, sent-alike, arrived-alike}
-use Rattle.cue.specs.laws.Refusals.{FieldReady, ready-accepted}
-use Rattle.cue.specs.laws.Calls.{start-taken, start-state}
-use Rattle.cue.specs.laws.Follow.{Passes, passes-adds, passes-keeps}
+use Rattle.cue.proofs.laws.Record.{begun-sender, begun-other}
+use Rattle.cue.proofs.laws.Copies.{ArrivedOver, WaitsOn, waits-facts, facts-wait, sent-alike, arrived-alike}
+use Rattle.cue.proofs.laws.Refusals.{FieldReady, ready-accepted}
+use Rattle.cue.proofs.laws.Calls.{start-taken, start-state}
+use Rattle.cue.proofs.laws.Follow.{Passes, passes-adds, passes-keeps}
 use Rattle.cue_laws.specs.Net.{Net}
 use Rattle.cue_laws.specs.NetOf.{net_of}
 use Rattle.cue_laws.specs.Good.{GoodCues}

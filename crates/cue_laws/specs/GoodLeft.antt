@@ -6,7 +6,7 @@ use Rattle.std.proofs.Math.Path.{sym}
 use Rattle.std.proofs.Math.Bool.{cond}
 use Rattle.std.proofs.Math.Dec.{ltb}
 use borrow.Author.Tests.{eq-eqb, ne_eqb, lt-ltb, le-ltb}
-use Rattle.base.specs.laws.Cond.{by-eq, eqb-cases, ltb-cases}
+use Rattle.base.proofs.laws.Cond.{by-eq, eqb-cases, ltb-cases}
 use Rattle.graph.specs.Graph.{Joins}
 use Rattle.plan.specs.Links.{Plan, modules_of, graph_of}
 use Rattle.plan_tree.specs.Tree.{tree_link}
@@ -14,8 +14,8 @@ use Rattle.field.specs.Edges.{link_of, from, dest}
 use Rattle.cue.specs.declared.Cue.{Cue}
 use Rattle.cue.specs.Record.{unheard, record_of, heard_record, begun_cues}
 use Rattle.cue.specs.Copies.{waits_on, arrival}
-use Rattle.cue.specs.laws.Record.{length-begun, begun-sender, begun-other, begun-past}
-use Rattle.cue.specs.laws.Copies.{facts-wait, delivered-arrival}
+use Rattle.cue.proofs.laws.Record.{length-begun, begun-sender, begun-other, begun-past}
+use Rattle.cue.proofs.laws.Copies.{facts-wait, delivered-arrival}
 use Rattle.cue_laws.specs.Net.{Names, Net}
 use Rattle.cue_laws.specs.Good.{Right, silent, first, got, GoodCues, Left, begins, goes}
 use Rattle.cue_laws.specs.Once.{begun-good, delivered-good}

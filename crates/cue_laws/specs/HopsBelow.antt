@@ -4,9 +4,9 @@ use Rattle.std.proofs.Common.{arith, ap, leb-true, le-leb}
 use Rattle.std.proofs.lemmas.Bool.{lt-leb}
 use Rattle.base.specs.Cond.{bit}
 use Rattle.base.specs.Sum.{sum}
-use Rattle.base.specs.laws.Cond.{bit_le, bit-mono}
-use Rattle.base.specs.laws.Sum.{sum-le, sum_lt, sum-const, le-sum}
-use Rattle.graph.specs.laws.Ways.{flip}
+use Rattle.base.proofs.laws.Cond.{bit_le, bit-mono}
+use Rattle.base.proofs.laws.Sum.{sum-le, sum_lt, sum-const, le-sum}
+use Rattle.graph.proofs.laws.Ways.{flip}
 use Rattle.plan.specs.Links.{Plan, modules_of}
 use Rattle.cue.specs.declared.Cue.{Cue}
 use Rattle.cue.specs.Record.{record_of}

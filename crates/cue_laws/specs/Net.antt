@@ -4,7 +4,7 @@ use Rattle.base.specs.None.{none}
 use Rattle.graph.specs.Graph.{Joins, Way}
 use Rattle.graph.specs.Decide.{Set}
 use Rattle.graph.specs.Parts.{SamePart}
-use Rattle.graph.specs.laws.Ways.{But}
+use Rattle.graph.proofs.laws.Ways.{But}
 use Rattle.plan.specs.Links.{Plan, modules_of, links_of, lower_of, higher_of, graph_of}
 use Rattle.plan_tree.specs.Tree.{tree_link}
 use Rattle.field.specs.Edges.{link_of, from, dest}

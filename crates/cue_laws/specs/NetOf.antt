@@ -1,12 +1,12 @@
 -- An accepted plan gives what the proofs about cues take (`net_of`).
 use Rattle.std.specs.Prelude.{ℕ, ◌*◌, ◌%◌, ◌<◌, ◌≡◌, ◌≢◌, cond}
 use Rattle.std.proofs.Common.{arith, ap}
-use Rattle.base.specs.laws.Cond.{eqb-cases}
+use Rattle.base.proofs.laws.Cond.{eqb-cases}
 use Rattle.graph.specs.Graph.{Joins}
-use Rattle.graph.specs.laws.Ways.{ends-diff, joins-lt}
+use Rattle.graph.proofs.laws.Ways.{ends-diff, joins-lt}
 use Rattle.plan.specs.Links.{Plan, links_of, lower_of, higher_of, graph_of}
-use Rattle.plan.specs.laws.Accepted.{Accepted}
-use Rattle.plan_tree.specs.laws.Paths.{tree-spare, tree-spans, link-inside}
+use Rattle.plan.proofs.laws.Accepted.{Accepted}
+use Rattle.plan_tree.proofs.laws.Paths.{tree-spare, tree-spans, link-inside}
 use Rattle.field.specs.Edges.{end_of, link_of, dest}
 use Rattle.field_laws.specs.Places.{link-over, from-over, over_below}
 use Rattle.field_laws.specs.Ends.{directed-joins, joined-own, end-leads}

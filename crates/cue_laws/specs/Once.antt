@@ -2,19 +2,19 @@
 -- (`begun-good`, `delivered-good`).
 use Rattle.std.specs.Prelude.{ℕ, suc, ◌*◌, ◌≤◌, ◌<◌, ◌≡◌, refl, ◌≢◌, ◌⊎◌, true, List, length}
 use Rattle.std.proofs.Common.{arith, sym, ap, subst, ◌∙◌, inl, inr, length-set, get_or-set_same, get_or-set_other}
-use Rattle.base.specs.laws.Cond.{bool_cases, by-eq}
-use Rattle.base.specs.laws.Search.{strong}
+use Rattle.base.proofs.laws.Cond.{bool_cases, by-eq}
+use Rattle.base.proofs.laws.Search.{strong}
 use Rattle.graph.specs.Graph.{Joins, Way, go}
 use Rattle.graph.specs.Decide.{Set}
-use Rattle.graph.specs.laws.Ways.{But, flip, joins-lt, ends-two, here, way-append, way-reverse, way-low-high}
+use Rattle.graph.proofs.laws.Ways.{But, flip, joins-lt, ends-two, here, way-append, way-reverse, way-low-high}
 use Rattle.plan.specs.Links.{Plan, modules_of, links_of, graph_of}
 use Rattle.plan_tree.specs.Tree.{tree_link}
 use Rattle.field.specs.Edges.{link_of, from, dest}
 use Rattle.cue.specs.declared.Cue.{Cue}
 use Rattle.cue.specs.Record.{unheard, record_of, heard_record, begun_cues}
 use Rattle.cue.specs.Copies.{waits_on, arrival, delivered}
-use Rattle.cue.specs.laws.Record.{length-begun, begun-sender, begun-other}
-use Rattle.cue.specs.laws.Copies.{WaitsOn, waits-facts, delivered-arrival, delivered-idle}
+use Rattle.cue.proofs.laws.Record.{length-begun, begun-sender, begun-other}
+use Rattle.cue.proofs.laws.Copies.{WaitsOn, waits-facts, delivered-arrival, delivered-idle}
 use Rattle.cue_laws.specs.Net.{Net}
 use Rattle.cue_laws.specs.Good.{Right, silent, first, got, GoodCues}
 

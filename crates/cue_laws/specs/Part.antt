@@ -2,10 +2,10 @@
 use Rattle.std.specs.Prelude.{ℕ, ◌<◌, ◌≡◌, true, false, List}
 use Rattle.std.proofs.Common.{arith, sym, ◌∙◌, true≢false}
 use Rattle.base.specs.Cond.{bit}
-use Rattle.base.specs.laws.Cond.{bool_cases, bit-mono}
-use Rattle.base.specs.laws.Sum.{sum-eq, sum_lt}
+use Rattle.base.proofs.laws.Cond.{bool_cases, bit-mono}
+use Rattle.base.proofs.laws.Sum.{sum-eq, sum_lt}
 use Rattle.graph.specs.Parts.{SamePart, together, part_nodes}
-use Rattle.graph.specs.laws.Parts.{together-part, part-together}
+use Rattle.graph.proofs.laws.Parts.{together-part, part-together}
 use Rattle.plan.specs.Links.{Plan, modules_of, graph_of}
 use Rattle.cue.specs.declared.Cue.{Cue}
 use Rattle.cue.specs.Claims.{AllHeard}

@@ -6,14 +6,14 @@ use Rattle.std.proofs.Common.{arith, sym, subst, subst₂, ◌∙◌, true≢fal
 use Rattle.std.proofs.Math.Path.{ap}
 use Rattle.base.specs.None.{none}
 use Rattle.base.specs.Pool.{All}
-use Rattle.base.specs.laws.Pool.{All-map, All-app, All-one}
-use Rattle.base.specs.laws.Search.{strong}
-use Rattle.base.specs.laws.Twice.{NoTwice-one}
+use Rattle.base.proofs.laws.Pool.{All-map, All-app, All-one}
+use Rattle.base.proofs.laws.Search.{strong}
+use Rattle.base.proofs.laws.Twice.{NoTwice-one}
 use Rattle.graph.specs.Graph.{Joins, stop, go}
 use Rattle.graph.specs.Path.{edges_of, nodes_of, last_or}
 use Rattle.graph.specs.Parts.{SamePart}
-use Rattle.graph.specs.laws.Ways.{flip, way-append, way-reverse, wider}
-use Rattle.graph.specs.laws.Path.{paths-same, edges-append, nodes-further, path-further, last-behind}
+use Rattle.graph.proofs.laws.Ways.{flip, way-append, way-reverse, wider}
+use Rattle.graph.proofs.laws.Path.{paths-same, edges-append, nodes-further, path-further, last-behind}
 use Rattle.plan.specs.Links.{Plan, modules_of, graph_of}
 use Rattle.plan_tree.specs.Tree.{tree_link}
 use Rattle.plan_tree.specs.Claim.{TreePath}

@@ -6,7 +6,7 @@ use Rattle.std.specs.Prelude.{◌≡◌, Bool, true, false, length, ltb}
 use Rattle.std.proofs.Math.Path.{refl, ap}
 use Rattle.std.proofs.Math.Bool.{cond}
 use mathlib.Core.List.{List, [], ◌∷◌}
-use Rattle.base.specs.laws.Cond.{bool_cases, ltb-cases}
+use Rattle.base.proofs.laws.Cond.{bool_cases, ltb-cases}
 use Rattle.cue.specs.declared.Cue.{Cue}
 use Rattle.cue.specs.Record.{unheard, record_of}
 

@@ -6,17 +6,17 @@ use borrow.Author.Tests.{eqb-true, eq-eqb}
 use Rattle.base.specs.None.{none}
 use Rattle.base.specs.Cond.{bit}
 use Rattle.base.specs.Test.{every}
-use Rattle.base.specs.laws.Cond.{bool_cases, by-eq, eqb_same, eqb-diff}
-use Rattle.base.specs.laws.Search.{least, Least}
-use Rattle.base.specs.laws.Sum.{sum-eq, sum-zero, sum_one, sum-two}
-use Rattle.base.specs.laws.Test.{every-all, all-every, dec-test}
+use Rattle.base.proofs.laws.Cond.{bool_cases, by-eq, eqb_same, eqb-diff}
+use Rattle.base.proofs.laws.Search.{least, Least}
+use Rattle.base.proofs.laws.Sum.{sum-eq, sum-zero, sum_one, sum-two}
+use Rattle.base.proofs.laws.Test.{every-all, all-every, dec-test}
 use Rattle.graph.specs.Graph.{Joins}
-use Rattle.graph.specs.laws.Ways.{flip, joins-lt}
+use Rattle.graph.proofs.laws.Ways.{flip, joins-lt}
 use Rattle.plan.specs.Links.{Plan, modules_of, graph_of}
 use Rattle.cue.specs.declared.Cue.{Cue}
 use Rattle.cue.specs.Record.{record_of, has_heard, sender_record}
 use Rattle.cue.specs.Calls.{right_at, is_sender, senders, left_by_sending}
-use Rattle.cue.specs.laws.Rule.{RecordAt, blank_at, sender_at, told_at, right-facts, blank-right, sender-right, told-right}
+use Rattle.cue.proofs.laws.Rule.{RecordAt, blank_at, sender_at, told_at, right-facts, blank-right, sender-right, told-right}
 use Rattle.field_laws.specs.Ends.{joined-own, own-joins, end-leads}
 use Rattle.cue_laws.specs.Net.{Net}
 use Rattle.cue_laws.specs.Good.{Right, silent, first, got, GoodCues}

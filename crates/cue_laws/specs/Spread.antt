@@ -3,13 +3,13 @@ use Rattle.std.specs.Prelude.{ℕ, zero, suc, ◌+◌, ◌≤◌, ◌<◌, ◌�
 use Rattle.std.proofs.Common.{arith, ap, ◌∙◌, inl, inr, eqb-true}
 use Rattle.std.proofs.Math.Bool.{and-eq-true_iff}
 use Rattle.std.proofs.lemmas.Bool.{not-true}
-use Rattle.base.specs.laws.Cond.{bool_cases}
-use Rattle.base.specs.laws.Search.{least, Least}
-use Rattle.base.specs.laws.Test.{dec-test}
+use Rattle.base.proofs.laws.Cond.{bool_cases}
+use Rattle.base.proofs.laws.Search.{least, Least}
+use Rattle.base.proofs.laws.Test.{dec-test}
 use Rattle.graph.specs.Decide.{Set}
 use Rattle.graph.specs.Parts.{SamePart, together, part_nodes}
-use Rattle.graph.specs.laws.Parts.{together-part, part-together}
-use Rattle.graph.specs.laws.Ways.{Cross, cross}
+use Rattle.graph.proofs.laws.Parts.{together-part, part-together}
+use Rattle.graph.proofs.laws.Ways.{Cross, cross}
 use Rattle.plan.specs.Links.{Plan, modules_of, graph_of}
 use Rattle.plan_tree.specs.Tree.{tree_link}
 use Rattle.cue.specs.declared.Cue.{Cue}

@@ -2,7 +2,7 @@
 use Rattle.std.specs.Prelude.{ℕ, suc, ◌≡◌, ◌≢◌, true, List}
 use Rattle.std.proofs.Common.{arith, sym, ap, subst, ◌∙◌}
 use Rattle.graph.specs.Graph.{Joins}
-use Rattle.graph.specs.laws.Ways.{flip, joins-lt, ends_same}
+use Rattle.graph.proofs.laws.Ways.{flip, joins-lt, ends_same}
 use Rattle.plan.specs.Links.{Plan, graph_of}
 use Rattle.plan_tree.specs.Tree.{tree_link}
 use Rattle.cue.specs.declared.Cue.{Cue}

@@ -4,7 +4,7 @@ use Rattle.std.specs.Prelude.{ℕ, ◌+◌, ◌*◌, ◌≤◌, ◌<◌, ◌≡�
 use Rattle.std.proofs.Common.{arith, sym, ap, ◌∙◌, length-set}
 use Rattle.base.specs.Pool.{All, nil, con}
 use Rattle.base.specs.Twice.{NoTwice, nobody, another}
-use Rattle.base.specs.laws.Pool.{All-map}
+use Rattle.base.proofs.laws.Pool.{All-map}
 use Rattle.plan.specs.Links.{Plan, modules_of, links_of}
 use Rattle.field.specs.Edges.{link_of, from, dest}
 use Rattle.cue.specs.declared.Cue.{Cue}

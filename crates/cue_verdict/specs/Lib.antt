@@ -1,3 +1,2 @@
 -- The verdict of a start and of a delivery, before a record is written.
 pub mod Verdict
-pub mod laws

@@ -1,4 +1,6 @@
 // What a start and a delivery of a cue decide before a record is written: the refusal, which record is written, and what it becomes.
+#![tactic(auto)]
+
 mod delivery;
 mod refusal;
 mod start;
@@ -6,7 +8,7 @@ mod start;
 ghost use Rattle.std.specs.Prelude.{◌*◌, ◌<◌, ◌≡◌, true};
 ghost use Rattle.base.specs.None.{none};
 ghost use Rattle.plan.specs.Links.{links_of};
-ghost use Rattle.plan.specs.laws.Accepted.{Accepted};
+ghost use Rattle.plan.proofs.laws.Accepted.{Accepted};
 ghost use Rattle.cue.specs.Record.{unheard, sender_record, heard_record};
 ghost use Rattle.cue.specs.Calls.{branches_agree, left_by_sending};
 ghost use Rattle.cue_verdict.specs.Verdict.{opening, arriving, hearing};
@@ -17,7 +19,7 @@ use field::{Field, Marks};
 use plan::Plan;
 
 // A start: the first `count` records become unheard, then record `at` becomes `found`, the sender's. Where it is refused, count is 0 and at the number of records.
-#[derive(Drop)]
+#[derive(Clone, Copy)]
 pub struct Opening {
     pub refusal: u32,
     pub count: usize,
@@ -26,7 +28,7 @@ pub struct Opening {
 }
 
 // A delivery: record `at` becomes `found`. Where none changes, at is the number of records.
-#[derive(Drop)]
+#[derive(Clone, Copy)]
 pub struct Hearing {
     pub answer: Delivery,
     pub at: usize,

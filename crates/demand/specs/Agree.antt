@@ -2,8 +2,8 @@
 use Rattle.std.specs.Prelude.{ℕ, ◌<◌, ◌≡◌, refl, []}
 use Rattle.std.proofs.Common.{arith, sym, ap, subst, ◌∙◌, ⊎_elim}
 use Rattle.graph.specs.Graph.{up, stop, go}
-use Rattle.graph.specs.laws.Ways.{way-append}
-use Rattle.plan.specs.laws.Accepted.{Accepted}
+use Rattle.graph.proofs.laws.Ways.{way-append}
+use Rattle.plan.proofs.laws.Accepted.{Accepted}
 use Rattle.plan.specs.Links.{Plan, modules_of, links_of, lower_of, higher_of}
 use Rattle.node.specs.Work.{BRANCH, REJECTED}
 use Rattle.field.specs.State.{State, node_at, mark_at}

@@ -1,16 +1,16 @@
 -- A part with nobody awake is as at setup in every good state (`as-at-setup`).
 use Rattle.std.specs.Prelude.{ℕ, ◌<◌, ◌≡◌, refl, Bool, true, List, [], ◌∷◌, length, replicate}
 use Rattle.std.proofs.Common.{arith, sym, ap, subst, ◌∙◌, ⊎_elim}
-use Rattle.base.specs.laws.Cond.{by-eq, bool_cases}
+use Rattle.base.proofs.laws.Cond.{by-eq, bool_cases}
 use Rattle.base.specs.Keep.{keep}
-use Rattle.base.specs.laws.Keep.{keep-yes, keep-no}
+use Rattle.base.proofs.laws.Keep.{keep-yes, keep-no}
 use Rattle.base.specs.Pool.{All, nil, con}
 use Rattle.format_message.specs.Msg.{Msg, none}
 use Rattle.format_word.specs.Word.{link_in}
 use Rattle.graph.specs.Graph.{up, down, stop, go}
 use Rattle.graph.specs.Parts.{SamePart}
-use Rattle.graph.specs.laws.Ways.{way-reverse}
-use Rattle.plan.specs.laws.Accepted.{Accepted}
+use Rattle.graph.proofs.laws.Ways.{way-reverse}
+use Rattle.plan.proofs.laws.Accepted.{Accepted}
 use Rattle.plan.specs.Links.{Plan, modules_of, graph_of}
 use Rattle.node.specs.declared.Node.{Node}
 use Rattle.node.specs.Work.{setup}

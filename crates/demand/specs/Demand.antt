@@ -1,5 +1,5 @@
 -- DEMAND 3: proved, with no premise (`demand3`).
-use Rattle.plan.specs.laws.Accepted.{Accepted}
+use Rattle.plan.proofs.laws.Accepted.{Accepted}
 use Rattle.plan.specs.Links.{Plan}
 use Rattle.field_calls.specs.Demand.{Demand3}
 use Rattle.field_roundlaws.specs.Reduce.{Protocol, demand3-from}

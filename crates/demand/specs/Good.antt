@@ -1,8 +1,8 @@
 -- GOOD STATES of a field: those that the protocol reaches, seen without its ghosts. Setup is one (`good_start`), and what a response leaves (`good-after`).
 use Rattle.std.specs.Prelude.{ℕ, ◌+◌, ◌<◌, ◌≡◌, refl, false, List, length, replicate}
 use Rattle.std.proofs.Common.{sym, ap, ap₂, subst, ◌∙◌, true≢false}
-use Rattle.base.specs.laws.Cond.{by-eq}
-use Rattle.plan.specs.laws.Accepted.{Accepted}
+use Rattle.base.proofs.laws.Cond.{by-eq}
+use Rattle.plan.proofs.laws.Accepted.{Accepted}
 use Rattle.plan.specs.Links.{Plan, modules_of}
 use Rattle.node.specs.Work.{Own, Work}
 use Rattle.field.specs.Edges.{is_own, own_of, marks_in}

@@ -5,7 +5,7 @@ use mathlib.Core.List.{List, [], Memᴰ}
 use Rattle.base.specs.Pool.{All, nil, con}
 use Rattle.plan.specs.Links.{Plan, modules_of}
 use Rattle.plan.specs.Trimmed.{trimmed}
-use Rattle.plan.specs.laws.Accepted.{Accepted, accepted}
+use Rattle.plan.proofs.laws.Accepted.{Accepted, accepted}
 use Rattle.field.specs.State.{State}
 use Rattle.field_calls.specs.Demand.{InPart, Core, Agreed, AllAgreed, Demand3OnePart}
 use Rattle.field_laws.specs.After.{started}

@@ -2,13 +2,13 @@
 use Rattle.std.specs.Prelude.{ℕ, ◌≡◌, refl, ◌≢◌, Bool, true, not, ◌&&◌, List, [], ◌∷◌, ◌++◌}
 use Rattle.std.proofs.Common.{sym, ap, ap₂, subst, ◌∙◌}
 use Rattle.std.proofs.Math.Logic.{⊎_elim}
-use Rattle.base.specs.laws.Cond.{bool_cases, eqb_same}
+use Rattle.base.proofs.laws.Cond.{bool_cases, eqb_same}
 use Rattle.base.specs.Pool.{All, nil, con}
 use Rattle.base.specs.Keep.{keep}
-use Rattle.base.specs.laws.Keep.{keep-yes, keep-no, keep-nil}
+use Rattle.base.proofs.laws.Keep.{keep-yes, keep-no, keep-nil}
 use Rattle.format_message.specs.Msg.{Msg}
 use Rattle.format_word.specs.Word.{link_in, handed_in}
-use Rattle.plan.specs.laws.Accepted.{Accepted}
+use Rattle.plan.proofs.laws.Accepted.{Accepted}
 use Rattle.node.specs.Work.{Work}
 use Rattle.node.specs.Rules.{respond}
 use Rattle.field.specs.Edges.{own_of, link_of, from, dest, limit_of, end_of}
@@ -20,7 +20,7 @@ use Rattle.field_laws.specs.Places.{link-over, over-from}
 use Rattle.field_laws.specs.Fits.{word-link}
 use Rattle.field_laws.specs.Keeps.{Sound}
 use Rattle.field_roundlaws.specs.Progress.{BlockedWord}
-use Rattle.graph.specs.laws.Ways.{flip}
+use Rattle.graph.proofs.laws.Ways.{flip}
 use Rattle.plan.specs.Links.{Plan}
 use Rattle.protocol.specs.Network.{Edge, end_lt}
 use Rattle.protocol.specs.Chan.{In, first, in-nil, in-cons, in_app, in_right}

@@ -4,14 +4,14 @@ use Rattle.std.proofs.Common.{arith, sym, ap, subst, ◌∙◌, ⊎_elim}
 use Rattle.std.proofs.Math.Path.{refl}
 use Rattle.std.proofs.Math.ListN.{length}
 use borrow.Author.Tests.{leb-false, eq-eqb, ne_eqb, le-ltb}
-use Rattle.base.specs.laws.Cond.{bool_cases, eqb-cases, by-eq, eqb-diff}
+use Rattle.base.proofs.laws.Cond.{bool_cases, eqb-cases, by-eq, eqb-diff}
 use Rattle.base.specs.Loop.{After, taken_to, refused_by}
-use Rattle.base.specs.laws.Pool.{All-here}
+use Rattle.base.proofs.laws.Pool.{All-here}
 use Rattle.base.specs.Keep.{place}
-use Rattle.base.specs.laws.Keep.{FirstThat, first_out, first_passes, place-first}
+use Rattle.base.proofs.laws.Keep.{FirstThat, first_out, first_passes, place-first}
 use Rattle.format_message.specs.Msg.{Msg}
 use Rattle.format_word.specs.Word.{link_in, hand_over}
-use Rattle.plan.specs.laws.Accepted.{Accepted}
+use Rattle.plan.proofs.laws.Accepted.{Accepted}
 use Rattle.plan.specs.Links.{Plan, modules_of, links_of}
 use Rattle.node.specs.Work.{Work, ASLEEP, BACK, REFUSED}
 use Rattle.node.specs.Rules.{respond, wakes}

@@ -5,12 +5,12 @@ use Rattle.std.proofs.Common.{subst, ◌∙◌, inl, inr, ⊎_elim, true≢false
 use Rattle.std.proofs.Math.Bool.{cond}
 use mathlib.Core.List.{List, [], ◌∷◌, ◌++◌, append_assoc, append-nil}
 use Rattle.base.specs.Cond.{upd2}
-use Rattle.base.specs.laws.Cond.{bool_cases, upd2-elim}
+use Rattle.base.proofs.laws.Cond.{bool_cases, upd2-elim}
 use Rattle.base.specs.Pool.{All, nil, con}
-use Rattle.base.specs.laws.Keep.{FirstThat, first_passes}
+use Rattle.base.proofs.laws.Keep.{FirstThat, first_passes}
 use Rattle.format_message.specs.Msg.{Msg}
 use Rattle.format_word.specs.Word.{link_in, shaped, hand_over}
-use Rattle.plan.specs.laws.Accepted.{Accepted}
+use Rattle.plan.proofs.laws.Accepted.{Accepted}
 use Rattle.plan.specs.Links.{Plan, links_of}
 use Rattle.node.specs.Work.{Send}
 use Rattle.field.specs.Edges.{is_own, link_of, from, end_of}

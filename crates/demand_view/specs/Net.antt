@@ -3,13 +3,13 @@
 use Rattle.std.specs.Prelude.{ℕ, ◌*◌, ◌%◌, ◌<◌, ◌≡◌, true, cond}
 use Rattle.std.proofs.Common.{arith, subst, ◌∙◌, ⊎_elim, eq-eqb}
 use Rattle.std.proofs.Math.Path.{refl}
-use Rattle.base.specs.laws.Cond.{eqb-cases}
+use Rattle.base.proofs.laws.Cond.{eqb-cases}
 use Rattle.graph.specs.Graph.{up, down}
-use Rattle.graph.specs.laws.Ways.{ends_same}
+use Rattle.graph.proofs.laws.Ways.{ends_same}
 use Rattle.plan.specs.Links.{Plan, graph_of, modules_of, links_of, lower_of, higher_of}
-use Rattle.plan.specs.laws.Weights.{order_of}
-use Rattle.plan.specs.laws.Accepted.{Accepted}
-use Rattle.field.specs.laws.Edges.{own-lower, own-higher}
+use Rattle.plan.proofs.laws.Weights.{order_of}
+use Rattle.plan.proofs.laws.Accepted.{Accepted}
+use Rattle.field.proofs.laws.Edges.{own-lower, own-higher}
 use Rattle.field.specs.Edges.{is_own, own_of, link_of, from, dest, end_of}
 use Rattle.field_laws.specs.Places.{own-link-below, own-end, from-over, link-over, over_below}
 use Rattle.protocol.specs.Network.{Network, Edge}

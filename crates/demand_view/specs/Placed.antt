@@ -3,11 +3,11 @@ use Rattle.std.specs.Prelude.{ℕ, ◌*◌, ◌<◌, ◌≡◌, true, false, Lis
 use Rattle.std.proofs.Common.{sym, ap, ap₂, ◌∙◌, append-nil}
 use Rattle.base.specs.Cond.{upd}
 use Rattle.base.specs.Pool.{All}
-use Rattle.base.specs.laws.Pool.{All-map}
-use Rattle.base.specs.laws.Keep.{FirstThat}
+use Rattle.base.proofs.laws.Pool.{All-map}
+use Rattle.base.proofs.laws.Keep.{FirstThat}
 use Rattle.format_message.specs.Msg.{Msg}
 use Rattle.format_word.specs.Word.{link_in}
-use Rattle.plan.specs.laws.Accepted.{Accepted}
+use Rattle.plan.proofs.laws.Accepted.{Accepted}
 use Rattle.plan.specs.Links.{Plan, modules_of, links_of}
 use Rattle.node.specs.Work.{Work}
 use Rattle.field.specs.Edges.{is_own, own_of, link_of, from, limit_of, marks_in}

@@ -5,8 +5,8 @@ use Rattle.std.proofs.Math.Path.{fun_ext}
 use Rattle.std.proofs.Math.Bool.{cond}
 use mathlib.Core.List.{List, []}
 use Rattle.std.proofs.lemmas.List.{get_or-replicate}
-use Rattle.base.specs.laws.Cond.{ltb-cases, bool_cases}
-use Rattle.plan.specs.laws.Accepted.{Accepted}
+use Rattle.base.proofs.laws.Cond.{ltb-cases, bool_cases}
+use Rattle.plan.proofs.laws.Accepted.{Accepted}
 use Rattle.node.specs.Work.{setup}
 use Rattle.field.specs.Edges.{is_own, end_of, marks_in}
 use Rattle.field.specs.State.{node_in}
@@ -15,7 +15,7 @@ use Rattle.field.specs.Valid.{waiting_in}
 use Rattle.base.specs.Limits.{max_modules, max_ends}
 use Rattle.base.specs.Keep.{keep}
 use Rattle.plan.specs.Links.{Plan, modules_of}
-use Rattle.field.specs.laws.Edges.{mark-own, mark-not}
+use Rattle.field.proofs.laws.Edges.{mark-own, mark-not}
 use Rattle.field_laws.specs.Chan.{chan}
 use Rattle.field_laws.specs.Places.{over_below}
 use Rattle.field_laws.specs.Laid.{waiting-zeros}

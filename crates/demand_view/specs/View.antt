@@ -5,10 +5,10 @@ use Rattle.std.proofs.Common.{arith, sym, ◌∙◌, lt-ltb}
 use Rattle.std.proofs.Math.Path.{ap, subst, fun_ext}
 use Rattle.std.proofs.Math.Bool.{cond}
 use Rattle.base.specs.Cond.{upd}
-use Rattle.base.specs.laws.Cond.{bool_cases, upd-elim, upd_same, upd_other}
+use Rattle.base.proofs.laws.Cond.{bool_cases, upd-elim, upd_same, upd_other}
 use Rattle.format_message.specs.Msg.{Msg}
 use Rattle.plan.specs.Links.{Plan, modules_of, links_of}
-use Rattle.field.specs.laws.Edges.{mark-not}
+use Rattle.field.proofs.laws.Edges.{mark-not}
 use Rattle.node.specs.declared.Node.{Node}
 use Rattle.node.specs.Work.{Work, start, setup}
 use Rattle.field.specs.Edges.{is_own, end_of, marks_in}

@@ -3,4 +3,3 @@ pub mod State
 pub mod Step
 pub mod Valid
 pub mod Held
-pub mod laws

@@ -1,6 +1,8 @@
 // The field, its steps and refusal 31 as definitions (specs/), and its record. That is its plan, WIDTH cells for each module, a mark for each end of each
 // link, the sent count.
 // (A network state; the messages under way lie in words that the caller lends.)
+#![tactic(auto)]
+
 use base::{MAX_ENDS, MAX_MODULES};
 use node::WIDTH;
 use plan::Plan;

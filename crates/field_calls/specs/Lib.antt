@@ -3,4 +3,3 @@ pub mod Rounds
 pub mod Call
 pub mod Trail
 pub mod Demand
-pub mod laws

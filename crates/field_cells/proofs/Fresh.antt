@@ -9,7 +9,7 @@ use lib.Seq.{sets-eq, take_at, drop-append-add}
 use Rattle.node.specs.Work.{setup}
 use Rattle.field.specs.State.{WIDTH, values, put_node}
 use Rattle.field.specs.Held.{fresh_cells}
-use Rattle.field.specs.laws.Held.{fresh-length}
+use Rattle.field.proofs.laws.Held.{fresh-length}
 use Rattle.field_words.proofs.Laid.{drop-zeros}
 
 behind : (n : ℕ) → fresh_cells n ++ values setup ≡ fresh_cells (suc n)

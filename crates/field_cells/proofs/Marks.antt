@@ -10,16 +10,16 @@ use lib.Seq.{ext_get_or, get_or-set_same, get_or-set_other}
 use lib.Dec.{eqb}
 use borrow.Author.Tests.{ne_eqb}
 use Rattle.base.specs.Cond.{upd}
-use Rattle.base.specs.laws.Cond.{bool_cases, upd_same, upd_other, by-eq, ltb-cases, eqb-cases}
+use Rattle.base.proofs.laws.Cond.{bool_cases, upd_same, upd_other, by-eq, ltb-cases, eqb-cases}
 use Rattle.base.specs.None.{none}
 use Rattle.node_edges.specs.declared.NewMark.{NewMark}
 use Rattle.node_edges.specs.Own.{marked}
-use Rattle.node_edges.specs.laws.Own.{marked_other}
+use Rattle.node_edges.proofs.laws.Own.{marked_other}
 use Rattle.field.specs.Edges.{is_own, from, link_of, end_of, marks_in}
 use Rattle.field.specs.State.{new_mark, put_marks}
-use Rattle.plan.specs.laws.Accepted.{Accepted}
+use Rattle.plan.proofs.laws.Accepted.{Accepted}
 use Rattle.plan.specs.Links.{Plan, links_of}
-use Rattle.field.specs.laws.Edges.{mark-own}
+use Rattle.field.proofs.laws.Edges.{mark-own}
 use Rattle.field_laws.specs.Places.{put_marks-at, length-new, over-from, from-own, link-over, over_below, from-over, own-link-below}
 use Rattle.field_cells.specs.Marks.{mark_put}
 

@@ -1,4 +1,6 @@
 // The cells and marks of a field: one module's values at setup, read and written, all modules' at setup; one mark written.
+#![tactic(auto)]
+
 ghost use Rattle.std.specs.Prelude.{◌<◌, ◌≤◌, ◌≡◌, replicate};
 ghost use Rattle.node.specs.Work.{setup};
 ghost use Rattle.field.specs.State.{CELLS, node_in, put_node};

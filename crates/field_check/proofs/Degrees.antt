@@ -8,12 +8,12 @@ use mathlib.Core.List.{List}
 use lib.ListN.{length, get_or, set, length-set}
 use lib.Seq.{get_or-set_same, get_or-set_other}
 use borrow.Author.Tests.{eq-eqb, ne_eqb}
-use Rattle.base.specs.laws.Cond.{bit_le, by-eq}
+use Rattle.base.proofs.laws.Cond.{bit_le, by-eq}
 use Rattle.base.specs.Limits.{max_modules}
 use Rattle.plan.specs.Links.{Plan, links_of, lower_of, higher_of}
 use Rattle.field.specs.Edges.{own_of}
 use Rattle.node.specs.Work.{Own, number, any_edge}
-use Rattle.field.specs.laws.Edges.{own-lower, own-higher}
+use Rattle.field.proofs.laws.Edges.{own-lower, own-higher}
 
 number-le : (o : Own) (f : ℕ → Bool) (n : ℕ) → number o f n ≤ n
 unfolding number

@@ -1,7 +1,7 @@
 -- What it means that 31 has passed, of a field in lent arrays: steps may follow.
 use Rattle.std.specs.Prelude.{ℕ, ◌≤◌, ◌≡◌, List, length}
 use Rattle.plan.specs.Links.{Plan, plan_size}
-use Rattle.plan.specs.laws.Accepted.{Accepted}
+use Rattle.plan.proofs.laws.Accepted.{Accepted}
 use Rattle.field.specs.Edges.{ceiling_of}
 use Rattle.field_laws.specs.Keeps.{Sound}
 use Rattle.field_words.specs.Laid.{Laid}

@@ -1,7 +1,9 @@
 // Refusal 31: whether a field that a host supplies is one, item by item.
+#![tactic(auto)]
+
 ghost use Rattle.std.specs.Prelude.{ℕ, ◌*◌, ◌<◌, ◌≤◌, ◌≡◌, true, length, get_or, eqb, leb};
 ghost use Rattle.base.specs.Test.{every};
-ghost use Rattle.plan.specs.laws.Accepted.{Accepted};
+ghost use Rattle.plan.proofs.laws.Accepted.{Accepted};
 ghost use Rattle.base.specs.Limits.{max_modules, max_links};
 ghost use Rattle.plan.specs.Links.{modules_of, links_of};
 ghost use Rattle.field.specs.Edges.{own_of};
@@ -21,7 +23,7 @@ use plan::Plan;
 type Degrees = [u16; MAX_MODULES as usize];
 
 // ok: 31 does not apply. waiting: how many words wait.
-#[derive(Drop)]
+#[derive(Clone, Copy)]
 pub struct Checked {
     pub ok: bool,
     pub waiting: usize,

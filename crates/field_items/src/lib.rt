@@ -1,4 +1,6 @@
 // The items of refusal 31: one word, one module.
+#![tactic(auto)]
+
 ghost use Rattle.std.specs.Prelude.{◌≤◌, ◌≡◌};
 ghost use Rattle.node.specs.Work.{degree};
 ghost use Rattle.field.specs.Valid.{link_or_none, own_or_none, word_fits, values_listed, identity_fits, waking_fits, node_fits};

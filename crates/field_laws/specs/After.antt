@@ -7,24 +7,24 @@ use Rattle.std.proofs.Math.Bool.{◌&&◌}
 use mathlib.Core.List.{List, [], ◌∷◌, ◌++◌}
 use Rattle.std.proofs.Math.ListN.{get_or-append, length-replicate}
 use Rattle.std.proofs.lemmas.List.{get_or-replicate}
-use Rattle.base.specs.laws.Cond.{eqb-cases, ltb-cases}
+use Rattle.base.proofs.laws.Cond.{eqb-cases, ltb-cases}
 use Rattle.base.specs.Ceiling.{ceiling}
 use Rattle.base.specs.Limits.{max_modules, max_ends}
 use Rattle.base.specs.Loop.{After, taken_to}
 use Rattle.base.specs.Pool.{nil}
 use Rattle.plan.specs.Refusal.{plan_refusal}
-use Rattle.plan.specs.laws.Accepted.{Accepted, accepted}
+use Rattle.plan.proofs.laws.Accepted.{Accepted, accepted}
 use Rattle.plan.specs.Links.{Plan}
 use Rattle.plan.specs.Trimmed.{trimmed}
-use Rattle.plan.specs.laws.Trimmed.{trimmed-same, trimmed-taken}
+use Rattle.plan.proofs.laws.Trimmed.{trimmed-same, trimmed-taken}
 use Rattle.node.specs.Work.{setup, ASLEEP}
 use Rattle.field.specs.Edges.{own_of, limit_of, ceiling_of}
-use Rattle.node.specs.laws.Values.{node-by}
+use Rattle.node.proofs.laws.Values.{node-by}
 use Rattle.field.specs.State.{State, WIDTH, values, cell_of, node_in}
 use Rattle.field.specs.Step.{step}
 use Rattle.field.specs.Valid.{zero_after}
 use Rattle.field.specs.Held.{Held, state_of, valid, fresh_cells, fresh, not_set_up, set_up}
-use Rattle.field.specs.laws.Held.{fresh-length}
+use Rattle.field.proofs.laws.Held.{fresh-length}
 use Rattle.field_calls.specs.Call.{Call, does, after}
 use Rattle.field_calls.specs.Trail.{Taken, steps_of, trail, if_taken}
 use Rattle.field_laws.specs.Lists.{NodeOk, ok-fresh}

@@ -5,10 +5,10 @@ use Rattle.std.proofs.Common.{arith, inl, inr}
 use Rattle.std.proofs.Math.Path.{refl}
 use Rattle.std.proofs.Math.ListN.{length, get_or}
 use borrow.Author.Tests.{leb-false, lt-leb}
-use Rattle.base.specs.laws.Cond.{bool_cases, eqb-cases, ltb-cases, eqb-diff, by-eq}
+use Rattle.base.proofs.laws.Cond.{bool_cases, eqb-cases, ltb-cases, eqb-diff, by-eq}
 use Rattle.base.specs.Loop.{After, taken_to, refused_by}
 use Rattle.base.specs.Keep.{keep, place}
-use Rattle.base.specs.laws.Keep.{FirstThat, place-first, place-some}
+use Rattle.base.proofs.laws.Keep.{FirstThat, place-first, place-some}
 use Rattle.format_word.specs.Word.{hand_over}
 use Rattle.plan.specs.Links.{Plan, modules_of, links_of}
 use Rattle.node.specs.Work.{Work, ASLEEP, REFUSED}

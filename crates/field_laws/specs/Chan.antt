@@ -5,13 +5,13 @@ use Rattle.std.proofs.Math.Path.{sym, ap, ap₂}
 use Rattle.std.proofs.Common.{subst, ◌∙◌, true≢false, eqb-true, eq-eqb}
 use Rattle.std.proofs.Math.Bool.{not, and-eq-true_iff}
 use mathlib.Core.List.{List, [], ◌∷◌, ◌++◌, map, append_assoc, append-nil}
-use Rattle.base.specs.laws.Cond.{bool_cases, eqb-diff, by-eq}
+use Rattle.base.proofs.laws.Cond.{bool_cases, eqb-diff, by-eq}
 use Rattle.base.specs.Keep.{keep}
-use Rattle.base.specs.laws.Keep.{keep-app, keep_one, keep-none, FirstThat, first_passes, head_of, others}
+use Rattle.base.proofs.laws.Keep.{keep-app, keep_one, keep-none, FirstThat, first_passes, head_of, others}
 use Rattle.format_message.specs.Msg.{Msg}
 use Rattle.format_message.specs.Header.{kind_at, level_at, find_at, msg_of}
 use Rattle.format_word.specs.Word.{header_in, carried_in, link_in, handed_in, shaped, hand_over}
-use Rattle.format_word.specs.laws.Word.{Unpacked, over}
+use Rattle.format_word.proofs.laws.Word.{Unpacked, over}
 use Rattle.plan.specs.Links.{Plan}
 use Rattle.field.specs.Edges.{dest}
 use Rattle.field.specs.State.{msg_in}

@@ -4,14 +4,14 @@ use Rattle.std.specs.Prelude.{ℕ, ◌*◌, ◌<◌, ◌≡◌, refl, ◌≢◌,
 use Rattle.std.proofs.Common.{sym, subst, ◌∙◌, eq-eqb, ne_eqb}
 use Rattle.std.proofs.Math.Path.{ap}
 use mathlib.Core.List.{List, [], ◌∷◌, ◌++◌, append-nil}
-use Rattle.base.specs.laws.Cond.{by-eq}
+use Rattle.base.proofs.laws.Cond.{by-eq}
 use Rattle.base.specs.Loop.{After}
 use Rattle.base.specs.Pool.{All}
-use Rattle.base.specs.laws.Pool.{All-map, All-here}
-use Rattle.base.specs.laws.Keep.{first_out, first_passes}
+use Rattle.base.proofs.laws.Pool.{All-map, All-here}
+use Rattle.base.proofs.laws.Keep.{first_out, first_passes}
 use Rattle.format_message.specs.Msg.{Msg}
 use Rattle.format_word.specs.Word.{link_in}
-use Rattle.plan.specs.laws.Accepted.{Accepted}
+use Rattle.plan.proofs.laws.Accepted.{Accepted}
 use Rattle.plan.specs.Links.{Plan, links_of}
 use Rattle.node.specs.Work.{Work, BACK}
 use Rattle.field.specs.Edges.{is_own, own_of, from, limit_of}

@@ -7,12 +7,12 @@ use Rattle.std.proofs.Common.{sym, ◌∙◌}
 use Rattle.std.proofs.Math.Bool.{cond}
 use mathlib.Core.List.{List, [], ◌∷◌, ◌++◌, append_assoc, map, flat_map}
 use Rattle.std.proofs.Math.ListN.{length, length-append, length-map}
-use Rattle.base.specs.laws.Cond.{eqb-diff}
+use Rattle.base.proofs.laws.Cond.{eqb-diff}
 use Rattle.base.specs.Loop.{After}
-use Rattle.base.specs.laws.Loop.{by-test}
+use Rattle.base.proofs.laws.Loop.{by-test}
 use Rattle.base.specs.Pool.{sum_l}
-use Rattle.base.specs.laws.Pool.{sum_l-app, sum_l-out}
-use Rattle.base.specs.laws.Keep.{first_out}
+use Rattle.base.proofs.laws.Pool.{sum_l-app, sum_l-out}
+use Rattle.base.proofs.laws.Keep.{first_out}
 use Rattle.format_word.specs.Word.{hand_over}
 use Rattle.plan.specs.Links.{Plan}
 use Rattle.node.specs.Work.{Work, BACK}

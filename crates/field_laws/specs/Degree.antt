@@ -3,14 +3,14 @@ use Rattle.std.specs.Prelude.{ℕ, ◌≤◌, ◌<◌, ◌≡◌, refl, ◌≢�
 use Rattle.std.proofs.Common.{arith, sym, subst, ◌∙◌, inl, inr, ⊎_elim, eqb-true}
 use Rattle.std.proofs.Math.Bool.{and-eq-true_iff}
 use Rattle.base.specs.Cond.{bit}
-use Rattle.base.specs.laws.Cond.{bool_cases, eqb-cases}
+use Rattle.base.proofs.laws.Cond.{bool_cases, eqb-cases}
 use Rattle.base.specs.Sum.{sum}
-use Rattle.base.specs.laws.Sum.{sum_lt, sum-eq, sum-zero, sum-const, sum-swap, sum_one, sum-at-most-one}
+use Rattle.base.proofs.laws.Sum.{sum_lt, sum-eq, sum-zero, sum-const, sum-swap, sum_one, sum-at-most-one}
 use Rattle.plan.specs.Links.{Plan, modules_of, links_of, lower_of, higher_of}
-use Rattle.plan.specs.laws.Accepted.{Accepted}
-use Rattle.plan.specs.laws.Pairs.{same-pair}
+use Rattle.plan.proofs.laws.Accepted.{Accepted}
+use Rattle.plan.proofs.laws.Pairs.{same-pair}
 use Rattle.node.specs.Work.{any_edge, degree}
-use Rattle.node.specs.laws.Count.{number-sum}
+use Rattle.node.proofs.laws.Count.{number-sum}
 use Rattle.field.specs.Edges.{is_own, own_of}
 use Rattle.field_laws.specs.Places.{own-end}
 

@@ -2,12 +2,12 @@
 -- directed link leads to the other end (`end-leads`).
 use Rattle.std.specs.Prelude.{ℕ, ◌*◌, ◌%◌, ◌<◌, ◌≡◌, refl, ◌≢◌, true, cond}
 use Rattle.std.proofs.Common.{arith, sym, subst, ◌∙◌, eq-eqb}
-use Rattle.base.specs.laws.Cond.{eqb-cases}
+use Rattle.base.proofs.laws.Cond.{eqb-cases}
 use Rattle.graph.specs.Graph.{Joins, up, down}
-use Rattle.graph.specs.laws.Ways.{ends_same}
+use Rattle.graph.proofs.laws.Ways.{ends_same}
 use Rattle.plan.specs.Links.{Plan, links_of, lower_of, higher_of, graph_of}
 use Rattle.field.specs.Edges.{is_own, end_of, link_of, from, dest}
-use Rattle.field.specs.laws.Edges.{own-lower, own-higher}
+use Rattle.field.proofs.laws.Edges.{own-lower, own-higher}
 use Rattle.field_laws.specs.Places.{link-over, from-over, over_below}
 
 module _ (p : Plan) where

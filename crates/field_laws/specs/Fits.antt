@@ -7,27 +7,27 @@ use Rattle.std.proofs.Math.Logic.{inl, inr}
 use Rattle.std.proofs.Math.Bool.{false, and-eq-true_iff}
 use Rattle.std.proofs.Math.Dec.{ltb, leb}
 use borrow.Author.Tests.{ltb-true, leb-true, eqb-true, eqb-false, not-true, lt-ltb, le-leb, eq-eqb, ne_eqb}
-use Rattle.base.specs.laws.Cond.{eqb-cases}
+use Rattle.base.proofs.laws.Cond.{eqb-cases}
 use Rattle.base.specs.Limits.{max_links}
 use Rattle.base.specs.None.{none}
 use Rattle.base.specs.Test.{every}
-use Rattle.base.specs.laws.Test.{every-all, all-every}
+use Rattle.base.proofs.laws.Test.{every-all, all-every}
 use Rattle.base.specs.Pool.{All, nil, con}
-use Rattle.base.specs.laws.Pool.{All-map}
+use Rattle.base.proofs.laws.Pool.{All-map}
 use Rattle.format_message.specs.Msg.{Msg, connect, initiate, test, accept, reject, report, change}
 use Rattle.format_message.specs.Header.{parts_of, carried_of, level_at}
 use Rattle.format_message.specs.Listed.{Listed, listed}
-use Rattle.format_message.specs.laws.Byte.{parts-of-byte}
-use Rattle.format_message.specs.laws.Means.{Means, means, in-bits}
+use Rattle.format_message.proofs.laws.Byte.{parts-of-byte}
+use Rattle.format_message.proofs.laws.Means.{Means, means, in-bits}
 use Rattle.format_word.specs.Word.{header_in, carried_in, link_in, laid_out, shaped, hand_over}
-use Rattle.format_word.specs.laws.Word.{over, over-laid-out, packs-laid-out}
+use Rattle.format_word.proofs.laws.Word.{over, over-laid-out, packs-laid-out}
 use Rattle.node.specs.declared.Node.{Node}
 use Rattle.node.specs.Work.{Own, Send, ASLEEP, FOUND, REJECTED, degree}
 use Rattle.field.specs.Edges.{is_own, own_of, limit_of, ceiling_of, end_of}
 use Rattle.field.specs.State.{State, node_at, msg_in, word_of, posted}
 use Rattle.field.specs.Valid.{all_of, link_or_none, own_or_none, word_fits, values_listed, identity_fits, waking_fits, node_fits, fits}
-use Rattle.plan.specs.laws.Accepted.{Accepted}
-use Rattle.plan.specs.laws.Ceiling.{level-small}
+use Rattle.plan.proofs.laws.Accepted.{Accepted}
+use Rattle.plan.proofs.laws.Ceiling.{level-small}
 use Rattle.plan.specs.Links.{Plan, modules_of, links_of}
 use Rattle.field_laws.specs.Places.{own-link-below, over_below}
 use Rattle.field_laws.specs.Sends.{Packs, over-16, word-parts}

@@ -4,21 +4,21 @@ use Rattle.std.specs.Prelude.{ℕ, suc, ◌+◌, ◌*◌, ◌≤◌, ◌<◌, �
 use Rattle.std.proofs.Common.{arith, sym, ap, subst, ◌∙◌, inl, length-append, eq-eqb, ne_eqb}
 use Rattle.std.proofs.Math.ListN.{length}
 use Rattle.base.specs.None.{none}
-use Rattle.base.specs.laws.Cond.{bool_cases, by-eq}
+use Rattle.base.proofs.laws.Cond.{bool_cases, by-eq}
 use Rattle.base.specs.Loop.{After}
-use Rattle.base.specs.laws.Loop.{by-test}
+use Rattle.base.proofs.laws.Loop.{by-test}
 use Rattle.base.specs.Pool.{All, nil, Out, here, there}
-use Rattle.base.specs.laws.Pool.{All-app, All-one, All-here, All-rest}
-use Rattle.base.specs.laws.Keep.{first_out, first_passes}
+use Rattle.base.proofs.laws.Pool.{All-app, All-one, All-here, All-rest}
+use Rattle.base.proofs.laws.Keep.{first_out, first_passes}
 use Rattle.format_word.specs.Word.{link_in, hand_over}
 use Rattle.node.specs.Work.{Work, REJECTED, BACK}
 use Rattle.field.specs.Edges.{is_own, own_of, link_of, from, limit_of, ceiling_of, end_of}
 use Rattle.field.specs.State.{State, WIDTH, node_at, mark_at, placed, posted}
 use Rattle.field.specs.Step.{in_queue, wake_work, serve_work, back_of, step}
 use Rattle.field.specs.Valid.{word_fits}
-use Rattle.plan.specs.laws.Accepted.{Accepted}
+use Rattle.plan.proofs.laws.Accepted.{Accepted}
 use Rattle.plan.specs.Links.{Plan, modules_of, links_of}
-use Rattle.field.specs.laws.Edges.{mark-own, mark-not}
+use Rattle.field.proofs.laws.Edges.{mark-own, mark-not}
 use Rattle.field_laws.specs.Chan.{queue-parts}
 use Rattle.field_laws.specs.Sends.{length-posted}
 use Rattle.field_laws.specs.Cases.{StepOutcome, took, kept, FieldStep, wake-step, hand-step, serve-step, step-outcome}

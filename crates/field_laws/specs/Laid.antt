@@ -7,24 +7,24 @@ use Rattle.std.proofs.Math.Path.{refl, ap, ap₂}
 use Rattle.std.proofs.Math.Bool.{cond, ◌&&◌, and-eq-true_iff}
 use Rattle.std.proofs.lemmas.List.{length-replicate}
 use Rattle.std.proofs.Math.Seq.{drop-append_seam}
-use Rattle.base.specs.laws.Cond.{bool_cases, eqb-cases, eqb-diff}
+use Rattle.base.proofs.laws.Cond.{bool_cases, eqb-cases, eqb-diff}
 use Rattle.base.specs.Limits.{max_ends}
 use Rattle.base.specs.Loop.{After}
 use Rattle.base.specs.Pool.{All, nil, con}
-use Rattle.base.specs.laws.Pool.{All-map, All-app, All-one, All-here, All-rest}
-use Rattle.base.specs.laws.Keep.{first_out}
+use Rattle.base.proofs.laws.Pool.{All-map, All-app, All-one, All-here, All-rest}
+use Rattle.base.proofs.laws.Keep.{first_out}
 use Rattle.format_message.specs.Header.{header_of, carried_of}
-use Rattle.format_word.specs.laws.Word.{packed-nonzero, over-nonzero}
+use Rattle.format_word.proofs.laws.Word.{packed-nonzero, over-nonzero}
 use Rattle.node.specs.Work.{Send}
 use Rattle.plan.specs.Refusal.{plan_refusal}
-use Rattle.plan.specs.laws.Accepted.{Accepted, accepted}
+use Rattle.plan.proofs.laws.Accepted.{Accepted, accepted}
 use Rattle.plan.specs.Links.{Plan}
 use Rattle.field.specs.Edges.{end_of, ceiling_of}
 use Rattle.field.specs.State.{State, CELLS, posted}
 use Rattle.field.specs.Step.{wake_work, serve_work, step}
 use Rattle.field.specs.Valid.{all_of, waiting_in, zero_after, fits}
 use Rattle.field.specs.Held.{Held, layout, state_of, held_of, valid, step_alone}
-use Rattle.field.specs.laws.Step.{alone-31, alone-step}
+use Rattle.field.proofs.laws.Step.{alone-31, alone-step}
 use Rattle.field_calls.specs.Schedule.{schedule_refusal, schedule_run}
 use Rattle.field_calls.specs.Call.{Call, one, run, rounds, refused_run, laid_back, run_bytes, run_rounds, does}
 use Rattle.field_laws.specs.Cases.{StepOutcome, took, kept, FieldStep, wake-step, hand-step, serve-step, step-outcome, took_it}

@@ -8,10 +8,10 @@ use Rattle.std.proofs.Math.Logic.{inl}
 use Rattle.std.proofs.Common.{inr, ⊎_elim}
 use Rattle.std.proofs.Math.Dec.{eqb}
 use borrow.Author.Tests.{leb-false}
-use Rattle.base.specs.laws.Cond.{cond_has, bool_cases, eqb-cases, ltb-cases, upd-elim}
-use Rattle.base.specs.laws.Loop.{by-test}
+use Rattle.base.proofs.laws.Cond.{cond_has, bool_cases, eqb-cases, ltb-cases, upd-elim}
+use Rattle.base.proofs.laws.Loop.{by-test}
 use Rattle.base.specs.Pool.{All, nil}
-use Rattle.base.specs.laws.Pool.{All-app, All-one}
+use Rattle.base.proofs.laws.Pool.{All-app, All-one}
 use Rattle.format_message.specs.Msg.{Msg, none, connect, initiate, test, accept, reject, report, change}
 use Rattle.node.specs.declared.Node.{Node}
 use Rattle.node.specs.Work.{Own, Work, Send, ASLEEP, FIND, FOUND, BASIC, BRANCH, REJECTED, before, put_back, refused, send, set_mark, with_node, set_status, set_best, set_test, set_count, set_halted, earliest, number, on_each, any_edge, basic, branches, degree}

@@ -6,13 +6,13 @@ use Rattle.std.proofs.Math.Path.{refl, sym, ap, subst}
 use mathlib.Core.List.{List, [], ◌∷◌, ◌++◌, append-nil, map, flat_map, map-append}
 use Rattle.std.proofs.lemmas.List.{length-map}
 use Rattle.base.specs.Cond.{bit}
-use Rattle.base.specs.laws.Cond.{eqb-diff}
+use Rattle.base.proofs.laws.Cond.{eqb-diff}
 use Rattle.base.specs.Loop.{After}
 use Rattle.base.specs.Pool.{sum_l}
-use Rattle.base.specs.laws.Pool.{All-here}
-use Rattle.base.specs.laws.Keep.{first_out, first_passes}
+use Rattle.base.proofs.laws.Pool.{All-here}
+use Rattle.base.proofs.laws.Keep.{first_out, first_passes}
 use Rattle.format_word.specs.Word.{hand_over}
-use Rattle.plan.specs.laws.Accepted.{Accepted}
+use Rattle.plan.proofs.laws.Accepted.{Accepted}
 use Rattle.plan.specs.Links.{Plan}
 use Rattle.field.specs.State.{State, posted}
 use Rattle.field.specs.Step.{serve_work, step}

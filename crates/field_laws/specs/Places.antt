@@ -9,14 +9,14 @@ use mathlib.Core.List.{List, [], ◌∷◌}
 use Rattle.std.proofs.lemmas.List.Edits.{sets}
 use Rattle.std.proofs.Math.Seq.{length-sets}
 use borrow.Author.Tests.{ltb-true, eqb-true, eq-eqb, ne_eqb, lt-ltb}
-use Rattle.base.specs.laws.Cond.{bool_cases, eqb-cases, ltb-cases, by-eq}
+use Rattle.base.proofs.laws.Cond.{bool_cases, eqb-cases, ltb-cases, by-eq}
 use Rattle.node.specs.declared.Node.{Node}
 use Rattle.field.specs.Edges.{is_own, link_of, from, dest, end_of, marks_in}
-use Rattle.node.specs.laws.Values.{node-by, values-by}
+use Rattle.node.proofs.laws.Values.{node-by, values-by}
 use Rattle.field.specs.State.{WIDTH, values, cell_of, node_in, put_node, new_mark, new_marks, put_marks}
-use Rattle.plan.specs.laws.Accepted.{Accepted}
+use Rattle.plan.proofs.laws.Accepted.{Accepted}
 use Rattle.plan.specs.Links.{Plan, modules_of, links_of, lower_of, higher_of}
-use Rattle.field.specs.laws.Edges.{own-lower, own-higher, mark-own, mark-not, end-lower, end-higher}
+use Rattle.field.proofs.laws.Edges.{own-lower, own-higher, mark-own, mark-not, end-lower, end-higher}
 
 -- ---- a run of stores
 

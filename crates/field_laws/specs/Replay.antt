@@ -8,9 +8,9 @@ use Rattle.std.proofs.Math.Logic.{inl}
 use Rattle.std.proofs.Math.Bool.{not, cond}
 use mathlib.Core.List.{List, [], ◌∷◌, ◌++◌}
 use Rattle.std.proofs.Math.ListN.{length}
-use Rattle.base.specs.laws.Cond.{bool_cases, eqb-diff}
+use Rattle.base.proofs.laws.Cond.{bool_cases, eqb-diff}
 use Rattle.base.specs.Loop.{After, Ran, taken_to, refused_by, loop, counted_turn, runs, runs_trace}
-use Rattle.base.specs.laws.Loop.{by-test, then-elim}
+use Rattle.base.proofs.laws.Loop.{by-test, then-elim}
 use Rattle.plan.specs.Links.{Plan, modules_of, links_of}
 use Rattle.field.specs.State.{State}
 use Rattle.field.specs.Step.{in_air, in_queue, hand, serve, step}

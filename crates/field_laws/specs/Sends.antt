@@ -4,17 +4,17 @@ use Rattle.std.proofs.Common.{arith, ap₂, ◌∙◌}
 use Rattle.std.proofs.Math.Path.{refl, sym, ap}
 use Rattle.std.proofs.Math.Bool.{cond}
 use mathlib.Core.List.{List, [], ◌∷◌, ◌++◌, append_assoc, append-nil, map}
-use Rattle.base.specs.laws.Cond.{eqb-cases, eqb_same, eqb-diff}
+use Rattle.base.proofs.laws.Cond.{eqb-cases, eqb_same, eqb-diff}
 use Rattle.base.specs.Limits.{max_links}
 use Rattle.base.specs.Pool.{All, nil, con}
 use Rattle.format_message.specs.Msg.{Msg}
 use Rattle.format_message.specs.Header.{header_of, carried_of}
 use Rattle.format_message.specs.Listed.{Listed}
-use Rattle.format_message.specs.laws.Means.{in-bits, header-lt}
+use Rattle.format_message.proofs.laws.Means.{in-bits, header-lt}
 use Rattle.format_word.specs.Word.{Waiting, link_in, handed_in}
-use Rattle.format_word.specs.laws.Word.{Unpacked, unpacked, waiting-back}
+use Rattle.format_word.proofs.laws.Word.{Unpacked, unpacked, waiting-back}
 use Rattle.plan.specs.Links.{Plan}
-use Rattle.field.specs.laws.Edges.{end-small}
+use Rattle.field.proofs.laws.Edges.{end-small}
 use Rattle.node.specs.Work.{Send}
 use Rattle.field.specs.Edges.{is_own, from, end_of}
 use Rattle.field.specs.State.{msg_in, word_of, posted}

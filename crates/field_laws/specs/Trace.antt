@@ -3,7 +3,7 @@ use Rattle.std.specs.Prelude.{ℕ, ◌*◌, eqb}
 use Rattle.std.proofs.Math.Bool.{cond}
 use mathlib.Core.List.{List, [], ◌++◌}
 use Rattle.base.specs.Loop.{Ran, then, counted_turn, loop_trace, runs_trace}
-use Rattle.base.specs.laws.Loop.{by-test, loop-tells, runs-tell}
+use Rattle.base.proofs.laws.Loop.{by-test, loop-tells, runs-tell}
 use Rattle.plan.specs.Links.{Plan, modules_of, links_of}
 use Rattle.field.specs.State.{State}
 use Rattle.field.specs.Step.{in_air, in_queue, hand, serve, HAND, SERVE, step}

@@ -1,1 +1,2 @@
 // Theorems about the field, its steps, runs and rounds.
+#![tactic(auto)]

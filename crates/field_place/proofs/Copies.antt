@@ -6,14 +6,14 @@ use mathlib.Core.Path.{◌≡◌, sym}
 use mathlib.Core.Bool.{Bool, true, false, cond, ◌&&◌}
 use mathlib.Core.List.{[], ◌∷◌, ◌++◌, map-append, append-nil}
 use lib.ListN.{length}
-use Rattle.base.specs.laws.Cond.{bool_cases, by-eq}
+use Rattle.base.proofs.laws.Cond.{bool_cases, by-eq}
 use Rattle.format_message.specs.Msg.{Msg}
 use Rattle.format_message.specs.Header.{header_of, carried_of}
 use Rattle.format_word.specs.Word.{packed}
 use Rattle.plan.specs.Links.{Plan}
 use Rattle.field.specs.Edges.{end_of}
 use Rattle.node.specs.Work.{Own, on_each, number}
-use Rattle.node.specs.laws.Count.{each_number}
+use Rattle.node.proofs.laws.Count.{each_number}
 use Rattle.field.specs.State.{word_of, posted}
 
 zero_of : (k : ℕ) → k ≤ 0 → k ≡ 0

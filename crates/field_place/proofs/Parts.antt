@@ -7,9 +7,9 @@ use borrow.Author.Tests.{ne_eqb}
 use Rattle.base.specs.None.{none}
 use Rattle.format_message.specs.Msg.{Msg, connect, initiate, test, accept, reject, report, change}
 use Rattle.format_message.specs.Header.{Parts, parts, parts_of, header_byte, header_from}
-use Rattle.format_message.specs.laws.Byte.{from-fits}
+use Rattle.format_message.proofs.laws.Byte.{from-fits}
 use Rattle.format_message.specs.Listed.{Listed}
-use Rattle.format_message.specs.laws.Means.{in-bits}
+use Rattle.format_message.proofs.laws.Means.{in-bits}
 use Rattle.format_word.specs.Word.{packed}
 use Rattle.plan.specs.Links.{Plan}
 use Rattle.field.specs.Edges.{end_of}

@@ -5,7 +5,7 @@ use mathlib.Core.Path.{◌≡◌, ap, subst, ◌∙◌}
 use mathlib.Core.Bool.{true, cond}
 use mathlib.Core.List.{List, [], ◌∷◌}
 use lib.ListN.{length, length-append}
-use Rattle.format_message.specs.laws.Means.{Means}
+use Rattle.format_message.proofs.laws.Means.{Means}
 use Rattle.format_word.specs.Word.{packed, header_in, carried_in}
 use Rattle.plan.specs.Links.{Plan, links_of}
 use Rattle.node.specs.Work.{on_each}

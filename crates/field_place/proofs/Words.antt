@@ -7,7 +7,7 @@ use mathlib.Core.Bool.{Bool, true, false, cond}
 use mathlib.Core.List.{List, [], ◌∷◌, ◌++◌}
 use lib.ListN.{length, set, length-append}
 use lib.Seq.{sets, length-sets}
-use Rattle.base.specs.laws.Sets.{sets-append}
+use Rattle.base.proofs.laws.Sets.{sets-append}
 use Rattle.field_place.specs.Posted.{Posted}
 
 pub posted-none : (lent : List ℕ) (n : ℕ) → Posted lent lent n n []

@@ -1,8 +1,10 @@
 // A response that was worked out by value is put in place: its messages behind the waiting words, its node and its mark. Its messages can be written into
 // any other words too.
+#![tactic(auto)]
+
 ghost use Rattle.std.specs.Prelude.{◌+◌, ◌<◌, ◌≤◌, ◌≡◌, true, cond, [], ◌∷◌, length};
 ghost use Rattle.base.specs.Limits.{max_modules, max_links};
-ghost use Rattle.format_message.specs.laws.Means.{Means};
+ghost use Rattle.format_message.proofs.laws.Means.{Means};
 ghost use Rattle.format_word.specs.Word.{packed, header_in, carried_in, link_in};
 ghost use Rattle.plan.specs.Links.{links_of};
 ghost use Rattle.node_response.specs.Response.{packet_sends, copies_of};

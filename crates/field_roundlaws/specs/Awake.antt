@@ -6,15 +6,15 @@ use Rattle.std.proofs.Math.Path.{ap}
 use Rattle.std.proofs.Math.Logic.{inl, inr}
 use mathlib.Core.List.Memᴰ
 use mathlib.Core.List.{List, [], ◌∷◌, ◌++◌, Memᴰ}
-use Rattle.base.specs.laws.Cond.{by-eq, eqb-diff}
+use Rattle.base.proofs.laws.Cond.{by-eq, eqb-diff}
 use Rattle.base.specs.None.{none}
 use Rattle.base.specs.Loop.{After}
-use Rattle.base.specs.laws.Loop.{by-test}
+use Rattle.base.proofs.laws.Loop.{by-test}
 use Rattle.base.specs.Pool.{All, nil, con}
-use Rattle.base.specs.laws.Pool.{All-map, All-app, All-one}
+use Rattle.base.proofs.laws.Pool.{All-map, All-app, All-one}
 use Rattle.format_message.specs.Header.{kind_at, level_at, find_at}
 use Rattle.format_word.specs.Word.{header_in, carried_in, link_in}
-use Rattle.plan.specs.laws.Accepted.{Accepted, accepted}
+use Rattle.plan.proofs.laws.Accepted.{Accepted, accepted}
 use Rattle.plan.specs.Links.{Plan, modules_of}
 use Rattle.plan.specs.Trimmed.{trimmed}
 use Rattle.node.specs.declared.Node.{Node}

@@ -3,7 +3,7 @@ use Rattle.std.specs.Prelude.{ℕ, ◌+◌, ◌-◌, ◌≡◌, refl, ◌≢◌,
 use Rattle.std.proofs.Common.{arith, ap, ap₂, subst, ◌∙◌}
 use Rattle.base.specs.Cond.{bit}
 use Rattle.base.specs.Sum.{sum}
-use Rattle.base.specs.laws.Loop.{by-test}
+use Rattle.base.proofs.laws.Loop.{by-test}
 use Rattle.base.specs.Pool.{All}
 use Rattle.base.specs.Keep.{keep}
 use Rattle.format_word.specs.Word.{link_in}

@@ -2,16 +2,16 @@
 -- (`all-handed`).
 use Rattle.std.specs.Prelude.{ℕ, suc, ◌+◌, ◌*◌, ◌/◌, ◌^◌, ◌<◌, ◌≡◌, refl, ◌≢◌, true, false, not, ◌&&◌, List, [], ◌∷◌, ◌++◌, length, eqb}
 use Rattle.std.proofs.Common.{arith, not-suc-le-zero, sym, ap, subst, ◌∙◌, append-nil, length-append, eqb-true, eq-eqb}
-use Rattle.base.specs.laws.Cond.{bool_cases}
-use Rattle.base.specs.laws.Search.{lt-suc-cases}
-use Rattle.base.specs.laws.Loop.{Ok, loop-ok}
+use Rattle.base.proofs.laws.Cond.{bool_cases}
+use Rattle.base.proofs.laws.Search.{lt-suc-cases}
+use Rattle.base.proofs.laws.Loop.{Ok, loop-ok}
 use Rattle.base.specs.Pool.{All, nil, con, Out, here, there}
-use Rattle.base.specs.laws.Pool.{All-here}
+use Rattle.base.proofs.laws.Pool.{All-here}
 use Rattle.base.specs.Keep.{keep}
-use Rattle.base.specs.laws.Keep.{no_length, keep-yes, keep-app, keep-none, keep-no, first_out, first_passes, head_of, others}
+use Rattle.base.proofs.laws.Keep.{no_length, keep-yes, keep-app, keep-none, keep-no, first_out, first_passes, head_of, others}
 use Rattle.format_word.specs.Word.{header_in, carried_in, link_in, handed_in, shaped, hand_over}
-use Rattle.format_word.specs.laws.Word.{Unpacked, over}
-use Rattle.plan.specs.laws.Accepted.{Accepted}
+use Rattle.format_word.proofs.laws.Word.{Unpacked, over}
+use Rattle.plan.proofs.laws.Accepted.{Accepted}
 use Rattle.plan.specs.Links.{Plan, links_of}
 use Rattle.field.specs.State.{State}
 use Rattle.field.specs.Step.{in_air, hand, step}

@@ -5,12 +5,12 @@ use Rattle.std.proofs.Common.{arith, sym, ap₂, subst, ◌∙◌, inl, inr, ⊎
 use Rattle.std.proofs.Math.Path.{refl, ap}
 use Rattle.std.proofs.Math.ListN.{length}
 use Rattle.base.specs.Cond.{bit}
-use Rattle.base.specs.laws.Cond.{eqb-cases, eqb-diff, by-eq}
+use Rattle.base.proofs.laws.Cond.{eqb-cases, eqb-diff, by-eq}
 use Rattle.base.specs.Sum.{sum}
-use Rattle.base.specs.laws.Sum.{sum-le, sum_lt, sum-const}
-use Rattle.base.specs.laws.Keep.{first_out, first_passes}
+use Rattle.base.proofs.laws.Sum.{sum-le, sum_lt, sum-const}
+use Rattle.base.proofs.laws.Keep.{first_out, first_passes}
 use Rattle.format_word.specs.Word.{link_in}
-use Rattle.plan.specs.laws.Accepted.{Accepted}
+use Rattle.plan.proofs.laws.Accepted.{Accepted}
 use Rattle.plan.specs.Links.{Plan, modules_of}
 use Rattle.node.specs.declared.Node.{Node}
 use Rattle.node.specs.Work.{Work, ASLEEP, BACK, start, put_back}

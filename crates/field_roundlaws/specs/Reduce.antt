@@ -3,13 +3,13 @@ use Rattle.std.specs.Prelude.{ℕ, ◌+◌, ◌≤◌, ◌≡◌, refl, ◌≢�
 use Rattle.std.proofs.Common.{arith, sym, ◌∙◌, inl, inr, ⊎_elim}
 use Rattle.std.proofs.Math.Path.{ap, subst}
 use mathlib.Core.List.{List, [], ◌∷◌}
-use Rattle.base.specs.laws.Cond.{eqb-cases}
+use Rattle.base.proofs.laws.Cond.{eqb-cases}
 use Rattle.base.specs.Loop.{After, Ran}
-use Rattle.base.specs.laws.Loop.{runs-refusal}
+use Rattle.base.proofs.laws.Loop.{runs-refusal}
 use Rattle.base.specs.Pool.{All, nil, con}
-use Rattle.base.specs.laws.Pool.{All-map}
+use Rattle.base.proofs.laws.Pool.{All-map}
 use Rattle.base.specs.Test.{every}
-use Rattle.plan.specs.laws.Accepted.{Accepted, accepted}
+use Rattle.plan.proofs.laws.Accepted.{Accepted, accepted}
 use Rattle.plan.specs.Links.{Plan, modules_of}
 use Rattle.plan.specs.Trimmed.{trimmed}
 use Rattle.node.specs.declared.Node.{Node}

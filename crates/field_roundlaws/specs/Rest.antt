@@ -4,17 +4,17 @@ use Rattle.std.proofs.Common.{arith, ap, ap₂, subst, ⊎_elim, eqb-true, eq-eq
 use Rattle.std.specs.Prelude.{◌≡◌, ◌≢◌, ◌⊎◌, true, not, cond, ◌&&◌, List, [], ◌∷◌, length, eqb}
 use Rattle.std.proofs.Math.Path.{refl}
 use Rattle.std.proofs.Math.Logic.{inl, inr}
-use Rattle.base.specs.laws.Cond.{bool_cases, eqb-cases}
+use Rattle.base.proofs.laws.Cond.{bool_cases, eqb-cases}
 use Rattle.base.specs.Loop.{Ran, runs, counted_turn}
-use Rattle.base.specs.laws.Loop.{Ok, then-on}
+use Rattle.base.proofs.laws.Loop.{Ok, then-on}
 use Rattle.base.specs.Pool.{All, nil, con}
-use Rattle.base.specs.laws.Pool.{All-map}
+use Rattle.base.proofs.laws.Pool.{All-map}
 use Rattle.base.specs.Keep.{keep}
-use Rattle.base.specs.laws.Keep.{no_length, keep-yes, keep-no}
+use Rattle.base.proofs.laws.Keep.{no_length, keep-yes, keep-no}
 use Rattle.format_message.specs.Header.{kind_at, level_at, find_at, msg_of}
 use Rattle.format_word.specs.Word.{header_in, carried_in, link_in, handed_in, shaped, hand_over}
-use Rattle.format_word.specs.laws.Word.{Unpacked, over}
-use Rattle.plan.specs.laws.Accepted.{Accepted}
+use Rattle.format_word.proofs.laws.Word.{Unpacked, over}
+use Rattle.plan.proofs.laws.Accepted.{Accepted}
 use Rattle.plan.specs.Links.{Plan, modules_of, links_of}
 use Rattle.node.specs.Work.{ASLEEP, BACK}
 use Rattle.node.specs.Rules.{respond}

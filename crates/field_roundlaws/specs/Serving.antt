@@ -4,14 +4,14 @@ use Rattle.std.specs.Prelude.{ℕ, suc, ◌≤◌, ◌<◌, ◌≡◌, ◌≢◌
 use Rattle.std.proofs.Common.{arith, not-suc-le-zero, ap, subst, ◌∙◌, inl, append-nil, append_assoc, length-append}
 use Rattle.std.proofs.Math.Path.{refl, sym}
 use Rattle.std.proofs.Math.Logic.{inr}
-use Rattle.base.specs.laws.Search.{lt-suc-cases}
-use Rattle.base.specs.laws.Loop.{Ok, loop-ok}
+use Rattle.base.proofs.laws.Search.{lt-suc-cases}
+use Rattle.base.proofs.laws.Loop.{Ok, loop-ok}
 use Rattle.base.specs.Pool.{All, nil, con}
-use Rattle.base.specs.laws.Pool.{All-app, All-one, All-map, All-here}
+use Rattle.base.proofs.laws.Pool.{All-app, All-one, All-map, All-here}
 use Rattle.base.specs.Keep.{keep}
-use Rattle.base.specs.laws.Keep.{no_length, keep-nil, keep-app, keep-none, keep-no, first_out, first_passes, head_of, others}
+use Rattle.base.proofs.laws.Keep.{no_length, keep-nil, keep-app, keep-none, keep-no, first_out, first_passes, head_of, others}
 use Rattle.format_word.specs.Word.{link_in, handed_in}
-use Rattle.plan.specs.laws.Accepted.{Accepted}
+use Rattle.plan.proofs.laws.Accepted.{Accepted}
 use Rattle.plan.specs.Links.{Plan, modules_of}
 use Rattle.node.specs.Work.{Work, Send}
 use Rattle.field.specs.Edges.{dest}

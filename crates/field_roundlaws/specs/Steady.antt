@@ -5,14 +5,14 @@ use Rattle.std.proofs.Common.{arith, sym, subst}
 use Rattle.std.proofs.Math.Logic.{inl, inr}
 use Rattle.std.proofs.Math.Bool.{cond}
 use Rattle.std.proofs.Math.Dec.{eqb}
-use Rattle.base.specs.laws.Cond.{cond_has, eqb-cases, ltb-cases, eqb-diff}
-use Rattle.base.specs.laws.Loop.{by-test}
+use Rattle.base.proofs.laws.Cond.{cond_has, eqb-cases, ltb-cases, eqb-diff}
+use Rattle.base.proofs.laws.Loop.{by-test}
 use Rattle.format_message.specs.Msg.{Msg, none, connect, initiate, test, accept, reject, report, change}
 use Rattle.format_message.specs.Header.{msg_of}
 use Rattle.node.specs.declared.Node.{Node}
 use Rattle.node.specs.Work.{Own, Work, ASLEEP, FIND, FOUND, BASIC, BRANCH, BACK, REFUSED, before, put_back, refused, send, with_node, set_test, set_count, number, earliest, any_edge, branches, degree}
 use Rattle.node.specs.Rules.{wake_on, wakeup, do_report, test_on, do_test, change_root, count_up, absorb, core_end, on_connect, told, seek, on_initiate, strike, on_test, child_report, core_report, on_report, unless_asleep, respond_to}
-use Rattle.node.specs.laws.Rules.{awake-wakes, awake-is, asleep-refused, asleep-not}
+use Rattle.node.proofs.laws.Rules.{awake-wakes, awake-is, asleep-refused, asleep-not}
 
 -- not put back, and awake
 pub record Steady (w : Work) : Type 0 where

@@ -1,4 +1,6 @@
 // Searching the waiting words of a field: where the first of a directed link or of a queue stands, and how many there are.
+#![tactic(auto)]
+
 ghost use Rattle.std.specs.Prelude.{◌≡◌, length};
 ghost use Rattle.base.specs.Keep.{many};
 ghost use Rattle.plan.specs.Links.{plan_size};

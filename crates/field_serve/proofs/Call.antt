@@ -9,7 +9,7 @@ use Rattle.field.specs.declared.Field.{Field}
 use Rattle.field.specs.State.{State}
 use Rattle.field.specs.Held.{Held}
 use Rattle.field.specs.Held as H
-use Rattle.field.specs.laws.Step.{laid_after}
+use Rattle.field.proofs.laws.Step.{laid_after}
 use Rattle.field_calls.specs.Call.{laid_back}
 use Rattle.field_words.specs.Hands.{lent_state}
 use Rattle.field_check.specs.declared.Checked.{Checked}

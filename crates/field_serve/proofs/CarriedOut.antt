@@ -9,7 +9,7 @@ use lib.Seq.{length-take-le}
 use borrow.Author.Tests.{ne_eqb}
 use Rattle.base.specs.Limits.{max_words}
 use Rattle.base.specs.Loop.{After, taken_to}
-use Rattle.base.specs.laws.Ceiling.{ceiling-most}
+use Rattle.base.proofs.laws.Ceiling.{ceiling-most}
 use Rattle.plan.specs.Links.{Plan, modules_of, links_of}
 use Rattle.node.specs.Work.{Work}
 use Rattle.field.specs.State.{State, put_node, posted, placed}

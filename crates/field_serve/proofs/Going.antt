@@ -7,7 +7,7 @@ use mathlib.Core.Bool.{Bool, true, false}
 use mathlib.Core.List.{List}
 use lib.ListN.{length}
 use Rattle.base.specs.Loop.{After, Ran, runs}
-use Rattle.base.specs.laws.Loop.{went, runs-rest, runs_taken, runs-refused, runs_done}
+use Rattle.base.proofs.laws.Loop.{went, runs-rest, runs_taken, runs-refused, runs_done}
 use Rattle.plan.specs.Links.{Plan}
 use Rattle.field.specs.State.{State}
 use Rattle.field_words.specs.Hands.{lent_state}

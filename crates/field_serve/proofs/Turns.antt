@@ -7,7 +7,7 @@ use mathlib.Core.Logic.{◌≢◌}
 use mathlib.Core.List.{List}
 use lib.ListN.{length}
 use Rattle.base.specs.Loop.{After, taken_to, loop}
-use Rattle.base.specs.laws.Loop.{loop-zero, loop-taken, loop-refused}
+use Rattle.base.proofs.laws.Loop.{loop-zero, loop-taken, loop-refused}
 use Rattle.plan.specs.Links.{Plan}
 use Rattle.field.specs.State.{State}
 use Rattle.field_words.specs.Hands.{lent_state}

@@ -7,7 +7,7 @@ use mathlib.Core.Logic.{◌≢◌, ◌⊎◌, inl, inr}
 use mathlib.Core.List.{List, ◌++◌}
 use lib.ListN.{length, take, length-append}
 use lib.Seq.{length-take-le}
-use Rattle.base.specs.laws.Cond.{ltb-cases}
+use Rattle.base.proofs.laws.Cond.{ltb-cases}
 use Rattle.plan.specs.Links.{Plan}
 use Rattle.node.specs.Work.{Send, BACK}
 use Rattle.field.specs.Step.{without}

@@ -1,5 +1,7 @@
 // Two steps on lent arrays: a module wakes, a module serves the first word of its queue. (A hand-over is in `field_words`.)
 // What a step comes to is decided by value (`field_verdict`), then carried out: all refusals before anything is written.
+#![tactic(auto)]
+
 ghost use Rattle.std.specs.Prelude.{◌<◌, ◌≡◌, ◌++◌, length, take};
 ghost use Rattle.node.specs.Work.{Work, BACK};
 ghost use Rattle.field.specs.Step.{without, back_of, wake, serve};
@@ -15,7 +17,7 @@ use node_response::Response;
 use plan::Plan;
 
 // refusal: its number, or 0. waiting, sent: the words that wait and the sent count afterwards.
-#[derive(Drop)]
+#[derive(Clone, Copy)]
 pub struct Done {
     pub refusal: u32,
     pub waiting: usize,

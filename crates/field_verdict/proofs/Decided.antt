@@ -9,7 +9,7 @@ use mathlib.Core.List.{List}
 use lib.ListN.{length}
 use borrow.Author.Tests.{eq-eqb, ne_eqb, lt-ltb, le-ltb}
 use Rattle.base.specs.Loop.{After, taken_to, refused_by}
-use Rattle.base.specs.laws.Cond.{eqb-cases}
+use Rattle.base.proofs.laws.Cond.{eqb-cases}
 use Rattle.plan.specs.Links.{Plan}
 use Rattle.node.specs.Work.{Work, REFUSED}
 use Rattle.node_response.specs.declared.Response.{Response}

@@ -8,25 +8,25 @@ use mathlib.Core.List.{List, []}
 use lib.ListN.{length, get_or}
 use lib.Dec.{eqb, ltb, leb}
 use borrow.Author.Tests.{le-leb, lt-leb, eq-eqb, ne_eqb}
-use Rattle.base.specs.laws.Cond.{bool_cases}
+use Rattle.base.proofs.laws.Cond.{bool_cases}
 use Rattle.base.specs.Loop.{refused_by}
 use Rattle.base.specs.Keep.{place}
-use Rattle.base.specs.laws.Keep.{FirstThat, first_passes, first_out, place-first}
-use Rattle.base.specs.laws.Pool.{All-here}
+use Rattle.base.proofs.laws.Keep.{FirstThat, first_passes, first_out, place-first}
+use Rattle.base.proofs.laws.Pool.{All-here}
 use Rattle.base.specs.None.{none}
 use Rattle.format_message.specs.Header.{kind_at, level_at, find_at}
 use Rattle.format_message.specs.Listed.{bare, listed_as, listed}
-use Rattle.format_message.specs.laws.Means.{Means, means}
+use Rattle.format_message.proofs.laws.Means.{Means, means}
 use Rattle.format_word.specs.Word.{header_in, carried_in, link_in, laid_out, shaped}
 use Rattle.plan.specs.Links.{Plan, modules_of, links_of}
-use Rattle.plan.specs.laws.Accepted.{Accepted}
+use Rattle.plan.proofs.laws.Accepted.{Accepted}
 use Rattle.node.specs.declared.Node.{Node}
 use Rattle.node.specs.Work.{Own, Work, Send, BACK, ASLEEP, TAKEN, earliest, any_edge}
 use Rattle.node.specs.Rules.{respond, wake_on, wakes}
 use Rattle.node_response.specs.declared.Packet.{Packet}
 use Rattle.node_response.specs.declared.Response.{Response}
 use Rattle.node_response.specs.Response.{packet_msg, work_of, Formed}
-use Rattle.node_joining.specs.laws.Copies.{copies_in}
+use Rattle.node_joining.proofs.laws.Copies.{copies_in}
 use Rattle.node_dispatch.specs.Receives.{Receives}
 use Rattle.field.specs.Edges.{own_of, link_of, limit_of}
 use Rattle.field.specs.State.{State, node_in, node_at, mark_at, msg_in}

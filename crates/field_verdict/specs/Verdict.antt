@@ -2,13 +2,13 @@
 use Rattle.std.specs.Prelude.{ℕ, ◌+◌, ◌≤◌, ◌<◌, ◌≡◌, ◌≢◌, ◌⊎◌, length}
 use Rattle.base.specs.Limits.{max_modules}
 use Rattle.base.specs.Loop.{After, answering}
-use Rattle.format_message.specs.laws.Means.{Means}
+use Rattle.format_message.proofs.laws.Means.{Means}
 use Rattle.format_word.specs.Word.{header_in, carried_in, link_in}
 use Rattle.plan.specs.Links.{Plan}
 use Rattle.node.specs.Work.{Work, BACK}
 use Rattle.node_response.specs.declared.Response.{Response}
 use Rattle.node_response.specs.Response.{work_of}
-use Rattle.node_joining.specs.laws.Copies.{copies_in}
+use Rattle.node_joining.proofs.laws.Copies.{copies_in}
 use Rattle.field.specs.Edges.{own_of, link_of, ceiling_of}
 use Rattle.field.specs.State.{State, mark_at, msg_in, placed}
 use Rattle.field.specs.Step.{without, back_of}

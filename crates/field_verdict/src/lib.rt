@@ -1,9 +1,11 @@
 // What a wakeup or a service comes to, before anything is written: refused, or the response by value, the word that it answers and how many messages it
 // sends. A step carries it out, a preview shows it.
+#![tactic(auto)]
+
 ghost use Rattle.std.specs.Prelude.{◌<◌, ◌≤◌, ◌≡◌, length, leb};
 ghost use Rattle.base.specs.Limits.{max_modules, max_links};
 ghost use Rattle.plan.specs.Links.{modules_of, links_of, plan_size};
-ghost use Rattle.plan.specs.laws.Accepted.{Accepted};
+ghost use Rattle.plan.proofs.laws.Accepted.{Accepted};
 ghost use Rattle.node_dispatch.specs.Receives.{Receives};
 ghost use Rattle.field.specs.Edges.{ceiling_of};
 ghost use Rattle.field.specs.State.{node_in};
@@ -23,7 +25,7 @@ use plan::Plan;
 
 // refusal: its number, or 0. at, word: the place of the served word among those that wait, and the word; where a module wakes, the number of words and a
 // word that nobody serves. sends: how many messages the response sends.
-#[derive(Drop)]
+#[derive(Clone, Copy)]
 pub struct Verdict {
     pub refusal: u32,
     pub at: usize,

@@ -7,7 +7,7 @@ use mathlib.Core.Logic.{◌≢◌}
 use mathlib.Core.List.{List}
 use lib.ListN.{length}
 use Rattle.base.specs.Loop.{After, loop}
-use Rattle.base.specs.laws.Loop.{loop-zero, loop-taken, loop-refused}
+use Rattle.base.proofs.laws.Loop.{loop-zero, loop-taken, loop-refused}
 use Rattle.field.specs.State.{State}
 use Rattle.field_words.specs.Laid.{Laid}
 use Rattle.field_words.specs.Hands.{lent_state, Hands}

@@ -10,7 +10,7 @@ use lib.Seq.{length-take-le, get_or-take}
 use lib.Dec.{leb}
 use borrow.Author.Tests.{le-leb, lt-leb, leb-false, ne_eqb}
 use Rattle.base.specs.Loop.{answering}
-use Rattle.base.specs.laws.Cond.{bool_cases}
+use Rattle.base.proofs.laws.Cond.{bool_cases}
 use Rattle.field.specs.State.{State}
 use Rattle.format_word.specs.Word.{hand_over}
 use Rattle.plan.specs.Links.{Plan, links_of}

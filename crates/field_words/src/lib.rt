@@ -1,4 +1,6 @@
 // The waiting words of a field: how one leaves, how one goes to the end, a hand-over.
+#![tactic(auto)]
+
 ghost use Rattle.std.specs.Prelude.{◌<◌, ◌≤◌, ◌≡◌, [], ◌∷◌, ◌++◌, length, take, drop};
 ghost use Rattle.base.specs.Limits.{max_links};
 ghost use Rattle.plan.specs.Links.{links_of};
@@ -10,7 +12,7 @@ ghost use Rattle.field_words.specs.Hands.{Hands, handable};
 use plan::Plan;
 
 // refusal: its number, or 0. at: the place of the word to hand over; the number of words where there is none.
-#[derive(Drop)]
+#[derive(Clone, Copy)]
 pub struct HandVerdict {
     pub refusal: u32,
     pub at: usize,

@@ -1,9 +1,11 @@
 // Radio frames: checked, read and written.
+#![tactic(auto)]
+
 ghost use Rattle.std.specs.Prelude.{◌≡◌, length};
 ghost use Rattle.format_frame.specs.Frame.{frame_bytes, frame_refusal, frame_read, frame_written};
 
 // What a frame says: a header byte and a carried number, zeros beside a refusal.
-#[derive(Drop)]
+#[derive(Clone, Copy)]
 pub struct Frame {
     pub refusal: u32,
     pub header: u8,

@@ -1,2 +1,1 @@
 pub mod Int16
-pub mod laws

@@ -1,4 +1,6 @@
 // 16-bit big-endian integers in lent bytes.
+#![tactic(auto)]
+
 ghost use Rattle.std.specs.Prelude.{◌+◌, ◌*◌, ◌<◌, ◌≡◌, length};
 ghost use Rattle.format_int16.specs.Int16.{at16, put16};
 

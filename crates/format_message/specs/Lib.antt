@@ -1,4 +1,3 @@
 pub mod Msg
 pub mod Header
 pub mod Listed
-pub mod laws

@@ -1,4 +1,6 @@
 // Messages between neighbours: the header byte taken apart and put together, and which messages are listed.
+#![tactic(auto)]
+
 ghost use Rattle.std.specs.Prelude.{◌≡◌};
 ghost use Rattle.format_message.specs.Header.{header_from, kind_at, level_at, find_at};
 ghost use Rattle.format_message.specs.Listed.{bare, listed_as, listed};

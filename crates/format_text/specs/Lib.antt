@@ -3,4 +3,3 @@ pub mod Put
 pub mod Decimal
 pub mod Lines
 pub mod Input
-pub mod laws

@@ -1,5 +1,7 @@
 // Text in a lent buffer: bytes are put at a place, and the answer is the place behind them. What does not fit is cut off at
 // the buffer's end (specs/Put). And what a program reads into one (specs/Input).
+#![tactic(auto)]
+
 ghost use Rattle.std.specs.Prelude.{◌≤◌, ◌≡◌, ◌++◌, length, take};
 ghost use Rattle.format_text.specs.Ascii.{ascii};
 ghost use Rattle.format_text.specs.Put.{page};
@@ -70,7 +72,7 @@ pub fn front<'a>(buffer: &'a [u8], end: usize) -> &'a [u8]
 
 // What a read of standard input left: how many bytes there was room for, and how many came. `read_input` alone makes one, so
 // that a program cannot claim to have read other than it did.
-#[derive(Drop)]
+#[derive(Clone, Copy)]
 pub struct Intake {
     room: usize,
     count: usize,

@@ -1,4 +1,6 @@
 // 32- and 64-bit big-endian integers in lent bytes.
+#![tactic(auto)]
+
 ghost use Rattle.std.specs.Prelude.{◌+◌, ◌<◌, ◌≡◌, length};
 ghost use Rattle.format_wide.specs.Wide.{at32, at64, put32, put64};
 

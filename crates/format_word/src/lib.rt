@@ -1,4 +1,6 @@
 // Waiting messages in 64-bit words: packed and unpacked by shifts and masks.
+#![tactic(auto)]
+
 ghost use Rattle.std.specs.Prelude.{◌≡◌};
 ghost use Rattle.format_word.specs.Word.{packed, header_in, carried_in, link_in, handed_in, shaped, laid_out, hand_over};
 

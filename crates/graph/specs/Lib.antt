@@ -10,4 +10,3 @@ pub mod Parts
 pub mod Least
 pub mod Path
 pub mod Between
-pub mod laws

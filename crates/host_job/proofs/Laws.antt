@@ -7,17 +7,17 @@ use mathlib.Core.Bool.{Bool, true, false, cond}
 use mathlib.Core.List.{List, [], ◌∷◌, ◌++◌}
 use lib.ListN.{length, length-append, set, take, drop}
 use lib.Seq.{sets, sets-eq, take-append_seam}
-use Rattle.base.specs.laws.Sets.{sets-append}
+use Rattle.base.proofs.laws.Sets.{sets-append}
 use Rattle.format_int16.specs.Int16.{bytes16, put16}
 use Rattle.graph.specs.Graph.{Graph}
 use Rattle.graph.specs.Parts.{lowest, lowests}
-use Rattle.graph.specs.laws.Parts.{lowests-many, lowests-flat}
+use Rattle.graph.proofs.laws.Parts.{lowests-many, lowests-flat}
 use Rattle.plan.specs.Links.{Plan, modules_of, graph_of}
 use Rattle.plan.specs.Refusal.{plan_refusal}
-use Rattle.plan.specs.laws.Accepted.{accepted}
+use Rattle.plan.proofs.laws.Accepted.{accepted}
 use Rattle.field.specs.Step.{WAKE}
 use Rattle.host_job.specs.Job.{wake_steps, most_wakes, job_wakes}
-use Rattle.host_job.specs.laws.Wakes.{length-wakes}
+use Rattle.host_job.proofs.laws.Wakes.{length-wakes}
 
 module _ (s : List ℕ) (at v : ℕ) (due : Bool) where
   pub wake-none : due ≡ false → (s ≡ sets s at (cond due (WAKE ∷ bytes16 v) [])) × (at ≡ at + length (cond due (WAKE ∷ bytes16 v) []))

@@ -1,2 +1,1 @@
 pub mod Job
-pub mod laws

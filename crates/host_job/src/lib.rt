@@ -1,4 +1,6 @@
 // The whole job on one plan: setup, a wake of the lowest module of each part, rounds until the field is at rest.
+#![tactic(auto)]
+
 ghost use Rattle.std.specs.Prelude.{◌+◌, ◌≤◌, ◌<◌, ◌≡◌, cond, [], ◌∷◌, length, take};
 ghost use Rattle.std.proofs.lemmas.List.Edits.{sets};
 ghost use Rattle.format_int16.specs.Int16.{bytes16};

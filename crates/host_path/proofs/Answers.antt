@@ -10,11 +10,11 @@ use Rattle.base.specs.Table.{tabulate}
 use Rattle.graph.specs.Parts.{SamePart}
 use Rattle.plan.specs.Links.{graph_of, Plan, modules_of}
 use Rattle.plan.specs.Refusal.{plan_refusal}
-use Rattle.plan.specs.laws.Accepted.{accepted}
+use Rattle.plan.proofs.laws.Accepted.{accepted}
 use Rattle.path.specs.declared.PathFound.{PathFound}
 use Rattle.path.specs.Between.{PathShown, tree_path, worst_on, no_path, path_between}
 use Rattle.path.specs.Near.{mark_near}
-use Rattle.path.specs.laws.Outcomes.{path-taken, near-taken}
+use Rattle.path.proofs.laws.Outcomes.{path-taken, near-taken}
 use Rattle.path_search.specs.Spread.{hops_to, KnownWithin}
 use Rattle.host_path.proofs.Known.{known_at, known-marks}
 

@@ -11,18 +11,18 @@ use lib.ListN.{length, get_or, drop, set, length-reverse}
 use lib.Dec.{eqb, leb}
 use borrow.Author.Tests.{le-leb, lt-leb, leb-true, leb-false}
 use Rattle.base.specs.Cond.{bit}
-use Rattle.base.specs.laws.Cond.{eqb-diff, bool_cases}
+use Rattle.base.proofs.laws.Cond.{eqb-diff, bool_cases}
 use Rattle.base.specs.Table.{tabulate}
-use Rattle.base.specs.laws.Sets.{front-set}
-use Rattle.base.specs.laws.Table.{length-tabulate, tabulate-next, tabulate-ext}
+use Rattle.base.proofs.laws.Sets.{front-set}
+use Rattle.base.proofs.laws.Table.{length-tabulate, tabulate-next, tabulate-ext}
 use Rattle.graph.specs.Parts.{SamePart, together}
-use Rattle.graph.specs.laws.Parts.{part?}
+use Rattle.graph.proofs.laws.Parts.{part?}
 use Rattle.plan.specs.Links.{graph_of, Plan, modules_of}
-use Rattle.plan.specs.laws.Accepted.{Accepted}
+use Rattle.plan.proofs.laws.Accepted.{Accepted}
 use Rattle.path.specs.Between.{tree_path}
 use Rattle.path.specs.Near.{within_branches, near_bytes}
-use Rattle.graph.specs.laws.Parts.{apart-together, together-turned}
-use Rattle.path.specs.laws.Steps.{tree-path-turned, path-short}
+use Rattle.graph.proofs.laws.Parts.{apart-together, together-turned}
+use Rattle.path.proofs.laws.Steps.{tree-path-turned, path-short}
 use Rattle.path_search.specs.Spread.{far, hops_to, KnownTo, KnownWithin}
 
 -- THE FRONT OF A BUFFER by a rule

@@ -4,7 +4,7 @@ use mathlib.Core.Path.{◌≡◌}
 use mathlib.Core.Logic.{◌≢◌}
 use mathlib.Core.Bool.{Bool, true, false}
 use Rattle.base.specs.None.{none}
-use Rattle.base.specs.laws.Cond.{eqb_same, eqb-diff}
+use Rattle.base.proofs.laws.Cond.{eqb_same, eqb-diff}
 use Rattle.graph.specs.Graph.{Graph}
 use Rattle.graph.specs.Between.{across, later_of}
 

@@ -10,19 +10,19 @@ use mathlib.Core.List.{List, [], ◌∷◌, ◌++◌, append-nil}
 use lib.ListN.{length, get_or, drop, set, length-append}
 use lib.Dec.{eqb}
 use lib.Seq.{append_snoc}
-use Rattle.base.specs.laws.Cond.{cond_has}
-use Rattle.base.specs.laws.Sets.{front-set}
+use Rattle.base.proofs.laws.Cond.{cond_has}
+use Rattle.base.proofs.laws.Sets.{front-set}
 use Rattle.base.specs.None.{none}
 use Rattle.base.specs.Limits.{max_modules, max_links}
 use Rattle.graph.specs.Between.{across, later_of, latest_from}
 use Rattle.graph.specs.Parts.{SamePart}
-use Rattle.graph.specs.laws.Ways.{joins-lt}
-use Rattle.graph.specs.laws.Between.{across-joins}
+use Rattle.graph.proofs.laws.Ways.{joins-lt}
+use Rattle.graph.proofs.laws.Between.{across-joins}
 use Rattle.plan.specs.Links.{graph_of, Plan, modules_of}
 use Rattle.plan.specs.Weights.{earlier}
-use Rattle.plan.specs.laws.Accepted.{Accepted}
+use Rattle.plan.proofs.laws.Accepted.{Accepted}
 use Rattle.path.specs.Between.{tree_path, worst_on}
-use Rattle.path.specs.laws.Steps.{Next, path_steps}
+use Rattle.path.proofs.laws.Steps.{Next, path_steps}
 use Rattle.path_search.specs.Spread.{hops_to, head_or, LinksTo}
 
 -- a latest link so far, or none yet

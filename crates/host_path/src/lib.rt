@@ -1,4 +1,6 @@
 // Paths in the tree for a host: the path between two modules with its worst link, and the modules within some branches of one.
+#![tactic(auto)]
+
 ghost use Rattle.std.specs.Prelude.{◌-◌, ◌<◌, ◌≤◌, min, ◌≡◌, ◌⊎◌, ◌++◌, length, get_or, drop, eqb, not};
 ghost use Rattle.base.specs.Cond.{bit};
 ghost use Rattle.base.specs.None.{none};

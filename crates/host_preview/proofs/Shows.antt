@@ -15,7 +15,7 @@ use Rattle.field_place.specs.Posted.{sends_by, Posted}
 use Rattle.field_verdict.specs.declared.Verdict.{Verdict}
 use Rattle.preview.specs.declared.Previewed.{Previewed}
 use Rattle.preview.specs.Preview.{not_shown, shown}
-use Rattle.preview.specs.laws.Outcomes.{preview-refused, preview-short, preview-shown}
+use Rattle.preview.proofs.laws.Outcomes.{preview-refused, preview-short, preview-shown}
 use Rattle.host_preview.specs.Previews.{Showable, Previews}
 
 module _ (p : Plan) (marks : List ℕ) (v : ℕ) (d : Verdict) (buffer : List ℕ) where

@@ -8,21 +8,21 @@ use mathlib.Core.Bool.{true, false}
 use mathlib.Core.List.{List, []}
 use lib.ListN.{length}
 use Rattle.base.specs.Loop.{After}
-use Rattle.base.specs.laws.Cond.{by-eq}
+use Rattle.base.proofs.laws.Cond.{by-eq}
 use Rattle.plan.specs.Links.{Plan}
 use Rattle.node.specs.Work.{Work}
 use Rattle.field.specs.State.{State, posted}
 use Rattle.field.specs.Step.{wake_work, wake, serve_work, serve, step}
 use Rattle.field.specs.Held.{Held, state_of, valid, step_alone}
-use Rattle.field.specs.laws.Step.{wake-is-step, hand-is-step, serve-is-step, other-is-54, alone-31, alone-step}
+use Rattle.field.proofs.laws.Step.{wake-is-step, hand-is-step, serve-is-step, other-is-54, alone-31, alone-step}
 use Rattle.field_calls.specs.Trail.{step_taken, served_word, sends_at}
 use Rattle.field_words.specs.Hands.{handable}
 use Rattle.field_words.proofs.Outcomes.{hand-is}
 use Rattle.field_verdict.specs.declared.Verdict.{Verdict}
 use Rattle.field_verdict.specs.Verdict.{Decided}
 use Rattle.preview.specs.Preview.{not_shown, shown, would_send, preview}
-use Rattle.preview.specs.laws.Outcomes.{preview-refused}
-use Rattle.preview.specs.laws.Claim.{hand-shows-none}
+use Rattle.preview.proofs.laws.Outcomes.{preview-refused}
+use Rattle.preview.proofs.laws.Claim.{hand-shows-none}
 use Rattle.host_preview.specs.Previews.{Showable, VerdictOf}
 
 -- what was decided can be shown, whatever the step

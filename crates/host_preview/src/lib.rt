@@ -1,4 +1,6 @@
 // A step is shown to a host before it is taken: its answer, and the words that it would send at the front of a lent buffer. Nothing else is written.
+#![tactic(auto)]
+
 ghost use Rattle.std.specs.Prelude.{◌≤◌, ◌≡◌};
 ghost use Rattle.base.specs.Limits.{max_links};
 ghost use Rattle.plan.specs.Links.{links_of};

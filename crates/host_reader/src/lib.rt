@@ -1,11 +1,13 @@
 // The schedule reader: the lent bytes and a place in them, the number of the step that is read next.
 // The borrow checker covers no function over such a struct, so `open`, `left` and `next` are proved by hand; the work is in the functions on bytes.
+#![tactic(auto)]
+
 ghost use Rattle.std.specs.Prelude.{◌≡◌};
 ghost use Rattle.host_reader.specs.Reader.{left_from, step_from, place_after, opened, left_of, read_of};
 
 use field_calls::Step;
 
-#[derive(Drop)]
+#[derive(Clone, Copy)]
 pub struct Schedule<'a> {
     pub bytes: &'a [u8],
     pub at: usize,

@@ -9,9 +9,9 @@ use lib.Seq.{length-take-le}
 use lib.Dec.{eqb}
 use borrow.Author.Tests.{eq-eqb, ne_eqb}
 use Rattle.base.specs.Loop.{After, then, loop}
-use Rattle.base.specs.laws.Loop.{then-on, then-off, loop-keeps}
+use Rattle.base.proofs.laws.Loop.{then-on, then-off, loop-keeps}
 use Rattle.plan.specs.Links.{Plan, modules_of, links_of}
-use Rattle.plan.specs.laws.Accepted.{Accepted}
+use Rattle.plan.proofs.laws.Accepted.{Accepted}
 use Rattle.field.specs.State.{State}
 use Rattle.field.specs.Step.{in_air, in_queue, hand, serve}
 use Rattle.base.specs.Keep.{many}

@@ -1,4 +1,6 @@
 // A run of rounds over a field.
+#![tactic(auto)]
+
 mod air;
 mod queue;
 mod round;

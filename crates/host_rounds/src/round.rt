@@ -10,7 +10,7 @@ use field_serve::Done;
 use plan::Plan;
 
 // done: rounds completed. last: what the last one answered and left.
-#[derive(Drop)]
+#[derive(Clone, Copy)]
 pub struct WentRounds {
     pub done: u16,
     pub last: Done,

@@ -12,7 +12,7 @@ use Rattle.field.specs.declared.Field.{Field}
 use Rattle.field.specs.Step.{step}
 use Rattle.field.specs.Held.{Held, valid, step_alone}
 use Rattle.field.specs.Held as H
-use Rattle.field.specs.laws.Step.{alone-31, alone-step}
+use Rattle.field.proofs.laws.Step.{alone-31, alone-step}
 use Rattle.field_calls.specs.Schedule.{schedule_refusal, schedule_run}
 use Rattle.field_calls.specs.Call.{refused_run, laid_back, run_bytes}
 use Rattle.field_check.specs.declared.Checked.{Checked}

@@ -1,4 +1,6 @@
 // A step given alone, and a run of a schedule, over a field. 31 is checked first, and once.
+#![tactic(auto)]
+
 mod steps;
 
 ghost use Rattle.std.specs.Prelude.{◌≡◌};

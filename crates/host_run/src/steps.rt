@@ -10,7 +10,7 @@ use field_serve::Done;
 use plan::Plan;
 
 // done: steps done. last: what the last one answered and left.
-#[derive(Drop)]
+#[derive(Clone, Copy)]
 pub struct WentSteps {
     pub done: usize,
     pub last: Done,

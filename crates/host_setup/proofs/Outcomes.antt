@@ -9,7 +9,7 @@ use Rattle.base.specs.Loop.{After}
 use Rattle.plan.specs.Links.{Plan, links_of}
 use Rattle.plan.specs.Trimmed.{trimmed}
 use Rattle.plan.specs.Refusal.{plan_refusal}
-use Rattle.plan.specs.laws.Accepted.{accepted}
+use Rattle.plan.proofs.laws.Accepted.{accepted}
 use Rattle.base.specs.Limits.{max_links}
 use Rattle.field.specs.Edges.{ceiling_of}
 use Rattle.field.specs.Held.{Held, fresh, blank_field, set_up}

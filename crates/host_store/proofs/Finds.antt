@@ -8,14 +8,14 @@ use mathlib.Core.Bool.{Bool, true, false, cond, not, ◌&&◌, and-eq-true_iff}
 use mathlib.Core.List.{List}
 use lib.ListN.{length, take, drop}
 use borrow.Author.Tests.{eq-eqb, ne_eqb, not-false}
-use Rattle.base.specs.laws.Cond.{eqb-cases}
-use Rattle.base.specs.laws.Refuse.{or_else-zero}
+use Rattle.base.proofs.laws.Cond.{eqb-cases}
+use Rattle.base.proofs.laws.Refuse.{or_else-zero}
 use Rattle.store.specs.declared.FoundPoint.{FoundPoint}
 use Rattle.store.specs.declared.Spot.{Spot}
 use Rattle.store.specs.Names.{name_fits, is_named, spot_of, holds, shown_part}
 use Rattle.store.specs.Reading.{record_fits}
 use Rattle.store.specs.Calls.{store_fits, find_refusal, find_point, part_at}
-use Rattle.store.specs.laws.Outcomes.{find-refusal}
+use Rattle.store.proofs.laws.Outcomes.{find-refusal}
 use Rattle.store_records.specs.Spots.{spot-fits}
 use Rattle.store_records.specs.Fit.{held_fits}
 

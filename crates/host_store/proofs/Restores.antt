@@ -12,7 +12,7 @@ use Rattle.field.specs.Edges.{ceiling_of}
 use Rattle.field.specs.Held.{Held, layout, blank_field}
 use Rattle.host_setup.specs.declared.NewField.{NewField}
 use Rattle.store.specs.Calls.{find_refusal, find_point, point_of, restore_refusal, restore_point}
-use Rattle.store.specs.laws.Outcomes.{find-refusal}
+use Rattle.store.proofs.laws.Outcomes.{find-refusal}
 
 -- what the code answers, with the words that it leaves
 abbrev answered : NewField → List ℕ → After Held

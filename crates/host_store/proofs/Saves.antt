@@ -10,8 +10,8 @@ use lib.Dec.{leb}
 use borrow.Author.Tests.{lt-ltb, le-ltb, leb-true}
 use Rattle.base.specs.Loop.{taken_to, refused_by, answering}
 use Rattle.base.specs.Limits.{max_words}
-use Rattle.plan.specs.laws.Ceiling.{ceiling-small}
-use Rattle.plan.specs.laws.Accepted.{accepted}
+use Rattle.plan.proofs.laws.Ceiling.{ceiling-small}
+use Rattle.plan.proofs.laws.Accepted.{accepted}
 use Rattle.field.specs.Valid.{all_of, waiting_in}
 use Rattle.field.specs.Held.{Held, state_of, valid}
 use Rattle.field_laws.specs.Fits.{FieldFits, fits-facts}
@@ -22,7 +22,7 @@ use Rattle.store.specs.Layout.{record_bytes, record_size}
 use Rattle.store.specs.Calls.{store_fits, saved, save_refusal, save_point}
 use Rattle.store_records.specs.Walk.{all-records, joined-append, laid-back, used-fits}
 use Rattle.store_records.specs.Spots.{lengths, without-keeps, comes}
-use Rattle.store_field.specs.laws.Sizes.{record-size, record-with}
+use Rattle.store_field.proofs.laws.Sizes.{record-size, record-with}
 use Rattle.store_field.proofs.Bytes.{part-back}
 
 -- the record of the name has left, the new one comes behind the others

@@ -1,7 +1,9 @@
 // Named points for a host: a field is saved in a lent store under a name, found there as a part of the store, and restored. The store is not copied.
+#![tactic(auto)]
+
 ghost use Rattle.std.specs.Prelude.{◌+◌, ◌<◌, ◌≤◌, ◌≡◌, true, ◌++◌, ◌∷◌, [], length};
 ghost use Rattle.base.specs.Limits.{max_words};
-ghost use Rattle.plan.specs.laws.Accepted.{Accepted};
+ghost use Rattle.plan.proofs.laws.Accepted.{Accepted};
 ghost use Rattle.field.specs.Edges.{ceiling_of};
 ghost use Rattle.field.specs.Held.{layout, field_from, held_from};
 ghost use Rattle.store.specs.Records.{records_in, joined, stored};

@@ -1,3 +1,2 @@
 -- What a delivery answers, as C has it.
 pub mod Answered
-pub mod laws

@@ -1,4 +1,6 @@
 // Cues from C: a cue is started, a copy is delivered. The records are lent as a slice, so both exports are proved by hand.
+#![tactic(auto)]
+
 ghost use Rattle.std.specs.Prelude.{◌≡◌};
 ghost use Rattle.cue.specs.Calls.{start_cue};
 ghost use Rattle.library_cue.specs.Answered.{in_numbers, deliver_in_numbers};
@@ -23,7 +25,7 @@ pub extern "C" fn muruapy_cue_start_value(
 
 // What a delivery answers: the refusal or 0, and 1 if the copy was heard.
 #[repr(C)]
-#[derive(Drop)]
+#[derive(Clone, Copy)]
 pub struct Answered {
     pub refusal: u32,
     pub heard: u32,

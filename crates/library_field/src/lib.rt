@@ -1,5 +1,7 @@
 // Fields from C: setup, 31 by itself, a step, a run of a schedule, a run of rounds. A field is lent in its parts; the inline functions of
 // include/muruapy.h pass them.
+#![tactic(auto)]
+
 ghost use Rattle.std.specs.Prelude.{◌≡◌, cond, length};
 ghost use Rattle.field.specs.Held.{valid, step_alone, field_from, held_from};
 ghost use Rattle.field.specs.Valid.{waiting_in};

@@ -1,4 +1,6 @@
 // The whole job from C, and the report as text in a lent buffer. A field is lent in its parts, as in library_field.
+#![tactic(auto)]
+
 ghost use Rattle.std.specs.Prelude.{◌≡◌};
 ghost use Rattle.format_text.specs.Put.{page, put};
 ghost use Rattle.text_report.specs.Text.{report_text};

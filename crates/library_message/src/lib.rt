@@ -1,4 +1,6 @@
 // Messages from C: header bytes, frames, waiting words. include/muruapy.h declares all of it.
+#![tactic(auto)]
+
 ghost use Rattle.std.specs.Prelude.{◌≡◌};
 ghost use Rattle.format_message.specs.Header.{header_from, kind_at, level_at, find_at};
 ghost use Rattle.format_message.specs.Listed.{listed};

@@ -1,4 +1,6 @@
 // Paths in the tree from C. include/muruapy.h declares all of it.
+#![tactic(auto)]
+
 ghost use Rattle.std.specs.Prelude.{◌≡◌};
 ghost use Rattle.path.specs.Between.{path_between};
 ghost use Rattle.path.specs.Near.{mark_near};

@@ -1,4 +1,6 @@
 // Plans from C: checked, read, written, their costs, their ceiling, their tree. include/muruapy.h declares all of it.
+#![tactic(auto)]
+
 ghost use Rattle.std.specs.Prelude.{◌≡◌};
 ghost use Rattle.base.specs.Ceiling.{ceiling};
 ghost use Rattle.plan.specs.Refusal.{plan_refusal};

@@ -1,4 +1,6 @@
 // Previews from C: what a step would answer and send. A field is lent in its parts.
+#![tactic(auto)]
+
 ghost use Rattle.std.specs.Prelude.{◌≡◌};
 ghost use Rattle.preview.specs.Preview.{preview};
 ghost use Rattle.field.specs.Held.{held_from};

@@ -1,5 +1,7 @@
 // Schedules from C: the check of any bytes, how many steps they have, the step at any place. The two functions that have a schedule
 // reader in a local are proved by hand.
+#![tactic(auto)]
+
 ghost use Rattle.std.specs.Prelude.{◌≡◌};
 ghost use Rattle.field_calls.specs.Schedule.{schedule_refusal};
 ghost use Rattle.host_reader.specs.Reader.{left_from, step_from, place_after, opened, left_of};
@@ -25,7 +27,7 @@ pub extern "C" fn muruapy_schedule_steps(bytes: &[u8]) -> usize
 }
 
 // What a reader at a place finds: how many steps are left, the step there, its place after that.
-#[derive(Drop)]
+#[derive(Clone, Copy)]
 pub struct Found {
     pub left: usize,
     pub step: Step,

@@ -1,4 +1,6 @@
 // Named points from C: a field is saved under a name in a lent store, found there, restored. A field is lent in its parts.
+#![tactic(auto)]
+
 ghost use Rattle.std.specs.Prelude.{◌≡◌};
 ghost use Rattle.field.specs.Held.{held_from};
 ghost use Rattle.store.specs.Calls.{save_point, find_point};

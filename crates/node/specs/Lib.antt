@@ -1,3 +1,2 @@
 pub mod Work
 pub mod Rules
-pub mod laws

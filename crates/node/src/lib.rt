@@ -1,4 +1,6 @@
 // The rules of one node (specs/), and its record: document 01's module values and the waking edge, WIDTH numbers. Edges, weights and identity are edge numbers, 65535 for none.
+#![tactic(auto)]
+
 pub const WIDTH: usize = 10;
 
 // A node's status.
@@ -22,7 +24,7 @@ pub const BACK: u32 = 1;
 
 pub const REFUSED: u32 = 32;
 
-#[derive(Drop)]
+#[derive(Clone, Copy)]
 pub struct Node {
     // SN: 0 asleep, 1 Find, 2 Found
     pub status: u16,

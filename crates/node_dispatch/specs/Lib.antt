@@ -1,2 +1,1 @@
 pub mod Receives
-pub mod laws

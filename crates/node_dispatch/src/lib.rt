@@ -1,4 +1,6 @@
 // A node's response to a message, or to a wakeup: the dispatch by the message's kind.
+#![tactic(auto)]
+
 ghost use Rattle.std.specs.Prelude.{◌≡◌, not, ◌&&◌, List, ◌≤◌, eqb};
 ghost use Rattle.base.specs.Limits.{max_links};
 ghost use Rattle.plan.specs.Links.{links_of};
@@ -6,7 +8,7 @@ ghost use Rattle.field.specs.Edges.{own_of, marks_in, limit_of};
 ghost use Rattle.node.specs.Work.{ASLEEP, Send};
 ghost use Rattle.node.specs.Rules.{respond_to, respond, wakes};
 ghost use Rattle.node_response.specs.Response.{Does, Formed, packet_msg, work_of};
-ghost use Rattle.node_joining.specs.laws.Copies.{copies_in};
+ghost use Rattle.node_joining.proofs.laws.Copies.{copies_in};
 ghost use Rattle.node_dispatch.specs.Receives.{Receives, Fresh};
 
 use base::NONE;

@@ -1,4 +1,6 @@
 // One node's own edges: which they are, their marks, the earliest of them, how many there are.
+#![tactic(auto)]
+
 ghost use Rattle.std.specs.Prelude.{◌≡◌, true, cond, ◌&&◌, ◌⊎◌, ◌<◌, ◌≤◌, eqb};
 ghost use Rattle.base.specs.Cond.{bit};
 ghost use Rattle.base.specs.None.{none, before_by};
@@ -15,7 +17,7 @@ use node::{BASIC, BRANCH};
 use plan::Plan;
 
 // Edge edge's mark is to become mark; edge none: no mark changes.
-#[derive(Drop)]
+#[derive(Clone, Copy)]
 pub struct NewMark {
     pub edge: u16,
     pub mark: u8,

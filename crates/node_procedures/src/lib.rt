@@ -1,4 +1,6 @@
 // The paper's procedures, worked out by value: report, test, wakeup, change-root. v is the node, whose response a is so far.
+#![tactic(auto)]
+
 ghost use Rattle.std.specs.Prelude.{◌≡◌, ◌⊎◌, true, List, ℕ, ◌≤◌};
 ghost use Rattle.base.specs.None.{none};
 ghost use Rattle.base.specs.Limits.{max_links};
@@ -47,7 +49,7 @@ fn test_on(k: u16, a: Response) -> Response
         return node_response::refuse(a);
     }
     b.node.test = k;
-    node_response::say(b, node_response::a - test(k, a.node.level, a.node.identity))
+    node_response::say(b, node_response::a_test(k, a.node.level, a.node.identity))
 }
 
 // Procedure test.

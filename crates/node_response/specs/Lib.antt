@@ -1,2 +1,1 @@
 pub mod Response
-pub mod laws

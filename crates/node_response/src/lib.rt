@@ -1,4 +1,6 @@
 // A response worked out by value: what it answers, the new node, at most one new mark, and what it sends.
+#![tactic(auto)]
+
 ghost use Rattle.std.specs.Prelude.{◌≡◌, List, ℕ};
 ghost use Rattle.format_message.specs.Msg.{none, connect, initiate, test, accept, reject, report, change};
 ghost use Rattle.node.specs.Work.{Send, put_back, refused};
@@ -24,7 +26,7 @@ pub const REPORT: u8 = 6;
 pub const CHANGE_ROOT: u8 = 7;
 
 // A message and the own edge that it goes or came by, none for no message.
-#[derive(Drop)]
+#[derive(Clone, Copy)]
 pub struct Packet {
     pub edge: u16,
     pub kind: u8,
@@ -35,7 +37,7 @@ pub struct Packet {
 
 // answer: TAKEN, BACK or REFUSED. copies: 1 if the served message is copied to every other
 // branch. The copies go out first, then first, then second.
-#[derive(Drop)]
+#[derive(Clone, Copy)]
 pub struct Response {
     pub answer: u32,
     pub node: Node,
@@ -69,7 +71,7 @@ pub fn an_initiate(edge: u16, level: u16, identity: u16, find: u8) -> Packet
     }
 }
 
-pub fn a-test(edge: u16, level: u16, identity: u16) -> Packet
+pub fn a_test(edge: u16, level: u16, identity: u16) -> Packet
     ensures { result ≡ packet_for edge (test level identity) }
 {
     Packet {

@@ -1,5 +1,7 @@
 // The responses to Test, Accept, Reject and Report, worked out by value. v is the node, x the message, or j the own edge that it came by
 // where that is all it says, a the response so far.
+#![tactic(auto)]
+
 ghost use Rattle.std.specs.Prelude.{◌≡◌, ◌⊎◌, true, cond, List, ℕ, ◌<◌, ◌≤◌, eqb};
 ghost use Rattle.base.specs.None.{none, before_by};
 ghost use Rattle.base.specs.Limits.{max_links};
@@ -9,7 +11,7 @@ ghost use Rattle.field.specs.Edges.{is_own, own_of, marks_in};
 ghost use Rattle.node.specs.Work.{BASIC, REJECTED, Send};
 ghost use Rattle.node.specs.Rules.{strike, on_test, on_accept, on_reject, child_report, core_report, on_report};
 ghost use Rattle.node_response.specs.Response.{Does};
-ghost use Rattle.node_searching.specs.laws.Searching.{bettered};
+ghost use Rattle.node_searching.proofs.laws.Searching.{bettered};
 
 use base::NONE;
 use field::Marks;

@@ -3,4 +3,3 @@
 pub mod Between
 pub mod Near
 pub mod Claims
-pub mod laws

@@ -8,10 +8,10 @@ use mathlib.Core.Bool.{true}
 use mathlib.Core.List.{List}
 use lib.ListN.{length, get_or, set, length-set}
 use lib.Seq.{get_or-set_same, get_or-set_other}
-use Rattle.base.specs.laws.Cond.{bool_cases, by-eq}
+use Rattle.base.proofs.laws.Cond.{bool_cases, by-eq}
 use Rattle.base.specs.Cond.{bit}
 use Rattle.base.specs.Limits.{max_links}
-use Rattle.base.specs.laws.Table.{get_d_tabulate, length-tabulate}
+use Rattle.base.proofs.laws.Table.{get_d_tabulate, length-tabulate}
 use Rattle.plan.specs.Links.{Plan, links_of}
 use Rattle.plan_tree.specs.Tree.{tree_link, tree_bytes}
 use Rattle.path_search.specs.Spread.{Branches, ListsTree}

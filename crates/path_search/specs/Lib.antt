@@ -1,3 +1,2 @@
 -- What the search keeps in its arrays: branches, hops, links; the laws of its passes.
 pub mod Spread
-pub mod laws

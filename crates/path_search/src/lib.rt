@@ -1,4 +1,6 @@
 // Paths to one node by breadth-first search over the tree's edges: each pass over the branches knows the nodes one hop further.
+#![tactic(auto)]
+
 ghost use Rattle.std.specs.Prelude.{suc, ◌<◌, ◌≤◌, ◌≡◌, true, length, set, replicate};
 ghost use Rattle.base.specs.None.{none};
 ghost use Rattle.base.specs.Limits.{max_modules, max_links};

@@ -4,7 +4,7 @@ use mathlib.Core.Path.{◌≡◌, sym, ◌∙◌}
 use mathlib.Core.Logic.{◌≢◌}
 use lib.Dec.{ltb}
 use Rattle.plan.specs.Links.{Plan}
-use Rattle.plan.specs.laws.Keys.{key-same, key-other}
+use Rattle.plan.proofs.laws.Keys.{key-same, key-other}
 use Rattle.plan.specs.Weights.{cost, reading_sum, among_equal, earlier}
 
 module _ (plan : Plan) (a b x y : ℕ) (p : x ≡ cost plan a) (q : y ≡ cost plan b) where

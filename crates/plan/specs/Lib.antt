@@ -4,4 +4,3 @@ pub mod Weights
 pub mod Refusal
 pub mod Same
 pub mod Trimmed
-pub mod laws

@@ -1,4 +1,6 @@
 // Plans: the plan value, the order of its links, the ceiling.
+#![tactic(auto)]
+
 ghost use Rattle.std.specs.Prelude.{◌≡◌, ◌⊎◌, ◌<◌, ◌≤◌};
 ghost use Rattle.base.specs.Log.{log2};
 ghost use Rattle.base.specs.Limits.{max_links};

@@ -7,10 +7,10 @@ use mathlib.Core.Logic.{◌≢◌}
 use mathlib.Core.Bool.{Bool, true, false}
 use lib.Dec.{ltb}
 use borrow.Author.Tests.{lt-ltb, le-ltb, le-leb, lt-leb, eq-eqb, ne_eqb}
-use Rattle.base.specs.laws.Cond.{bool_cases}
+use Rattle.base.proofs.laws.Cond.{bool_cases}
 use Rattle.base.specs.Limits.{max_modules, max_links, max_reading}
 use Rattle.plan.specs.Links.{Plan, modules_of, links_of, lower_of, higher_of, near_of, far_of}
-use Rattle.plan.specs.laws.Accepted.{Counts, counted}
+use Rattle.plan.proofs.laws.Accepted.{Counts, counted}
 use Rattle.plan.specs.Refusal.{counts_refusal, ascends, in_order, link_verdict, link_refusal, links_refusal, plan_refusal}
 
 -- THE ORDER OF TWO LINKS

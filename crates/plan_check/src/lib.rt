@@ -1,4 +1,6 @@
 // The check of a plan value: N and L, each link.
+#![tactic(auto)]
+
 ghost use Rattle.std.specs.Prelude.{◌≡◌, ◌<◌, ◌≤◌};
 ghost use Rattle.base.specs.Limits.{max_links};
 ghost use Rattle.plan.specs.Links.{links_of};

@@ -1,3 +1,4 @@
+pub mod laws
 pub mod Head
 pub mod Answers
 pub mod Stores

@@ -10,17 +10,17 @@ use lib.Seq.{sets, sets-eq}
 use borrow.Author.Tests.{lt-ltb, le-ltb, ne_eqb}
 use Rattle.base.specs.Limits.{max_links}
 use Rattle.base.specs.Loop.{After, taken_to, answering}
-use Rattle.base.specs.laws.Refuse.{answers-refused}
+use Rattle.base.proofs.laws.Refuse.{answers-refused}
 use Rattle.base.specs.Table.{tabulate}
-use Rattle.base.specs.laws.Table.{length-tabulate, tabulate-next}
-use Rattle.base.specs.laws.Sets.{sets-append}
+use Rattle.base.proofs.laws.Table.{length-tabulate, tabulate-next}
+use Rattle.base.proofs.laws.Sets.{sets-append}
 use Rattle.format_int16.specs.Int16.{put16}
-use Rattle.plan.specs.laws.Accepted.{accepted}
+use Rattle.plan.proofs.laws.Accepted.{accepted}
 use Rattle.plan.specs.Links.{Plan, links_of}
 use Rattle.plan.specs.Refusal.{plan_refusal}
 use Rattle.plan_file.specs.Layout.{plan_numbers, bytes_of, encode}
 use Rattle.plan_file.specs.Writing.{size, write_refusal, write_plan}
-use Rattle.plan_file.specs.laws.Lengths.{bytes_of-append, length-bytes_of, length-encode}
+use Rattle.plan_file.proofs.laws.Lengths.{bytes_of-append, length-bytes_of, length-encode}
 
 -- no number yet, one more, all of them
 module _ (f : ℕ → ℕ) (s : List ℕ) where

@@ -1,17 +1,19 @@
 // Plans as bytes: the reader, its check, the writer.
+#![tactic(auto)]
+
 ghost use Rattle.std.specs.Prelude.{◌≡◌, ◌+◌, ◌*◌, ◌<◌, ◌≤◌, length};
 ghost use Rattle.std.proofs.lemmas.List.Edits.{sets};
 ghost use Rattle.base.specs.Limits.{max_links};
 ghost use Rattle.plan.specs.Links.{links_of};
 ghost use Rattle.plan_file.specs.Layout.{number_at, decode, encode, blank};
-ghost use Rattle.plan_file.specs.laws.Head.{HeadOk};
+ghost use Rattle.plan_file.proofs.laws.Head.{HeadOk};
 ghost use Rattle.plan_file.specs.Reading.{head_refusal, read_refusal, read_plan, Loaded};
 ghost use Rattle.plan_file.specs.Writing.{size, write_plan};
 
 use plan::{NUMBERS, Plan};
 
 // What reading bytes answers: the refusal, or 0 and the plan.
-#[derive(Drop)]
+#[derive(Clone, Copy)]
 pub struct Outcome {
     pub refusal: u32,
     pub plan: Plan,

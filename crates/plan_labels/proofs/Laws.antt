@@ -5,10 +5,10 @@ use mathlib.Core.Bool.{Bool, true}
 use mathlib.Core.List.{List}
 use lib.ListN.{length, get_or}
 use Rattle.base.specs.Table.{tabulate}
-use Rattle.base.specs.laws.Table.{tabulated, tabulate-ext, get_d_tabulate}
+use Rattle.base.proofs.laws.Table.{tabulated, tabulate-ext, get_d_tabulate}
 use Rattle.graph.specs.Graph.{Graph}
 use Rattle.graph.specs.Labels.{rename}
-use Rattle.graph.specs.laws.Labels.{rename-elim}
+use Rattle.graph.proofs.laws.Labels.{rename-elim}
 use Rattle.graph.specs.Decide.{label}
 
 -- a part that joins itself

@@ -1,5 +1,7 @@
 // Labels of parts in an array (quick-find): each node has its part's label, and two parts become one by renaming one of
 // them. The loops over all labels are vectorised.
+#![tactic(auto)]
+
 ghost use Rattle.std.specs.Prelude.{◌≡◌, not, ℕ, ◌<◌, ◌≤◌, length, get_or, eqb};
 ghost use Rattle.base.specs.Cond.{bit};
 ghost use Rattle.base.specs.Sum.{sum};

@@ -7,11 +7,11 @@ use mathlib.Core.Bool.{Bool}
 use mathlib.Core.List.{List}
 use lib.ListN.{length, set}
 use lib.Seq.{get_or-set_same, get_or-set_other}
-use Rattle.base.specs.laws.Cond.{by-eq}
+use Rattle.base.proofs.laws.Cond.{by-eq}
 use Rattle.base.specs.None.{none}
 use Rattle.base.specs.Limits.{max_modules, max_links}
 use Rattle.base.specs.Table.{tabulate}
-use Rattle.base.specs.laws.Table.{length-tabulate, get_d_tabulate}
+use Rattle.base.proofs.laws.Table.{length-tabulate, get_d_tabulate}
 use Rattle.graph.specs.Graph.{Graph}
 use Rattle.graph.specs.Labels.{rename}
 use Rattle.plan_tree.specs.laws.Forest.{Ends, Forest, Joined, joined-coarser, joined-inside, joined-range, joined-forest, grows_then}

@@ -6,7 +6,7 @@ use mathlib.Core.Path.{◌≡◌, sym, ◌∙◌}
 use mathlib.Core.List.{List}
 use lib.ListN.{length, set}
 use lib.Seq.{get_or-set_same, get_or-set_other}
-use Rattle.base.specs.laws.Cond.{by-eq}
+use Rattle.base.proofs.laws.Cond.{by-eq}
 use Rattle.base.specs.Sum.{sum}
 use Rattle.plan_tree.specs.Lent.{at}
 

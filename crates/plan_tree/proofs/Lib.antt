@@ -1,3 +1,4 @@
+pub mod laws
 pub mod Laws
 pub mod Offers
 pub mod Joins

@@ -6,12 +6,12 @@ use mathlib.Core.Logic.{◌≢◌, ◌⊎◌, inl, inr, ⊎_elim}
 use mathlib.Core.List.{List}
 use lib.ListN.{length, set, replicate, length-set, length-replicate, get_or-replicate}
 use lib.Seq.{get_or-set_same, get_or-set_other}
-use Rattle.base.specs.laws.Cond.{by-eq}
+use Rattle.base.proofs.laws.Cond.{by-eq}
 use Rattle.base.specs.None.{none}
 use Rattle.base.specs.Limits.{max_modules, max_links}
 use Rattle.plan.specs.Links.{Plan, lower_of, higher_of, graph_of}
 use Rattle.plan.specs.Weights.{earlier}
-use Rattle.plan.specs.laws.Weights.{order_of}
+use Rattle.plan.proofs.laws.Weights.{order_of}
 use Rattle.plan_tree.specs.laws.Phase.{Leaves, First, sooner, first-bound, first-none, first-skip, first-offer}
 use Rattle.plan_tree.specs.Lent.{at, Firsts}
 

@@ -1,5 +1,7 @@
 // The central builder: Borůvka's algorithm over lent arrays. Each phase finds, for every part, the earliest edge that
 // leaves it; by the cut property that edge is in the tree. No sort is needed.
+#![tactic(auto)]
+
 ghost use Rattle.std.specs.Prelude.{◌≡◌, ◌⊎◌, ℕ, ◌+◌, ◌<◌, ◌≤◌, length, set};
 ghost use Rattle.base.specs.Limits.{max_modules, max_links};
 ghost use Rattle.base.specs.None.{none};

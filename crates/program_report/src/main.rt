@@ -1,5 +1,7 @@
 // The reporting program: reads a plan on standard input, wakes the lowest module of each part, runs rounds to rest and prints the tree that each
 // part has come to. A refused plan prints one line, as "refused 16".
+#![tactic(auto)]
+
 ghost use Rattle.std.specs.Prelude.{◌≡◌};
 ghost use Rattle.format_text.specs.Input.{OfInput};
 ghost use Rattle.format_text.specs.Put.{page, put};

@@ -1,6 +1,8 @@
 // The tracing program: reads a plan and, right behind it, a schedule on standard input, and prints what that led to. It sets the plan up with exactly M
 // words, runs the schedule and prints the run's answer, every module with its marks, every waiting word.
 // A refused plan prints one line, as "refused 16".
+#![tactic(auto)]
+
 ghost use Rattle.std.specs.Prelude.{◌≡◌, length};
 ghost use Rattle.format_text.specs.Input.{OfInput};
 ghost use Rattle.format_text.specs.Put.{page, put};

@@ -3,9 +3,9 @@
 use Rattle.std.specs.Prelude.{ℕ, ◌+◌, ◌≤◌, ◌≡◌, refl, ◌≢◌, ◌⊎◌, List, [], ◌∷◌, ◌++◌}
 use Rattle.std.proofs.Common.{arith, sym, ap, subst, ◌∙◌, inl, inr, ⊎_elim}
 use Rattle.base.specs.Cond.{upd2}
-use Rattle.base.specs.laws.Cond.{upd2-elim, by-eq}
+use Rattle.base.proofs.laws.Cond.{upd2-elim, by-eq}
 use Rattle.base.specs.Pool.{All, sum_l, nil, con}
-use Rattle.base.specs.laws.Pool.{All-app, sum_l-app}
+use Rattle.base.proofs.laws.Pool.{All-app, sum_l-app}
 
 module _ {A : Type 0} where
   -- x is a member
@@ -83,15 +83,15 @@ module _ {A : Type 0} where
   pub mid-bef : {x y : A} (a b : List A) {m : A} → Bef x y (a ++ (m ∷ b)) → Bef x y (m ∷ (a ++ b)) ⊎ ((y ≡ m) × Bef m x (m ∷ (a ++ b)))
   mid-bef [] b h = inl h
   mid-bef (z ∷ a) b (heads h) = ⊎_elim (λ e. inr (e, heads first)) (λ t. inl (tails (heads t))) (in-cons (mid-in a b h))
-  mid-bef (z ∷ a) b (tails t) = ⊎_elim (λ e. lift e) (λ e. inr (e.0, deep e.1)) (mid-bef a b t)
+  mid-bef (z ∷ a) b (tails t) = ⊎_elim (λ e. lift e) (λ e. inr (e.0, deep refl e.1)) (mid-bef a b t)
     where
       lift : {x y m z : A} {l : List A} → Bef x y (m ∷ l) → Bef x y (m ∷ (z ∷ l)) ⊎ ((y ≡ m) × Bef m x (m ∷ (z ∷ l)))
       lift (heads h) = inl (heads (next h))
       lift (tails h) = inl (tails (tails h))
 
-      deep : {x m z : A} {l : List A} → Bef m x (m ∷ l) → Bef m x (m ∷ (z ∷ l))
-      deep (heads h) = heads (next h)
-      deep (tails h) = tails (tails h)
+      deep : {x y m z : A} {l : List A} → y ≡ m → Bef y x (m ∷ l) → Bef m x (m ∷ (z ∷ l))
+      deep e (heads h) = heads (next h)
+      deep {x} {l = l} e (tails h) = tails (tails (subst (λ k. Bef k x l) e h))
 
   pub sum-mid : (f : A → ℕ) (a b : List A) (m : A) → sum_l f (a ++ (m ∷ b)) ≡ sum_l f (m ∷ (a ++ b))
   sum-mid f [] b m = refl
@@ -120,6 +120,7 @@ module _ {A : Type 0} where
   sum-none f (y ∷ l) h = omega (arith, h y first, sum-none f l (λ x i. h x (next i)))
 
   pub all_in : {P : A → Type 0} {x : A} {l : List A} → All P l → In x l → P x
+  all_in nil i = elim i [ ]
   all_in (con h t) first = h
   all_in (con h t) (next i) = all_in t i
 

@@ -2,9 +2,9 @@
 -- `changing-of`, `root-of`), of what is not on a channel (`no-`). The proofs of the steps begin with these.
 use Rattle.std.specs.Prelude.{ℕ, ◌≤◌, ◌<◌, ◌≡◌, refl, ◌≢◌, List, ◌∷◌}
 use Rattle.std.proofs.Common.{arith, sym, ap, subst, ◌∙◌, ⊎_elim}
-use Rattle.base.specs.laws.Cond.{by-eq}
+use Rattle.base.proofs.laws.Cond.{by-eq}
 use Rattle.base.specs.Pool.{sum_l}
-use Rattle.graph.specs.laws.Ways.{flip}
+use Rattle.graph.proofs.laws.Ways.{flip}
 use Rattle.format_message.specs.Msg.{Msg, none, connect, initiate, test, report}
 use Rattle.protocol.specs.Network.{Network, Edge, edge-some, ends-irr}
 use Rattle.protocol.specs.State.{ProtocolState}

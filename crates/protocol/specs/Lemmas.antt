@@ -3,13 +3,13 @@
 use Rattle.std.specs.Prelude.{ℕ, zero, suc, ◌+◌, ◌*◌, ◌≤◌, ◌<◌, ◌≡◌, refl, ◌≢◌, ◌⊎◌, Bool, true, false, not, cond, ◌&&◌, List, [], ◌∷◌, ◌++◌, eqb}
 use Rattle.std.proofs.Common.{arith, sym, ap, subst, ◌∙◌, inl, inr, ⊎_elim}
 use Rattle.base.specs.Cond.{bit, upd, upd2}
-use Rattle.base.specs.laws.Cond.{eqb-cases, eqb_same, eqb-diff, by-eq, upd_same, upd_other, upd2-elim}
+use Rattle.base.proofs.laws.Cond.{eqb-cases, eqb_same, eqb-diff, by-eq, upd_same, upd_other, upd2-elim}
 use Rattle.base.specs.Pool.{sum_l}
-use Rattle.base.specs.laws.Pool.{sum_l-app}
+use Rattle.base.proofs.laws.Pool.{sum_l-app}
 use Rattle.base.specs.Sum.{sum}
-use Rattle.base.specs.laws.Sum.{sum-change, sum-eq, le-sum}
+use Rattle.base.proofs.laws.Sum.{sum-change, sum-eq, le-sum}
 use Rattle.graph.specs.Graph.{Graph, Joins, up, down}
-use Rattle.graph.specs.laws.Ways.{ends_same, ends-two}
+use Rattle.graph.proofs.laws.Ways.{ends_same, ends-two}
 use Rattle.format_message.specs.Msg.{Msg, connect, initiate, test, accept, reject, report, change}
 use Rattle.protocol.specs.Network.{Network, Edge}
 use Rattle.protocol.specs.State.{ProtocolState}

@@ -4,11 +4,11 @@ use Rattle.std.specs.Prelude.{ℕ, ◌≤◌, ◌<◌, ◌≡◌, ◌≢◌, eqb
 use Rattle.std.proofs.Common.{arith}
 use Rattle.std.proofs.Math.Path.{refl}
 use Rattle.std.proofs.Math.Bool.{cond}
-use Rattle.base.specs.laws.Cond.{eqb-cases}
+use Rattle.base.proofs.laws.Cond.{eqb-cases}
 use Rattle.graph.specs.Graph.{Graph, Joins, up, down}
 use Rattle.graph.specs.Order.{Order, InTree}
-use Rattle.graph.specs.laws.Ways.{joins-lt, ends-diff}
-use Rattle.graph.specs.laws.Rank.{rank-bound, rank_in, rank_in-inj}
+use Rattle.graph.proofs.laws.Ways.{joins-lt, ends-diff}
+use Rattle.graph.proofs.laws.Rank.{rank-bound, rank_in, rank_in-inj}
 use Rattle.format_message.specs.Msg.{none}
 
 pub record Network : Type 0 where

@@ -2,7 +2,7 @@
 use Rattle.std.specs.Prelude.{ℕ, suc, ◌≤◌, ◌<◌, ◌≡◌, ◌≢◌, ◌⊎◌}
 use Rattle.base.specs.Pool.{sum_l}
 use Rattle.base.specs.Names.{FIND, FOUND, BASIC, BRANCH}
-use Rattle.graph.specs.laws.Size.{part_size}
+use Rattle.graph.proofs.laws.Size.{part_size}
 use Rattle.format_message.specs.Msg.{Msg, none, initiate, report}
 use Rattle.protocol.specs.Network.{Network, Edge, key, rank}
 use Rattle.protocol.specs.State.{ProtocolState}

@@ -3,18 +3,18 @@ pub use Rattle.std.specs.Prelude.{ℕ, zero, suc, ◌+◌, ◌-◌, ◌*◌, ◌
 pub use Rattle.std.proofs.Common.{arith, sym, ap, subst, ◌∙◌, inl, inr, ⊎_elim}
 pub use Rattle.std.proofs.Math.Path.{fun_ext}
 pub use Rattle.base.specs.Cond.{bit}
-pub use Rattle.base.specs.laws.Cond.{by-eq, bool_cases, eqb_same, eqb-diff, upd-elim, upd_same, upd_other, upd2-elim}
+pub use Rattle.base.proofs.laws.Cond.{by-eq, bool_cases, eqb_same, eqb-diff, upd-elim, upd_same, upd_other, upd2-elim}
 unfoldable pub use Rattle.base.specs.Cond.{upd, upd2}
-unfoldable pub use Rattle.base.specs.laws.Cond.{eqb-cases}
+unfoldable pub use Rattle.base.proofs.laws.Cond.{eqb-cases}
 pub use Rattle.base.specs.Pool.{All, sum_l, nil, con}
-pub use Rattle.base.specs.laws.Pool.{All-app, sum_l-app}
+pub use Rattle.base.proofs.laws.Pool.{All-app, sum_l-app}
 pub use Rattle.base.specs.Sum.{sum}
-pub use Rattle.base.specs.laws.Sum.{sum-le, sum-eq, sum-add, le-sum}
-pub use Rattle.base.specs.laws.Search.{strong}
+pub use Rattle.base.proofs.laws.Sum.{sum-le, sum-eq, sum-add, le-sum}
+pub use Rattle.base.proofs.laws.Search.{strong}
 pub use Rattle.graph.specs.Graph.{Graph, Joins, up, down, Way, stop, go}
-pub use Rattle.graph.specs.laws.Ways.{joins-lt, flip, ends-two, ends_same, way-append, edge-way, wider}
-pub use Rattle.graph.specs.laws.Cut.{cut-rank}
-pub use Rattle.graph.specs.laws.Size.{size_mono}
+pub use Rattle.graph.proofs.laws.Ways.{joins-lt, flip, ends-two, ends_same, way-append, edge-way, wider}
+pub use Rattle.graph.proofs.laws.Cut.{cut-rank}
+pub use Rattle.graph.proofs.laws.Size.{size_mono}
 pub use Rattle.format_message.specs.Msg.{Msg, none, connect, initiate, test, accept, reject, report, change}
 pub use Rattle.protocol.specs.Network.{Network, Edge, Tree, rank, key-none, key-edge, rank_lt, rank-inj, edge-some, ends-irr, ends-key, ends-rank, end_lt}
 unfoldable pub use Rattle.protocol.specs.Network.{key}

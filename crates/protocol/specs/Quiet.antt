@@ -1,11 +1,11 @@
 -- THE QUIET LEMMA: where both core ends of an undecided fragment are informed and Found, nobody in it is due, so nobody is Find (`no_due`, `no-find`).
 use Rattle.std.specs.Prelude.{ℕ, ◌<◌, ◌≡◌, refl, ◌≢◌}
 use Rattle.std.proofs.Common.{arith, sym, ap, subst, ◌∙◌, inl, inr, ⊎_elim}
-use Rattle.base.specs.laws.Cond.{by-eq}
-use Rattle.base.specs.laws.Sum.{le-sum}
-use Rattle.base.specs.laws.Search.{strong}
+use Rattle.base.proofs.laws.Cond.{by-eq}
+use Rattle.base.proofs.laws.Sum.{le-sum}
+use Rattle.base.proofs.laws.Search.{strong}
 use Rattle.graph.specs.Graph.{Way, stop, go}
-use Rattle.graph.specs.laws.Ways.{joins-lt, flip, ends-two}
+use Rattle.graph.proofs.laws.Ways.{joins-lt, flip, ends-two}
 use Rattle.protocol.specs.Network.{Network, Edge}
 use Rattle.protocol.specs.State.{ProtocolState}
 use Rattle.protocol.specs.Lemmas.{joined-both}

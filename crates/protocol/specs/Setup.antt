@@ -2,9 +2,9 @@
 use Rattle.std.proofs.Common.{zero-le, arith, sym}
 use Rattle.std.specs.Prelude.{refl}
 use Rattle.base.specs.Pool.{nil}
-use Rattle.base.specs.laws.Sum.{sum-zero}
-use Rattle.graph.specs.laws.Size.{size-start}
-use Rattle.graph.specs.laws.Ways.{here}
+use Rattle.base.proofs.laws.Sum.{sum-zero}
+use Rattle.graph.proofs.laws.Size.{size-start}
+use Rattle.graph.proofs.laws.Ways.{here}
 use Rattle.protocol.specs.Network.{Network, edge-some}
 use Rattle.protocol.specs.State.{setup_state}
 use Rattle.protocol.specs.Chan.{in-nil, bef-nil}

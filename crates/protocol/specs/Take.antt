@@ -2,7 +2,7 @@
 use Rattle.std.specs.Prelude.{ℕ, ◌≤◌, ◌≡◌, refl, List, [], ◌∷◌}
 use Rattle.std.proofs.Common.{arith, sym, ap, subst, ◌∙◌, inl, inr, ⊎_elim}
 use Rattle.base.specs.Cond.{upd2}
-use Rattle.base.specs.laws.Cond.{upd2-elim}
+use Rattle.base.proofs.laws.Cond.{upd2-elim}
 use Rattle.base.specs.Pool.{sum_l}
 use Rattle.format_message.specs.Msg.{Msg, test, accept, reject}
 use Rattle.protocol.specs.Network.{Network}

@@ -3,7 +3,7 @@ use Rattle.std.specs.Prelude.{ℕ, ◌≡◌, refl}
 use Rattle.std.proofs.Common.{sym, ap, ◌∙◌}
 use Rattle.std.proofs.Math.Path.{fun_ext}
 use Rattle.base.specs.Cond.{upd}
-use Rattle.base.specs.laws.Cond.{upd-elim}
+use Rattle.base.proofs.laws.Cond.{upd-elim}
 use Rattle.format_message.specs.Msg.{none}
 use Rattle.protocol.specs.Network.{Network}
 use Rattle.protocol.specs.State.{ProtocolState, set-st, set-lev, set-id, set-bw, set-be, set-te, set-ib, set-fc}

@@ -3,13 +3,13 @@
 use Rattle.std.specs.Prelude.{ℕ, ◌<◌, ◌≡◌, refl, ◌≢◌, ◌⊎◌, List, ◌∷◌, ◌++◌, length}
 use Rattle.std.proofs.Common.{arith, sym, ◌∙◌, inl, inr, ⊎_elim}
 use Rattle.std.proofs.Math.Path.{ap}
-use Rattle.base.specs.laws.Cond.{by-eq}
+use Rattle.base.proofs.laws.Cond.{by-eq}
 use Rattle.base.specs.Log.{log2}
 use Rattle.format_message.specs.Msg.{Msg, none, connect, initiate, test, accept, reject, report, change}
 use Rattle.node.specs.declared.Node.{Node}
 use Rattle.node.specs.Work.{Own, Work, start, put_back, earliest, any_edge}
 use Rattle.node.specs.Rules.{wakeup, wakes, respond, respond_to, on_connect, on_initiate, on_test, on_accept, on_reject, on_report, change_root}
-use Rattle.node.specs.laws.Rules.{wake-alone, wake-edge, awake-wakes, awake-is, asleep-not}
+use Rattle.node.proofs.laws.Rules.{wake-alone, wake-edge, awake-wakes, awake-is, asleep-not}
 use Rattle.protocol.specs.Prelude.{Network, Edge, flip, end_lt, ends-irr, ProtocolState, Idle, Blocked, Inv, Rouse, pop, pop-head}
 use Rattle.protocol.specs.Step.{back}
 use Rattle.protocol_invariant.specs.Safe.{to-sleeper}

@@ -3,13 +3,13 @@ use Rattle.std.specs.Prelude.{ℕ, ◌+◌, ◌≤◌, ◌<◌, ◌≡◌, refl,
 use Rattle.std.proofs.Common.{arith, sym, ap, ap₂, subst, ◌∙◌, inl, inr}
 use Rattle.std.proofs.Math.Decide.{dec_le}
 use Rattle.std.proofs.Math.Logic.{by_cases}
-use Rattle.base.specs.laws.Cond.{by-eq, upd_same}
+use Rattle.base.proofs.laws.Cond.{by-eq, upd_same}
 use Rattle.base.specs.Log.{log2}
 use Rattle.format_message.specs.Msg.{Msg, connect, initiate}
 use Rattle.node.specs.Work.{Work, BRANCH, put_back, with_node, set_mark, set_count, degree, Own, send}
 use Rattle.node.specs.Rules.{join_over, count_up, on_connect}
 use Rattle.node.specs.Rules as N
-use Rattle.node.specs.laws.Rules.{count-rises, absorb-find, absorb-found, core-answers, connect-absorbed, connect-waits, connect-core}
+use Rattle.node.proofs.laws.Rules.{count-rises, absorb-find, absorb-found, core-answers, connect-absorbed, connect-waits, connect-core}
 use Rattle.protocol.specs.Prelude.{Network, ProtocolState, SmallStep, Blocked, pop-head, pop, absorbed}
 use Rattle.protocol.specs.Step.{absorb, core-reply}
 use Rattle.protocol_invariant.specs.Safe.{reply-le}

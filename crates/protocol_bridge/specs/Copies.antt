@@ -6,13 +6,13 @@ use Rattle.std.proofs.Math.Path.{ap, fun_ext}
 use Rattle.std.proofs.Math.Logic.{inl, inr, ⊎_elim}
 use Rattle.std.proofs.Math.Bool.{true≢false}
 use Rattle.base.specs.Cond.{bit, upd2}
-use Rattle.base.specs.laws.Cond.{bool_cases, by-eq, upd2-elim}
+use Rattle.base.proofs.laws.Cond.{bool_cases, by-eq, upd2-elim}
 use Rattle.base.specs.Sum.{sum}
-use Rattle.base.specs.laws.Sum.{sum-eq}
-use Rattle.graph.specs.laws.Ways.{joins-lt}
+use Rattle.base.proofs.laws.Sum.{sum-eq}
+use Rattle.graph.proofs.laws.Ways.{joins-lt}
 use Rattle.format_message.specs.Msg.{Msg}
 use Rattle.node.specs.Work.{Own, Send, number, on_each}
-use Rattle.node.specs.laws.Count.{number-sum, each_number}
+use Rattle.node.proofs.laws.Count.{number-sum, each_number}
 use Rattle.protocol.specs.Network.{Network}
 use Rattle.protocol.specs.Step.{fan}
 use Rattle.protocol.specs.Lemmas.{fan-elim}

@@ -1,7 +1,7 @@
 -- A response that small steps carry out: what is placed so far (`At`), and the steps to its end (`Fin`; `fin-step`, `fin-last`).
 use Rattle.std.specs.Prelude.{ℕ, ◌+◌, ◌≡◌, ◌≢◌, List, [], ◌∷◌, length}
 use Rattle.std.proofs.Common.{arith, sym, ap, subst, ◌∙◌, length-append}
-use Rattle.base.specs.laws.Cond.{upd_same}
+use Rattle.base.proofs.laws.Cond.{upd_same}
 use Rattle.format_message.specs.Msg.{Msg}
 use Rattle.node.specs.declared.Node.{Node}
 use Rattle.node.specs.Work.{Work, Send, start, with_node, set_mark, set_status, set_best, set_test, set_count, set_halted, send}

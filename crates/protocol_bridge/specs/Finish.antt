@@ -2,11 +2,11 @@
 use Rattle.std.specs.Prelude.{ℕ, suc, ◌≡◌, refl, ◌≢◌, ◌⊎◌, true, length}
 use Rattle.std.proofs.Common.{arith, sym, ap, ap₂, ◌∙◌, inl, inr, ⊎_elim, eq-eqb, eqb-true}
 use Rattle.base.specs.Cond.{upd}
-use Rattle.base.specs.laws.Cond.{by-eq}
+use Rattle.base.proofs.laws.Cond.{by-eq}
 use Rattle.format_message.specs.Msg.{none, connect, test, report, change}
 use Rattle.node.specs.Work.{Work, FOUND, BRANCH, basic, with_node, set_mark, set_status, set_test, earliest, send}
 use Rattle.node.specs.Rules.{do_report, do_test, change_root}
-use Rattle.node.specs.laws.Rules.{report-counts, report-tests, report-sends, test-over, test-sends, root_told, root-connects}
+use Rattle.node.proofs.laws.Rules.{report-counts, report-tests, report-sends, test-over, test-sends, root_told, root-connects}
 use Rattle.protocol.specs.Network.{Network, Edge, edge-some}
 use Rattle.protocol.specs.State.{ProtocolState, set-te, set-ot, set-op}
 use Rattle.protocol.specs.Step.{test-next, test-none, report-now, report-later, root-branch, root-half, root-merge}

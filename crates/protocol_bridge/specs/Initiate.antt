@@ -4,13 +4,13 @@ use Rattle.std.proofs.Common.{arith, sym, subst, ◌∙◌, inl, inr, length-app
 use Rattle.std.specs.Prelude.{◌≡◌, refl, ◌≢◌, true, cond, List, length, eqb}
 use Rattle.std.proofs.Math.Path.{ap}
 use Rattle.base.specs.Cond.{bit}
-use Rattle.base.specs.laws.Cond.{by-eq, upd_same}
+use Rattle.base.proofs.laws.Cond.{by-eq, upd_same}
 use Rattle.base.specs.Sum.{sum}
 use Rattle.format_message.specs.Msg.{Msg, initiate}
 use Rattle.node.specs.Work.{Work, FIND, FOUND, branches, number, on_each, with_node, set_count, degree}
 use Rattle.node.specs.Work as W
 use Rattle.node.specs.Rules.{told, copies, on_initiate, informed}
-use Rattle.node.specs.laws.Rules.{seek-tests, initiate-find, initiate-found}
+use Rattle.node.proofs.laws.Rules.{seek-tests, initiate-find, initiate-found}
 use Rattle.protocol.specs.Prelude.{Network, ProtocolState, SmallStep, Mode, Place, GC, pop-head, pop, copy, fan, initiated, copy-yes}
 use Rattle.protocol.specs.Step.{tell}
 use Rattle.protocol_invariant.specs.Safe.{initiate-ok}

@@ -2,14 +2,14 @@
 -- (`fc-degree`).
 use Rattle.std.specs.Prelude.{ℕ, ◌≤◌, ◌<◌, ◌≡◌, refl, ◌≢◌, ◌⊎◌, Bool, true, false, ◌&&◌, ◌||◌, eqb}
 use Rattle.std.proofs.Common.{arith, sym, ap, ◌∙◌, inl, inr, ⊎_elim, true≢false, lt-ltb, eq-eqb}
-use Rattle.base.specs.laws.Cond.{eqb-cases, ltb-cases, by-eq}
+use Rattle.base.proofs.laws.Cond.{eqb-cases, ltb-cases, by-eq}
 use Rattle.graph.specs.Graph.{up, down}
-use Rattle.graph.specs.laws.Ways.{joins-lt}
-use Rattle.graph.specs.laws.Rank.{rank-not-earlier, rank_in-lt}
+use Rattle.graph.proofs.laws.Ways.{joins-lt}
+use Rattle.graph.proofs.laws.Rank.{rank-not-earlier, rank_in-lt}
 use Rattle.format_message.specs.Msg.{none}
 use Rattle.node.specs.Work.{before, earliest, any_edge, degree}
-use Rattle.node.specs.laws.Count.{number-sum}
-use Rattle.node.specs.laws.First.{first, before-none, before-edges, none_before}
+use Rattle.node.proofs.laws.Count.{number-sum}
+use Rattle.node.proofs.laws.First.{first, before-none, before-edges, none_before}
 use Rattle.protocol.specs.Network.{Network, Edge, key, rank, key-none, key-edge, rank_lt}
 use Rattle.protocol.specs.State.{ProtocolState}
 use Rattle.protocol.specs.Inv.{Inv}

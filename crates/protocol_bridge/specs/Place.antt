@@ -3,7 +3,7 @@ use Rattle.std.specs.Prelude.{ℕ, ◌≡◌, ◌≢◌, List, [], ◌∷◌, �
 use Rattle.std.proofs.Math.Path.{refl, fun_ext}
 use Rattle.std.proofs.Common.{sym, ap, ◌∙◌}
 use Rattle.base.specs.Cond.{upd, upd2}
-use Rattle.base.specs.laws.Cond.{upd-elim, upd_same, upd_other, upd2-elim}
+use Rattle.base.proofs.laws.Cond.{upd-elim, upd_same, upd_other, upd2-elim}
 use Rattle.format_message.specs.Msg.{Msg}
 use Rattle.node.specs.declared.Node.{Node}
 use Rattle.node.specs.Work.{Work, Send, with_node, set_mark, set_status, set_best, set_test, set_count, set_halted, send}

@@ -2,12 +2,12 @@
 use Rattle.std.specs.Prelude.{ℕ, suc, ◌-◌, ◌<◌, ◌≡◌, refl, ◌≢◌, ◌⊎◌, Bool, false, cond, List, length}
 use Rattle.std.proofs.Common.{arith, sym, ap, ◌∙◌, inl, inr}
 use Rattle.base.specs.Cond.{upd, upd2}
-use Rattle.base.specs.laws.Cond.{by-eq, bool_cases}
-use Rattle.graph.specs.laws.Ways.{joins-lt}
+use Rattle.base.proofs.laws.Cond.{by-eq, bool_cases}
+use Rattle.graph.proofs.laws.Ways.{joins-lt}
 use Rattle.format_message.specs.Msg.{Msg, none, accept, report, change}
 use Rattle.node.specs.Work.{Work, put_back, before, with_node, set_count, Own}
 use Rattle.node.specs.Rules.{on_accept, on_report, core_report, better, do_report, change_root}
-use Rattle.node.specs.laws.Rules.{child-reports, report-child, report-waits, report-core, core-decides, core-halts, core-edge, core-idle}
+use Rattle.node.proofs.laws.Rules.{child-reports, report-child, report-waits, report-core, core-decides, core-halts, core-edge, core-idle}
 use Rattle.protocol.specs.Prelude.{Network, key, ProtocolState, SmallStep, Blocked, Better, In, pop-head, pop, rooted, bested, set-te, set-op, set-owe, set-fc}
 use Rattle.protocol.specs.Step.{accepted, child-report, core-nothing, core-halt, decide, change-root}
 use Rattle.protocol.specs.Run.{sends}

@@ -3,11 +3,11 @@ use Rattle.std.specs.Prelude.{ℕ, suc, ◌≤◌, ◌<◌, ◌≡◌, refl, ◌
 use Rattle.std.proofs.Common.{arith, sym, ◌∙◌, inl, inr}
 use Rattle.std.proofs.Math.Decide.{dec_le}
 use Rattle.std.proofs.Math.Logic.{by_cases}
-use Rattle.base.specs.laws.Cond.{by-eq, eqb-cases}
+use Rattle.base.proofs.laws.Cond.{by-eq, eqb-cases}
 use Rattle.format_message.specs.Msg.{Msg, test, accept, reject}
 use Rattle.node.specs.Work.{Work, BASIC, REJECTED, put_back, Own}
 use Rattle.node.specs.Rules.{do_test, strike, on_test, on_reject}
-use Rattle.node.specs.laws.Rules.{test-waits, test-accepted, test-crossed, test-rejected}
+use Rattle.node.proofs.laws.Rules.{test-waits, test-accepted, test-crossed, test-rejected}
 use Rattle.protocol.specs.Prelude.{Network, ProtocolState, SmallStep, Blocked, Strike, pop, remarked, set-ot}
 use Rattle.protocol.specs.Step.{accept-test, reject-test, crossed-test, rejected}
 use Rattle.protocol_bridge.specs.Real.{Real, own_p}

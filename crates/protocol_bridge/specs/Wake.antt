@@ -1,11 +1,11 @@
 -- Procedure wakeup as a small step (`wake-fin`).
 use Rattle.std.specs.Prelude.{ℕ, ◌<◌, ◌≡◌, refl, length}
 use Rattle.std.proofs.Common.{arith, ⊎_elim}
-use Rattle.base.specs.laws.Cond.{by-eq}
+use Rattle.base.proofs.laws.Cond.{by-eq}
 use Rattle.format_message.specs.Msg.{connect}
 use Rattle.node.specs.Work.{Work, BRANCH, any_edge, earliest}
 use Rattle.node.specs.Rules.{wakeup}
-use Rattle.node.specs.laws.Rules.{wake-alone, wake-edge}
+use Rattle.node.proofs.laws.Rules.{wake-alone, wake-edge}
 use Rattle.protocol.specs.Network.{Network, edge-some}
 use Rattle.protocol.specs.State.{ProtocolState}
 use Rattle.protocol.specs.Step.{Idle, wake-lone, wake-half, wake-merge}

@@ -4,7 +4,7 @@ use Rattle.protocol.specs.Prelude.{List, ◌∷◌, sum_l, upd, upd_other, upd2,
 use Rattle.protocol.specs.Prelude.{Network, Edge, end_lt, flip, other-end, ProtocolState, Idle, send_over, pop}
 use Rattle.protocol.specs.Prelude.{is_t, is_a, is_y, pop-head, pop-sum, pop-le, snoc, snoc-sum, snoc-here, snoc-else, GL, Inf, Waits, Inv}
 use Rattle.base.specs.Log.{log2}
-use Rattle.graph.specs.laws.Size.{level-two}
+use Rattle.graph.proofs.laws.Size.{level-two}
 use Rattle.protocol_budget.specs.Paid.{Lt, Tries, Links, Paid, lt-else, lt_same, yes_le}
 use Rattle.protocol_budget.specs.Height.{heights-pop, heights-send}
 use Rattle.protocol_search.specs.AcceptTest as A

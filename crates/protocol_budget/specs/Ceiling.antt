@@ -2,11 +2,11 @@
 use Rattle.protocol.specs.Prelude.{ℕ, suc, ◌+◌, ◌*◌, ◌≤◌, ◌<◌, arith, ◌≡◌, refl, sym, ap, ◌∙◌, ◌≢◌, ◌⊎◌, inl, inr, by-eq, sum-le, sum-add, none}
 use Rattle.protocol.specs.Prelude.{Network, end_lt, flip, ProtocolState, SmallStep, setup_state, GL, DK, Inf, Inv, sends, half_of, changing-of, root-of, edge-some}
 use Rattle.base.specs.Log.{log2}
-use Rattle.base.specs.laws.Log.{level-le}
+use Rattle.base.proofs.laws.Log.{level-le}
 use Rattle.base.specs.Ceiling.{ceiling}
-use Rattle.base.specs.laws.Ceiling.{within-ceiling}
-use Rattle.base.specs.laws.Sum.{sum-const}
-use Rattle.graph.specs.laws.Size.{level-one, level-two}
+use Rattle.base.proofs.laws.Ceiling.{within-ceiling}
+use Rattle.base.proofs.laws.Sum.{sum-const}
+use Rattle.graph.proofs.laws.Size.{level-one, level-two}
 use Rattle.protocol_budget.specs.Paid.{Paid}
 use Rattle.protocol_budget.specs.Height.{tb-le}
 use Rattle.protocol_budget.specs.Pick.{sum-times}

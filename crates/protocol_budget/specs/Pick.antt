@@ -2,9 +2,9 @@
 use Rattle.std.specs.Prelude.{ℕ, zero, suc, ◌*◌, ◌≤◌, ◌<◌, ◌≡◌, refl, ◌≢◌, eqb}
 use Rattle.std.proofs.Common.{zero-le, arith, sym, ap, ◌∙◌}
 use Rattle.base.specs.Cond.{bit}
-use Rattle.base.specs.laws.Cond.{by-eq, eqb_same, eqb-diff}
+use Rattle.base.proofs.laws.Cond.{by-eq, eqb_same, eqb-diff}
 use Rattle.base.specs.Sum.{sum}
-use Rattle.base.specs.laws.Sum.{sum-le, sum-swap, le-sum}
+use Rattle.base.proofs.laws.Sum.{sum-le, sum-swap, le-sum}
 
 pub sum-times : (n c : ℕ) (f : ℕ → ℕ) → sum n (λ w. c * f w) ≡ c * sum n f
 sum-times zero c f = omega arith

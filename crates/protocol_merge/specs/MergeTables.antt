@@ -3,7 +3,7 @@ use Rattle.protocol.specs.Prelude.{ℕ, suc, ◌^◌, ◌≤◌, arith, ◌≡�
 use Rattle.protocol.specs.Prelude.{upd, upd-elim, upd2-elim, at2, relabel-cases}
 use Rattle.protocol.specs.Prelude.{Network, Edge, Tree, key, rank, Way, go, way-append, both-joined, joins-lt, flip, same-edge, other-end, end_lt, ProtocolState}
 use Rattle.protocol.specs.Prelude.{Both, Decision, GL, GC, DK, Half, waits-find}
-use Rattle.graph.specs.laws.Size.{part_size, size_mono, level-merge}
+use Rattle.graph.proofs.laws.Size.{part_size, size_mono, level-merge}
 use Rattle.protocol.specs.Fragments.{Ranges, Levels, Sizes, Cores, Sleepers, Markings, Inbounds}
 use Rattle.protocol.specs.Decisions.{Halves, ChangeRoots, Rootings, Finishes}
 use Rattle.protocol.specs.Search.{Parents, LowOk, Kids, Finds, Tests, Weights}

@@ -4,9 +4,9 @@ use Rattle.protocol.specs.Prelude.{ℕ, ◌≤◌, ◌<◌, arith, ◌≡◌, re
 use Rattle.protocol.specs.Prelude.{Msg, connect, initiate, test, accept, reject, report, change, Network, Edge, rank, Way, stop, go, up, down, flip, way-append, edge-way, wider, ProtocolState}
 use Rattle.protocol.specs.Prelude.{In, Blocked, GL, DK, Inv, waits-find}
 use Rattle.std.proofs.Math.Decide.{ℕ_discrete}
-use Rattle.base.specs.laws.Search.{least, Least}
+use Rattle.base.proofs.laws.Search.{least, Least}
 use Rattle.graph.specs.Graph.{Any}
-use Rattle.graph.specs.laws.Ways.{way-reverse}
+use Rattle.graph.proofs.laws.Ways.{way-reverse}
 use Rattle.protocol_stuck.specs.Informed.{Stuck, no-changing, no-rooting, all-inf}
 use Rattle.protocol_stuck.specs.Waiting.{lower, half_meets, half-earlier}
 

@@ -5,7 +5,7 @@ use Rattle.protocol.specs.Prelude.{Network, Edge, Tree, up, down, flip, wider, P
 use Rattle.protocol.specs.Prelude.{sleep-lev, sleep-id, sleep-te, sleep-fc, sleep-halt, sleep-ib}
 use Rattle.std.specs.Prelude.{◌↔◌}
 use Rattle.graph.specs.Parts.{SamePart}
-use Rattle.graph.specs.laws.Ways.{way-reverse}
+use Rattle.graph.proofs.laws.Ways.{way-reverse}
 use Rattle.protocol_stuck.specs.Informed.{Stuck}
 use Rattle.protocol_stuck.specs.Finished.{edge?, part, part-awake, nothing}
 use Rattle.protocol_stuck.specs.Rest.{leaves, tree-branch, other-rejected, level-pos, core-tree, core-halted, halted-core, lone-halted}

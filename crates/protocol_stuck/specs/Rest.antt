@@ -2,8 +2,8 @@
 -- (`core-halted`, `halted-core`). For each part with an awake node.
 use Rattle.protocol.specs.Prelude.{ℕ, ◌≤◌, arith, ◌≡◌, refl, sym, ap, subst, ◌∙◌, ◌≢◌, ◌⊎◌, inl, inr, ⊎_elim, by-eq}
 use Rattle.protocol.specs.Prelude.{none, report, Network, Edge, Tree, Graph, Joins, joins-lt, up, flip, edge-way, Way, stop, go, ProtocolState, GL, GC, Jn, JoinedEdge, Inv, joined-both}
-use Rattle.graph.specs.laws.Cycle.{needed}
-use Rattle.graph.specs.laws.Ways.{way-low-high}
+use Rattle.graph.proofs.laws.Cycle.{needed}
+use Rattle.graph.proofs.laws.Ways.{way-low-high}
 use Rattle.protocol_stuck.specs.Informed.{Stuck}
 use Rattle.protocol_stuck.specs.Finished.{awake-finished, part-awake, nothing}
 

@@ -3,9 +3,9 @@
 use Rattle.protocol.specs.Prelude.{ℕ, zero, suc, ◌-◌, ◌≤◌, ◌<◌, arith, ◌≡◌, refl, sym, ap, ◌∙◌, ◌≢◌, ◌⊎◌, inl, inr, ⊎_elim, by-eq, sum, sum_l, le-sum}
 use Rattle.protocol.specs.Prelude.{none, connect, test, report, Network, Edge, end_lt, up, joins-lt, flip, same-edge, ProtocolState}
 use Rattle.protocol.specs.Prelude.{rank, rank-inj, is_t, is_r, In, some-test, some-report, GL, GC, DK, Inf, Jn, Half, Waits, Inv, down-core, half_of}
-use Rattle.std.proofs.Math.Logic.{Dec·and}
+use Rattle.std.proofs.Math.Logic.Dec
 use Rattle.std.proofs.Math.Decide.{ℕ_discrete}
-use Rattle.base.specs.laws.Search.{best, Best}
+use Rattle.base.proofs.laws.Search.{best, Best}
 use Rattle.protocol_stuck.specs.Informed.{Stuck, no-ans, all-inf, stuck-level, not_low}
 
 -- a sum that is not zero has a term that is not
@@ -49,7 +49,7 @@ module _ {p : Network} {s : ProtocolState} (i : Inv p s) (t : Stuck p s) where
     pub deep : (w : ℕ) → w < p.N → s.fr w ≡ s.fr v → s.st w ≡ 1 → s.dep w ≤ s.dep node
 
   deepest : (v : ℕ) → DK s v ≡ 0 → Inf s v → Deepest v
-  deepest v d h = pick (best F (λ w. Dec·and (ℕ_discrete (s.fr w) (s.fr v)) (ℕ_discrete (s.st w) 1)) low p.N)
+  deepest v d h = pick (best F (λ w. Dec.and (ℕ_discrete (s.fr w) (s.fr v)) (ℕ_discrete (s.st w) 1)) low p.N)
     where
       F : ℕ → Type 0
       F w = (s.fr w ≡ s.fr v) × (s.st w ≡ 1)
@@ -58,7 +58,7 @@ module _ {p : Network} {s : ProtocolState} (i : Inv p s) (t : Stuck p s) where
       low : ℕ → ℕ
       low w = sum p.N s.dep - s.dep w
 
-      pick : ((k : ℕ) → k < p.N → ¬ F k) ⊎ Best F (λ w. Dec·and (ℕ_discrete (s.fr w) (s.fr v)) (ℕ_discrete (s.st w) 1)) low p.N → Deepest v
+      pick : ((k : ℕ) → k < p.N → ¬ F k) ⊎ Best F (λ w. Dec.and (ℕ_discrete (s.fr w) (s.fr v)) (ℕ_discrete (s.st w) 1)) low p.N → Deepest v
       pick (inl n) = let x = find-one v d h in absurd (n x.0 x.1 (x.2, x.3))
       pick (inr b) = record {
         node = b.pick;

@@ -8,4 +8,3 @@ pub mod Calls
 pub mod Tidied
 pub mod Claims
 pub mod Console
-pub mod laws

@@ -1,3 +1,4 @@
+pub mod laws
 pub mod Parts
 pub mod Outcomes
 pub mod Stores

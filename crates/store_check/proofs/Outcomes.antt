@@ -11,11 +11,11 @@ use lib.Dec.{eqb, eqb-suc-suc, eqb-zero-suc}
 use borrow.Author.Tests.{eq-eqb, eqb-true, le-leb}
 use Rattle.base.specs.Limits.{max_words}
 use Rattle.base.specs.Pool.{All}
-use Rattle.base.specs.laws.Cond.{bool_cases, eqb-cases}
+use Rattle.base.proofs.laws.Cond.{bool_cases, eqb-cases}
 use Rattle.plan.specs.Links.{Plan}
 use Rattle.plan.specs.Refusal.{plan_refusal}
 use Rattle.plan_file.specs.Reading.{read_refusal}
-use Rattle.plan_file.specs.laws.RoundTrip.{read-accepted}
+use Rattle.plan_file.proofs.laws.RoundTrip.{read-accepted}
 use Rattle.field.specs.declared.Field.{Field}
 use Rattle.field.specs.Edges.{ceiling_of}
 use Rattle.field.specs.Valid.{all_of, waiting_in, fits}
@@ -28,10 +28,10 @@ use Rattle.store.specs.Names.{name_fits, name_in}
 use Rattle.store.specs.Reading.{plan_bytes, plan_in, behind_plan, numbers_size, words_part, held_in, filled_up, record_fits}
 use Rattle.store_laws.specs.ReadBack.{record-ok}
 use Rattle.store_field.specs.Parts.{cut_mark}
-use Rattle.store_field.specs.laws.Cut.{fits_cut}
+use Rattle.store_field.proofs.laws.Cut.{fits_cut}
 use Rattle.store_check.specs.Seen.{PlanRead, WordsThere}
-use Rattle.store_check.specs.laws.Fitting.{words-room}
-use Rattle.store_check.specs.laws.Zeros.{set_front}
+use Rattle.store_check.proofs.laws.Fitting.{words-room}
+use Rattle.store_check.proofs.laws.Zeros.{set_front}
 use Rattle.store_check.proofs.Parts.{seen-ceiling, words_count}
 
 -- ONE LAW FOR EACH `false`

@@ -8,13 +8,13 @@ use mathlib.Core.List.{List}
 use lib.ListN.{length, get_or, take, drop, length-take, drop_of_length-le, take-append-drop}
 use lib.Seq.{take_all, take-nil, drop-length, length-take-le, take-append_seam}
 use Rattle.base.specs.Limits.{max_words}
-use Rattle.base.specs.laws.Ceiling.{ceiling-most}
-use Rattle.base.specs.laws.Table.{length-tabulate}
+use Rattle.base.proofs.laws.Ceiling.{ceiling-most}
+use Rattle.base.proofs.laws.Table.{length-tabulate}
 use Rattle.format_int16.specs.Int16.{at16}
 use Rattle.plan.specs.Links.{Plan, modules_of, links_of}
-use Rattle.plan.specs.laws.Accepted.{Accepted, accepted}
+use Rattle.plan.proofs.laws.Accepted.{Accepted, accepted}
 use Rattle.plan_file.specs.Reading.{Loaded}
-use Rattle.plan_file.specs.laws.RoundTrip.{read-accepted}
+use Rattle.plan_file.proofs.laws.RoundTrip.{read-accepted}
 use Rattle.field.specs.Edges.{ceiling_of}
 use Rattle.store.specs.Names.{body_in}
 use Rattle.store.specs.Layout.{field_numbers}

@@ -8,7 +8,7 @@ use mathlib.Core.List.{List, ◌∷◌}
 use lib.ListN.{length, take, drop, length-drop}
 use lib.Seq.{length-take-le, drop-drop}
 use lib.Dec.{eqb}
-use Rattle.base.specs.laws.Cond.{bool_cases}
+use Rattle.base.proofs.laws.Cond.{bool_cases}
 use Rattle.field.specs.Valid.{all_of}
 use Rattle.store.specs.declared.Spot.{Spot}
 use Rattle.store.specs.Records.{records_in, joined}

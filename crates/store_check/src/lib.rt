@@ -1,9 +1,11 @@
 // Refusal 76: a record read back into arrays, and whether a record and a whole store pass.
+#![tactic(auto)]
+
 ghost use Rattle.std.specs.Prelude.{◌*◌, ◌≤◌, ◌≡◌, true, not, ◌&&◌, map, length, replicate};
 ghost use Rattle.std.proofs.lemmas.List.Edits.{sets};
 ghost use Rattle.base.specs.Limits.{max_ends};
 ghost use Rattle.plan.specs.Links.{blank};
-ghost use Rattle.plan.specs.laws.Accepted.{Accepted};
+ghost use Rattle.plan.proofs.laws.Accepted.{Accepted};
 ghost use Rattle.plan_file.specs.Reading.{Loaded};
 ghost use Rattle.field.specs.State.{CELLS};
 ghost use Rattle.store.specs.Names.{name_fits, name_in, body_in, holds};

@@ -7,7 +7,7 @@ use Rattle.std.proofs.Math.Bool.{◌&&◌}
 use mathlib.Core.List.{List, [], ◌∷◌, ◌++◌}
 use borrow.Author.Tests.{eq-eqb, ne_eqb, le-leb, le-ltb, leb-true}
 use Rattle.plan.specs.Links.{Plan}
-use Rattle.plan.specs.laws.Accepted.{accepted}
+use Rattle.plan.proofs.laws.Accepted.{accepted}
 use Rattle.field.specs.Edges.{ceiling_of}
 use Rattle.field.specs.State.{State}
 use Rattle.field.specs.Valid.{waiting_in, fits}
@@ -21,7 +21,7 @@ use Rattle.store.specs.Names.{name_fits, holds, shown_part}
 use Rattle.store.specs.Layout.{record_bytes}
 use Rattle.store.specs.Reading.{held_in}
 use Rattle.store.specs.Calls.{store_fits, find_refusal, point_of, restore_refusal, restore_point}
-use Rattle.store.specs.laws.Outcomes.{restore-refusal}
+use Rattle.store.proofs.laws.Outcomes.{restore-refusal}
 use Rattle.store.specs.Tidied.{saved_of}
 use Rattle.store.specs.Claims.{laid_in, GoesOn, ComesBack}
 use Rattle.store_laws.specs.Written.{saved-size, saved_read}

@@ -3,13 +3,13 @@ use Rattle.std.specs.Prelude.{ℕ, zero, suc, ◌+◌, ◌*◌, ◌-◌, ◌/◌
 use Rattle.std.proofs.Common.{arith, sym, ap, ap₂, ◌∙◌}
 use Rattle.base.specs.Limits.{max_modules, max_ends}
 use Rattle.base.specs.Table.{tabulate, upto}
-use Rattle.base.specs.laws.Cond.{ltb-cases}
-use Rattle.base.specs.laws.Table.{get_d_tabulate, tabulate-ext, upto-in, upto-out}
+use Rattle.base.proofs.laws.Cond.{ltb-cases}
+use Rattle.base.proofs.laws.Table.{get_d_tabulate, tabulate-ext, upto-in, upto-out}
 use Rattle.plan.specs.Links.{Plan, modules_of, links_of, plan_numbers, plan_size}
 use Rattle.plan.specs.Same.{Same}
 use Rattle.plan.specs.Trimmed.{padded, trimmed}
-use Rattle.plan.specs.laws.Accepted.{Accepted, accepted}
-use Rattle.plan.specs.laws.Trimmed.{trimmed-same}
+use Rattle.plan.proofs.laws.Accepted.{Accepted, accepted}
+use Rattle.plan.proofs.laws.Trimmed.{trimmed-same}
 use Rattle.field.specs.declared.Field.{Field}
 use Rattle.field.specs.State.{WIDTH, CELLS}
 use Rattle.field.specs.Valid.{waiting_in}

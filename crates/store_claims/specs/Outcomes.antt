@@ -2,14 +2,14 @@
 use Rattle.std.specs.Prelude.{ℕ, ◌≤◌, ◌≡◌, refl, ◌⊎◌, true, cond, not, ◌&&◌, List, length, ltb}
 use Rattle.std.proofs.Common.{arith, sym, ◌∙◌, inl, inr, ltb-false}
 use Rattle.base.specs.Refuse.{or_else}
-use Rattle.base.specs.laws.Cond.{eqb-cases, cond_has}
-use Rattle.base.specs.laws.Refuse.{or_else-zero, first_refusal-zero}
+use Rattle.base.proofs.laws.Cond.{eqb-cases, cond_has}
+use Rattle.base.proofs.laws.Refuse.{or_else-zero, first_refusal-zero}
 use Rattle.field.specs.Edges.{ceiling_of}
 use Rattle.field.specs.Held.{Held, layout, valid}
 use Rattle.store.specs.Records.{joined}
 use Rattle.store.specs.Names.{name_fits, holds}
 use Rattle.store.specs.Calls.{store_fits, saved, save_refusal, save_point, find_refusal, find_point, point_of, restore_refusal, restore_point}
-use Rattle.store.specs.laws.Outcomes.{find-refusal, restore-refusal}
+use Rattle.store.proofs.laws.Outcomes.{find-refusal, restore-refusal}
 
 -- 76, 77 and 21 did not apply
 pub record RestoreTaken (name s lent : List ℕ) : Type 0 where

@@ -8,13 +8,13 @@ use mathlib.Core.List.{List, [], ◌∷◌, ◌++◌}
 use Rattle.std.proofs.Math.ListN.{length}
 use Rattle.std.proofs.lemmas.List.{length-replicate}
 use Rattle.base.specs.Cond.{upd}
-use Rattle.base.specs.laws.Cond.{bool_cases, eqb-cases, by-eq}
+use Rattle.base.proofs.laws.Cond.{bool_cases, eqb-cases, by-eq}
 use Rattle.base.specs.Loop.{After, taken_to}
 use Rattle.base.specs.Refuse.{or_else, first_refusal}
 use Rattle.base.specs.Pool.{All, nil, con}
 use Rattle.base.specs.Test.{same_list}
 use Rattle.plan.specs.Links.{Plan}
-use Rattle.plan.specs.laws.Numbers.{plan-number}
+use Rattle.plan.proofs.laws.Numbers.{plan-number}
 use Rattle.plan.specs.Refusal.{plan_refusal}
 use Rattle.plan.specs.Trimmed.{trimmed}
 use Rattle.field.specs.Edges.{ceiling_of}

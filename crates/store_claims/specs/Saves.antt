@@ -10,11 +10,11 @@ use Rattle.base.specs.Loop.{After, taken_to}
 use Rattle.base.specs.Pool.{All, nil, con}
 use Rattle.base.specs.Refuse.{or_else, first_refusal}
 use Rattle.base.specs.Test.{same_list}
-use Rattle.base.specs.laws.Cond.{bool_cases}
-use Rattle.base.specs.laws.Pool.{All-app, All-one}
-use Rattle.base.specs.laws.Refuse.{or_else-zero}
+use Rattle.base.proofs.laws.Cond.{bool_cases}
+use Rattle.base.proofs.laws.Pool.{All-app, All-one}
+use Rattle.base.proofs.laws.Refuse.{or_else-zero}
 use Rattle.plan.specs.Trimmed.{trimmed}
-use Rattle.plan.specs.laws.Trimmed.{trimmed-same}
+use Rattle.plan.proofs.laws.Trimmed.{trimmed-same}
 use Rattle.field.specs.Edges.{ceiling_of}
 use Rattle.field.specs.Valid.{waiting_in}
 use Rattle.field.specs.Held.{Held, layout, valid, not_set_up}
@@ -23,7 +23,7 @@ use Rattle.store.specs.Names.{name_fits, is_named, without_first, held_among, ho
 use Rattle.store.specs.Layout.{record_bytes}
 use Rattle.store.specs.Reading.{held_in}
 use Rattle.store.specs.Calls.{store_fits, saved, save_refusal, save_point, find_refusal, find_point, part_at, point_of, restore_refusal, restore_point}
-use Rattle.store.specs.laws.Outcomes.{find-refusal}
+use Rattle.store.proofs.laws.Outcomes.{find-refusal}
 use Rattle.store.specs.Tidied.{tidied, saved_of}
 use Rattle.store.specs.Claims.{SaveLeaves, TakenSaves}
 use Rattle.store_laws.specs.Written.{saved-version, saved-size, saved-name}

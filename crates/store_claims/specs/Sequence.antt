@@ -3,7 +3,7 @@ use Rattle.std.specs.Prelude.{ℕ, ◌+◌, ◌≤◌, ◌≡◌, ◌↔◌, tru
 use Rattle.std.proofs.Common.{arith, ◌∙◌, append-nil}
 use Rattle.std.proofs.Math.Path.{ap}
 use Rattle.std.proofs.Math.ListN.{length, length-append}
-use Rattle.base.specs.laws.Cond.{by-eq}
+use Rattle.base.proofs.laws.Cond.{by-eq}
 use Rattle.field.specs.Held.{Held, valid}
 use Rattle.store.specs.Records.{records_in, joined}
 use Rattle.store.specs.Names.{name_fits, is_named, without_first}

@@ -9,11 +9,11 @@ use Rattle.std.proofs.Math.ListN.{length, length-replicate}
 use borrow.Author.Tests.{leb-true}
 use Rattle.base.specs.Loop.{taken_to}
 use Rattle.base.specs.Pool.{nil}
-use Rattle.base.specs.laws.Cond.{by-eq, cond_has}
+use Rattle.base.proofs.laws.Cond.{by-eq, cond_has}
 use Rattle.plan.specs.Links.{Plan, links_of}
 use Rattle.plan.specs.Same.{Same}
-use Rattle.plan.specs.laws.Accepted.{accepted}
-use Rattle.plan.specs.laws.Ceiling.{ceiling-small}
+use Rattle.plan.proofs.laws.Accepted.{accepted}
+use Rattle.plan.proofs.laws.Ceiling.{ceiling-small}
 use Rattle.field.specs.declared.Field.{Field}
 use Rattle.field.specs.Edges.{ceiling_of}
 use Rattle.field.specs.State.{WIDTH}
@@ -33,7 +33,7 @@ use Rattle.store_laws.specs.Written.{saved-version, saved-size}
 use Rattle.store_laws.specs.Fitting.{saved-bytes}
 use Rattle.store_records.specs.Walk.{laid-back}
 use Rattle.store_records.specs.Fit.{fit_none, stored-fits}
-use Rattle.store.specs.laws.Outcomes.{find-refusal, restore-refusal}
+use Rattle.store.proofs.laws.Outcomes.{find-refusal, restore-refusal}
 use Rattle.store_claims.specs.Saves.{save-passed, save-refused}
 
 -- ---- one layout

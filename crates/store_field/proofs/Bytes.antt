@@ -7,8 +7,8 @@ use mathlib.Core.List.{List, [], ◌∷◌, ◌++◌, append-nil}
 use lib.ListN.{length, get_or, set, take, drop, length-drop, drop_of_length-le}
 use lib.Seq.{sets, take-suc, take_all, length-take-le}
 use Rattle.base.specs.Table.{tabulate}
-use Rattle.base.specs.laws.Table.{length-tabulate, tabulate-next}
-use Rattle.base.specs.laws.Sets.{sets-append}
+use Rattle.base.proofs.laws.Table.{length-tabulate, tabulate-next}
+use Rattle.base.proofs.laws.Sets.{sets-append}
 use Rattle.format_wide.specs.Wide.{bytes64, put64}
 use Rattle.store.specs.Layout.{word_bytes}
 use Rattle.store_laws.specs.Words.{length-words}

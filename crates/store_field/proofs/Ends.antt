@@ -7,7 +7,7 @@ use mathlib.Core.Path.{◌≡◌, refl, ap}
 use mathlib.Core.Bool.{Bool, true, false, cond}
 use mathlib.Core.List.{[], ◌∷◌, ◌++◌, map, map-append}
 use lib.ListN.{length, length-append}
-use Rattle.base.specs.laws.Cond.{by-eq}
+use Rattle.base.proofs.laws.Cond.{by-eq}
 use Rattle.plan.specs.Links.{Plan}
 use Rattle.field.specs.Edges.{is_own, end_of}
 use Rattle.store.specs.Layout.{mark_place, mark_places, module_places, places_below}

@@ -1,3 +1,4 @@
+pub mod laws
 pub mod Ends
 pub mod Runs
 pub mod Standing

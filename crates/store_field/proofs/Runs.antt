@@ -8,11 +8,11 @@ use lib.ListN.{length, length-map, length-append}
 use lib.Seq.{sets}
 use Rattle.base.specs.Limits.{max_modules}
 use Rattle.base.specs.Table.{tabulate}
-use Rattle.base.specs.laws.Table.{length-tabulate, tabulate-next, tabulate-ext}
+use Rattle.base.proofs.laws.Table.{length-tabulate, tabulate-next, tabulate-ext}
 use Rattle.format_int16.specs.Int16.{put16}
 use Rattle.plan.specs.Links.{Plan, links_of}
 use Rattle.plan_file.specs.Layout.{bytes_of}
-use Rattle.plan_file.specs.laws.Lengths.{bytes_of-append, length-bytes_of}
+use Rattle.plan_file.proofs.laws.Lengths.{bytes_of-append, length-bytes_of}
 use Rattle.field.specs.State.{WIDTH, cell_of}
 use Rattle.field.specs.Held.{field_from}
 use Rattle.store.specs.Layout.{entry_at, mark_place, value_places, mark_places, module_places, places}

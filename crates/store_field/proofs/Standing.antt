@@ -10,12 +10,12 @@ use lib.Seq.{get_or-set_same}
 use lib.Dec.{eqb}
 use borrow.Author.Tests.{eq-eqb, ne_eqb}
 use Rattle.base.specs.Cond.{bit}
-use Rattle.base.specs.laws.Cond.{by-eq}
+use Rattle.base.proofs.laws.Cond.{by-eq}
 use Rattle.base.specs.Table.{tabulate}
-use Rattle.base.specs.laws.Table.{length-tabulate}
+use Rattle.base.proofs.laws.Table.{length-tabulate}
 use Rattle.base.specs.Twice.{NoTwice, another}
 use Rattle.plan.specs.Links.{Plan, modules_of, links_of, lower_of, higher_of}
-use Rattle.plan.specs.laws.Accepted.{Accepted}
+use Rattle.plan.proofs.laws.Accepted.{Accepted}
 use Rattle.field.specs.Edges.{is_own, end_of, link_of, from}
 use Rattle.field.specs.State.{WIDTH, cell_of}
 use Rattle.field_laws.specs.Places.{from-own, over-from, from-below}

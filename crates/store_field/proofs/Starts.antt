@@ -10,12 +10,12 @@ use lib.Seq.{get_or-set_same, get_or-set_other}
 use lib.Dec.{eqb}
 use borrow.Author.Tests.{eq-eqb, ne_eqb}
 use Rattle.base.specs.Cond.{bit}
-use Rattle.base.specs.laws.Cond.{bit_le, by-eq}
+use Rattle.base.proofs.laws.Cond.{bit_le, by-eq}
 use Rattle.base.specs.Limits.{max_modules}
 use Rattle.base.specs.Table.{tabulate, upto}
-use Rattle.base.specs.laws.Table.{length-tabulate, get_d_tabulate, tabulated, upto-in}
+use Rattle.base.proofs.laws.Table.{length-tabulate, get_d_tabulate, tabulated, upto-in}
 use Rattle.plan.specs.Links.{Plan, modules_of, links_of}
-use Rattle.plan.specs.laws.Accepted.{Accepted}
+use Rattle.plan.proofs.laws.Accepted.{Accepted}
 use Rattle.field.specs.Edges.{from}
 use Rattle.field.specs.State.{WIDTH, cell_of}
 use Rattle.field_laws.specs.Places.{from-below}

@@ -7,23 +7,23 @@ use mathlib.Core.List.{List, map}
 use lib.ListN.{length, take, drop, replicate, length-append, length-replicate, length-map, length-drop, get_or-replicate, get_or-append}
 use lib.Seq.{get_or-take, get_or-drop, get_or-append-add, length-take-le}
 use Rattle.base.specs.Limits.{max_modules, max_ends}
-use Rattle.base.specs.laws.Cond.{ltb-cases}
-use Rattle.base.specs.laws.Pool.{All-map}
+use Rattle.base.proofs.laws.Cond.{ltb-cases}
+use Rattle.base.proofs.laws.Pool.{All-map}
 use Rattle.base.specs.Table.{tabulate, upto}
-use Rattle.base.specs.laws.Table.{tabulated, upto-in, upto-out}
+use Rattle.base.proofs.laws.Table.{tabulated, upto-in, upto-out}
 use Rattle.plan.specs.Links.{Plan, modules_of, links_of}
-use Rattle.plan.specs.laws.Accepted.{Accepted}
+use Rattle.plan.proofs.laws.Accepted.{Accepted}
 use Rattle.field.specs.Edges.{from}
 use Rattle.field.specs.State.{WIDTH, CELLS, cell_of}
 use Rattle.field.specs.Held.{fresh_cells}
-use Rattle.field.specs.laws.Held.{fresh-length}
+use Rattle.field.proofs.laws.Held.{fresh-length}
 use Rattle.store.specs.Layout.{places, places_below}
 use Rattle.store.specs.Reading.{number_in, fresh_entries, entries_in, field_in}
 use Rattle.store_laws.specs.Places.{places-apart, places-inside}
 use Rattle.store_laws.specs.Pour.{poured-keeps, poured-length}
 use Rattle.store_field.specs.Ends.{ends_below, cell_number, mark_number, entry}
 use Rattle.store_field.specs.Parts.{cut_mark}
-use Rattle.store_field.specs.laws.Cut.{entry-cut}
+use Rattle.store_field.proofs.laws.Cut.{entry-cut}
 use Rattle.store_field.proofs.Standing.{stands-poured, cell-stands, mark-stands}
 
 fresh-long : length fresh_entries ≡ CELLS + max_ends

@@ -1,11 +1,13 @@
 // A record's bytes in code: a field's numbers and waiting words written in their order, and read back into arrays.
+#![tactic(auto)]
+
 ghost use Rattle.std.specs.Prelude.{◌+◌, ◌*◌, ◌/◌, ◌<◌, ◌≤◌, ◌≡◌, ◌∷◌, map, ◌++◌, length, set, replicate};
 ghost use Rattle.std.proofs.lemmas.List.Edits.{sets};
 ghost use Rattle.base.specs.Limits.{max_modules, max_links, max_ends, max_words};
 ghost use Rattle.base.specs.Table.{tabulate, upto};
 ghost use Rattle.format_wide.specs.Wide.{bytes32};
 ghost use Rattle.plan.specs.Links.{modules_of, links_of};
-ghost use Rattle.plan.specs.laws.Accepted.{Accepted};
+ghost use Rattle.plan.proofs.laws.Accepted.{Accepted};
 ghost use Rattle.plan_file.specs.Layout.{bytes_of};
 ghost use Rattle.field.specs.Edges.{from};
 ghost use Rattle.field.specs.State.{WIDTH, CELLS, cell_of};

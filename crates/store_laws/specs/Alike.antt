@@ -8,8 +8,8 @@ use mathlib.Core.List.{List, ◌++◌}
 use Rattle.std.proofs.Math.Dec.{leb}
 use borrow.Author.Tests.{le-ltb}
 use Rattle.base.specs.Test.{every}
-use Rattle.base.specs.laws.Cond.{bool_cases, ltb-cases}
-use Rattle.base.specs.laws.Test.{every-ext}
+use Rattle.base.proofs.laws.Cond.{bool_cases, ltb-cases}
+use Rattle.base.proofs.laws.Test.{every-ext}
 use Rattle.plan.specs.Links.{Plan, modules_of, links_of}
 use Rattle.plan.specs.Same.{Same}
 use Rattle.node.specs.declared.Node.{Node}
@@ -17,7 +17,7 @@ use Rattle.node.specs.Work.{REJECTED, number, any_edge, degree}
 use Rattle.field.specs.Edges.{is_own, end_of, own_of}
 use Rattle.field.specs.State.{State, node_at}
 use Rattle.field.specs.Valid.{all_of, word_fits, node_fits, fits}
-use Rattle.field.specs.laws.Edges.{own_below}
+use Rattle.field.proofs.laws.Edges.{own_below}
 use Rattle.store.specs.Layout.{value_places, mark_places, places_below, places}
 
 module _ {p q : Plan} (e : Same p q) where

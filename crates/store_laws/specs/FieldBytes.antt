@@ -9,23 +9,23 @@ use mathlib.Core.List.{List, [], ◌∷◌, map}
 use Rattle.std.proofs.Math.ListN.{get_or, get_or-append}
 use Rattle.std.proofs.lemmas.List.{get_or-replicate, length-replicate, length-map}
 use Rattle.std.proofs.Math.Seq.{get_or-take, get_or-drop}
-use Rattle.base.specs.laws.Cond.{ltb-cases}
+use Rattle.base.proofs.laws.Cond.{ltb-cases}
 use Rattle.base.specs.Limits.{max_modules, max_ends, AllBytes}
 use Rattle.base.specs.Pool.{All}
-use Rattle.base.specs.laws.Pool.{All-map}
+use Rattle.base.proofs.laws.Pool.{All-map}
 use Rattle.base.specs.Table.{tabulate, upto}
-use Rattle.base.specs.laws.Table.{tabulated, tabulate-ext, upto-in, upto-out}
-use Rattle.format_wide.specs.laws.Wide.{at16-behind}
+use Rattle.base.proofs.laws.Table.{tabulated, tabulate-ext, upto-in, upto-out}
+use Rattle.format_wide.proofs.laws.Wide.{at16-behind}
 use Rattle.plan.specs.Links.{Plan, modules_of, links_of}
-use Rattle.plan.specs.laws.Accepted.{Accepted}
+use Rattle.plan.proofs.laws.Accepted.{Accepted}
 use Rattle.plan.specs.Trimmed.{trimmed}
 use Rattle.plan_file.specs.Layout.{bytes_of, number_at}
-use Rattle.plan_file.specs.laws.Numbers.{number_of, bytes-numbers}
-use Rattle.plan.specs.laws.Trimmed.{trimmed-same}
+use Rattle.plan_file.proofs.laws.Numbers.{number_of, bytes-numbers}
+use Rattle.plan.proofs.laws.Trimmed.{trimmed-same}
 use Rattle.field.specs.declared.Field.{Field}
 use Rattle.field.specs.State.{WIDTH, CELLS}
 use Rattle.field.specs.Held.{fresh_cells, field_from}
-use Rattle.field.specs.laws.Held.{fresh-length}
+use Rattle.field.proofs.laws.Held.{fresh-length}
 use Rattle.store.specs.Layout.{mark_place, entry_at, places, field_numbers}
 use Rattle.store.specs.Reading.{number_in, poured, fresh_entries, entries_in, field_in}
 use Rattle.store.specs.Tidied.{tidied}

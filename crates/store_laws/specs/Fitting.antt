@@ -9,26 +9,26 @@ use Rattle.std.proofs.Math.ListN.{length, get_or, length-append}
 use Rattle.base.specs.Ceiling.{ceiling}
 use Rattle.base.specs.Limits.{max_modules, max_ends, AllBytes}
 use Rattle.base.specs.Pool.{All, nil, con}
-use Rattle.base.specs.laws.Pool.{All-map, All-app}
+use Rattle.base.proofs.laws.Pool.{All-map, All-app}
 use Rattle.base.specs.Table.{upto}
-use Rattle.base.specs.laws.Table.{get_d_tabulate, upto-in}
+use Rattle.base.proofs.laws.Table.{get_d_tabulate, upto-in}
 use Rattle.format_wide.specs.Wide.{bytes32}
-use Rattle.format_wide.specs.laws.Wide.{four_bytes}
+use Rattle.format_wide.proofs.laws.Wide.{four_bytes}
 use Rattle.plan.specs.Links.{Plan, modules_of, links_of}
 use Rattle.plan.specs.Refusal.{plan_refusal}
-use Rattle.plan.specs.laws.Accepted.{Accepted, accepted}
-use Rattle.plan.specs.laws.Ceiling.{level-small, ceiling-small}
-use Rattle.plan.specs.laws.Same.{same_taken}
+use Rattle.plan.proofs.laws.Accepted.{Accepted, accepted}
+use Rattle.plan.proofs.laws.Ceiling.{level-small, ceiling-small}
+use Rattle.plan.proofs.laws.Same.{same_taken}
 use Rattle.plan.specs.Trimmed.{trimmed}
 use Rattle.plan_file.specs.Layout.{bytes_of, encode}
 use Rattle.plan_file.specs.Reading.{read_refusal}
-use Rattle.plan_file.specs.laws.Numbers.{bytes-of, all-bytes}
-use Rattle.plan.specs.laws.Trimmed.{trimmed-same}
-use Rattle.plan_file.specs.laws.RoundTrip.{written-taken, written-bytes}
+use Rattle.plan_file.proofs.laws.Numbers.{bytes-of, all-bytes}
+use Rattle.plan.proofs.laws.Trimmed.{trimmed-same}
+use Rattle.plan_file.proofs.laws.RoundTrip.{written-taken, written-bytes}
 use Rattle.node.specs.declared.Node.{Node}
-use Rattle.node.specs.laws.Values.{node-by, values-by}
+use Rattle.node.proofs.laws.Values.{node-by, values-by}
 use Rattle.field.specs.Edges.{own_of, limit_of, ceiling_of}
-use Rattle.field.specs.laws.Edges.{own_below}
+use Rattle.field.proofs.laws.Edges.{own_below}
 use Rattle.field.specs.State.{State, WIDTH, CELLS, values, cell_of, node_in}
 use Rattle.field.specs.Valid.{all_of, waiting_in, fits}
 use Rattle.field.specs.Held.{Held, layout, state_of, valid, fresh_cells}

@@ -8,20 +8,20 @@ use Rattle.std.proofs.Common.{ap, ap₂, subst, ◌∙◌, inr, ⊎_elim, lt-ltb
 use Rattle.std.proofs.Math.Logic.{inl}
 use Rattle.std.proofs.Math.ListN.{length-append}
 use Rattle.base.specs.Cond.{bit}
-use Rattle.base.specs.laws.Cond.{bool_cases, ltb-cases, by-eq}
+use Rattle.base.proofs.laws.Cond.{bool_cases, ltb-cases, by-eq}
 use Rattle.base.specs.Limits.{max_modules, max_ends}
 use Rattle.base.specs.Pool.{All, nil, con}
-use Rattle.base.specs.laws.Pool.{All-map, All-app, All-one}
+use Rattle.base.proofs.laws.Pool.{All-map, All-app, All-one}
 use Rattle.base.specs.Sum.{sum}
-use Rattle.base.specs.laws.Sum.{sum-eq, sum-add, sum-const, sum-swap, sum_one}
+use Rattle.base.proofs.laws.Sum.{sum-eq, sum-add, sum-const, sum-swap, sum_one}
 use Rattle.base.specs.Table.{tabulate}
-use Rattle.base.specs.laws.Table.{length-tabulate}
+use Rattle.base.proofs.laws.Table.{length-tabulate}
 use Rattle.base.specs.Twice.{NoTwice, nobody, another}
 use Rattle.plan.specs.Links.{Plan, modules_of, links_of, lower_of, higher_of}
-use Rattle.plan.specs.laws.Accepted.{Accepted}
+use Rattle.plan.proofs.laws.Accepted.{Accepted}
 use Rattle.field.specs.Edges.{is_own, end_of, link_of, from}
-use Rattle.plan_file.specs.laws.Numbers.{All-tabulate}
-use Rattle.field.specs.laws.Edges.{own-lower, own-higher}
+use Rattle.plan_file.proofs.laws.Numbers.{All-tabulate}
+use Rattle.field.proofs.laws.Edges.{own-lower, own-higher}
 use Rattle.field.specs.State.{WIDTH, CELLS, cell_of}
 use Rattle.field_laws.specs.Places.{link-over, over_below, from-over, from-own, over-from, from-below}
 use Rattle.store.specs.Layout.{mark_place, value_places, mark_places, module_places, places_below, places}

@@ -8,10 +8,10 @@ use Rattle.std.proofs.Math.Path.{refl, ap, ap₂, subst}
 use mathlib.Core.List.{List, [], ◌∷◌, ◌++◌, map}
 use Rattle.std.proofs.Math.ListN.{length, get_or, set, length-set}
 use Rattle.std.proofs.Math.Seq.{get_or-set_same, get_or-set_other}
-use Rattle.base.specs.laws.Cond.{by-eq}
+use Rattle.base.proofs.laws.Cond.{by-eq}
 use Rattle.base.specs.Pool.{All, nil, con}
 use Rattle.base.specs.Table.{tabulate}
-use Rattle.base.specs.laws.Table.{tabulate-ext}
+use Rattle.base.proofs.laws.Table.{tabulate-ext}
 use Rattle.base.specs.Twice.{NoTwice, nobody, another}
 use Rattle.store.specs.Reading.{poured}
 

@@ -12,14 +12,14 @@ use Rattle.std.proofs.Math.Dec.{eqb, leb}
 use borrow.Author.Tests.{eqb-true, eqb-false, leb-true, not-true}
 use Rattle.base.specs.Limits.{AllBytes}
 use Rattle.base.specs.Pool.{All}
-use Rattle.base.specs.laws.Cond.{ltb-cases}
-use Rattle.base.specs.laws.Pool.{All-map}
+use Rattle.base.proofs.laws.Cond.{ltb-cases}
+use Rattle.base.proofs.laws.Pool.{All-map}
 use Rattle.format_int16.specs.Int16.{at16}
 use Rattle.format_wide.specs.Wide.{at32, bytes32}
-use Rattle.format_wide.specs.laws.Wide.{at32-drop, first-four}
-use Rattle.plan.specs.laws.Accepted.{Accepted, accepted}
+use Rattle.format_wide.proofs.laws.Wide.{at32-drop, first-four}
+use Rattle.plan.proofs.laws.Accepted.{Accepted, accepted}
 use Rattle.plan_file.specs.Reading.{read_refusal}
-use Rattle.plan_file.specs.laws.RoundTrip.{read_head, read-accepted, read-written, decode-trimmed}
+use Rattle.plan_file.proofs.laws.RoundTrip.{read_head, read-accepted, read-written, decode-trimmed}
 use Rattle.field.specs.Valid.{all_of, waiting_in}
 use Rattle.field.specs.Held.{valid}
 use Rattle.field_laws.specs.Fits.{all-of}

@@ -5,20 +5,20 @@ use Rattle.std.proofs.Math.Path.{sym, ap, ap₂}
 use mathlib.Core.List.{List}
 use Rattle.std.proofs.Math.ListN.{length, get_or}
 use Rattle.std.proofs.lemmas.List.{length-replicate, get_or-replicate}
-use Rattle.base.specs.laws.Cond.{ltb-cases}
+use Rattle.base.proofs.laws.Cond.{ltb-cases}
 use Rattle.base.specs.Limits.{max_modules, max_ends}
 use Rattle.base.specs.Loop.{After}
 use Rattle.base.specs.Table.{tabulate, upto}
-use Rattle.base.specs.laws.Table.{length-tabulate, get_d_tabulate, tabulated, upto-in, upto-out}
+use Rattle.base.proofs.laws.Table.{length-tabulate, get_d_tabulate, tabulated, upto-in, upto-out}
 use Rattle.plan.specs.Links.{Plan, modules_of, links_of}
 use Rattle.plan.specs.Trimmed.{trimmed}
-use Rattle.plan.specs.laws.Trimmed.{trimmed-again}
+use Rattle.plan.proofs.laws.Trimmed.{trimmed-again}
 use Rattle.node.specs.Work.{Work}
 use Rattle.field.specs.declared.Field.{Field}
 use Rattle.field.specs.State.{State, WIDTH, CELLS, values, put_node, new_mark, put_marks}
 use Rattle.field.specs.Step.{wake_work, serve_work, step}
 use Rattle.field.specs.Held.{Held, fresh_cells, fresh, set_up, field_from}
-use Rattle.field.specs.laws.Held.{fresh-length}
+use Rattle.field.proofs.laws.Held.{fresh-length}
 use Rattle.field_calls.specs.Call.{Call, after}
 use Rattle.field_laws.specs.Places.{sets-out, length-put, length-new, put_marks-at}
 use Rattle.field_laws.specs.Cases.{StepOutcome, took, kept, FieldStep, wake-step, hand-step, serve-step, step-outcome}

@@ -3,12 +3,12 @@ use Rattle.std.specs.Prelude.{ℕ, zero, suc, ◌+◌, ◌*◌, ◌/◌, ◌%◌
 use Rattle.std.proofs.Common.{arith, sym, ap, ap₂, ◌∙◌, take-append-drop, length-append, length-drop, get_or-drop}
 use Rattle.base.specs.Limits.{AllBytes}
 use Rattle.base.specs.Pool.{All, nil, con}
-use Rattle.base.specs.laws.Pool.{All-app}
-use Rattle.base.specs.laws.Keep.{no_length}
+use Rattle.base.proofs.laws.Pool.{All-app}
+use Rattle.base.proofs.laws.Keep.{no_length}
 use Rattle.base.specs.Table.{tabulate}
-use Rattle.base.specs.laws.Table.{tabulate-ext}
+use Rattle.base.proofs.laws.Table.{tabulate-ext}
 use Rattle.format_wide.specs.Wide.{at64, bytes64}
-use Rattle.format_wide.specs.laws.Wide.{eight-back, at64-behind, at64-drop, first-eight, eight-bytes}
+use Rattle.format_wide.proofs.laws.Wide.{eight-back, at64-behind, at64-drop, first-eight, eight-bytes}
 use Rattle.store.specs.Layout.{word_bytes}
 use Rattle.store.specs.Reading.{words_in}
 

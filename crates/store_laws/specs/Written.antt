@@ -7,16 +7,16 @@ use mathlib.Core.List.{List, [], ◌∷◌, ◌++◌, append_assoc}
 use Rattle.std.proofs.Math.ListN.{length, take, drop, length-append, length-map}
 use Rattle.std.proofs.Math.Seq.{take-append_seam, drop-append_seam, take_at}
 use Rattle.format_int16.specs.Int16.{at16}
-use Rattle.format_int16.specs.laws.Int16.{bytes-join}
+use Rattle.format_int16.proofs.laws.Int16.{bytes-join}
 use Rattle.format_wide.specs.Wide.{bytes32}
-use Rattle.format_wide.specs.laws.Wide.{four-back, at32-behind}
+use Rattle.format_wide.proofs.laws.Wide.{four-back, at32-behind}
 use Rattle.plan.specs.Links.{Plan, modules_of, links_of}
-use Rattle.plan.specs.laws.Accepted.{Accepted}
+use Rattle.plan.proofs.laws.Accepted.{Accepted}
 use Rattle.plan.specs.Trimmed.{trimmed}
 use Rattle.plan_file.specs.Layout.{bytes_of, encode, decode}
-use Rattle.plan_file.specs.laws.Lengths.{length-bytes_of, length-encode}
-use Rattle.plan.specs.laws.Trimmed.{trimmed-same}
-use Rattle.plan_file.specs.laws.RoundTrip.{decode-encode}
+use Rattle.plan_file.proofs.laws.Lengths.{length-bytes_of, length-encode}
+use Rattle.plan.proofs.laws.Trimmed.{trimmed-same}
+use Rattle.plan_file.proofs.laws.RoundTrip.{decode-encode}
 use Rattle.field.specs.Valid.{waiting_in}
 use Rattle.field.specs.Held.{Held}
 use Rattle.store.specs.Records.{size_at}

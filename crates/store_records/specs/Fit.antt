@@ -6,8 +6,8 @@ use Rattle.std.proofs.Math.Bool.{and-eq-true_iff}
 use Rattle.std.proofs.Math.Dec.{eqb}
 use Rattle.std.proofs.lemmas.Bool.{not-true}
 use Rattle.base.specs.Pool.{All, nil, con}
-use Rattle.base.specs.laws.Pool.{All-app, All-one}
-use Rattle.base.specs.laws.Cond.{bool_cases}
+use Rattle.base.proofs.laws.Pool.{All-app, All-one}
+use Rattle.base.proofs.laws.Cond.{bool_cases}
 use Rattle.field.specs.Valid.{all_of}
 use Rattle.field_laws.specs.Laid.{all-zeros, zeros-all}
 use Rattle.store.specs.Records.{records_in, joined, stored}

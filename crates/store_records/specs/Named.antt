@@ -11,8 +11,8 @@ use Rattle.std.proofs.Math.ListN.{length, drop_of_length-le}
 use Rattle.std.proofs.Math.Seq.{drop-cons}
 use borrow.Author.Tests.{eqb-true, eq-eqb, ne_eqb, not-false}
 use Rattle.base.specs.Pool.{All, nil, con}
-use Rattle.base.specs.laws.Pool.{All-app, All-one}
-use Rattle.base.specs.laws.Cond.{bool_cases, eqb_same}
+use Rattle.base.proofs.laws.Pool.{All-app, All-one}
+use Rattle.base.proofs.laws.Cond.{bool_cases, eqb_same}
 use Rattle.store.specs.Records.{records_in, stored}
 use Rattle.base.specs.Test.{same_list}
 use Rattle.store.specs.Names.{name_in, is_named, without_first, held_among, shown_part}

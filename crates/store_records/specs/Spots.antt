@@ -8,7 +8,7 @@ use Rattle.std.proofs.lemmas.List.{length-replicate, replicate-append-replicate}
 use Rattle.std.proofs.Math.Seq.{take_at, drop-append-add}
 use Rattle.std.proofs.lemmas.List.Edits.{sets, sets-eq}
 use Rattle.base.specs.Pool.{All, nil, con}
-use Rattle.base.specs.laws.Cond.{bool_cases}
+use Rattle.base.proofs.laws.Cond.{bool_cases}
 use Rattle.store.specs.Records.{records_in, joined, stored}
 use Rattle.store.specs.Names.{spot_from, without_first}
 use Rattle.store_records.specs.Walk.{length-joined, joined-append, front-is}

@@ -7,8 +7,8 @@ use Rattle.std.proofs.lemmas.List.{length-replicate}
 use Rattle.std.proofs.Math.ListN.{get_or-append}
 use borrow.Author.Tests.{eqb-true, leb-true, eq-eqb, ne_eqb, le-leb, lt-leb}
 use Rattle.base.specs.Pool.{All, nil, con}
-use Rattle.base.specs.laws.Cond.{bool_cases}
-use Rattle.base.specs.laws.Search.{by-measure}
+use Rattle.base.proofs.laws.Cond.{bool_cases}
+use Rattle.base.proofs.laws.Search.{by-measure}
 use Rattle.format_wide.specs.Wide.{at32}
 use Rattle.store.specs.Records.{size_at, whole, records_by, records_in, joined, stored}
 

@@ -1,4 +1,6 @@
 // The records of a byte store: the walk over them, their names, where a record stands, how one leaves.
+#![tactic(auto)]
+
 ghost use Rattle.std.specs.Prelude.{◌≤◌, ◌≡◌, ◌++◌, length, get_or, drop, replicate, eqb};
 ghost use Rattle.field.specs.Valid.{all_of};
 ghost use Rattle.store.specs.Records.{records_in, joined, stored};

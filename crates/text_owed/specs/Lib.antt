@@ -1,4 +1,3 @@
 pub mod Reported
 pub mod Traced
 pub mod Tree
-pub mod laws

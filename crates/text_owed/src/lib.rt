@@ -1,4 +1,6 @@
 // What the two programs owe of the bytes that they read (specs/Reported, specs/Traced), and the plan's part of them.
+#![tactic(auto)]
+
 ghost use Rattle.std.specs.Prelude.{◌≡◌};
 ghost use Rattle.text_owed.specs.Traced.{plan_part};
 

@@ -1,3 +1,2 @@
 pub mod Total
 pub mod Text
-pub mod laws

@@ -1,4 +1,6 @@
 // The report of a field, line by line, put into a lent buffer.
+#![tactic(auto)]
+
 ghost use Rattle.std.specs.Prelude.{min, ◌<◌, ◌≤◌, ◌≡◌, cond, []};
 ghost use Rattle.base.specs.Limits.{max_modules, max_links};
 ghost use Rattle.graph.specs.Parts.{lowest};

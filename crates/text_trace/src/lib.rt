@@ -1,4 +1,6 @@
 // The trace of a run, line by line, put into a lent buffer: its answer, every module with its marks, every waiting word.
+#![tactic(auto)]
+
 ghost use Rattle.std.specs.Prelude.{◌<◌, ◌≤◌, ◌≡◌};
 ghost use Rattle.base.specs.Limits.{max_modules, max_links};
 ghost use Rattle.plan.specs.Links.{modules_of, links_of};

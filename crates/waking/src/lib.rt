@@ -1,1 +1,2 @@
 // Who woke whom: what is claimed of the waking links (specs/Claim), and proved (specs/laws).
+#![tactic(auto)]

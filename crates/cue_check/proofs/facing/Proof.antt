@@ -3,8 +3,8 @@ use native.Mathlib.Omega.{arith}
 use mathlib.Core.Path.{ap, ◌∙◌}
 use borrow.Author.Rules.{rules}
 use Rattle.field.specs.Edges.{dest}
-use Rattle.field.specs.laws.Edges.{own_below}
-use Rattle.cue_check.specs.laws.Within.{end-within}
+use Rattle.field.proofs.laws.Edges.{own_below}
+use Rattle.cue_check.proofs.laws.Within.{end-within}
 use Rattle.cue_check.proofs.facing.Statement.{statement}
 use Rattle.cue_check.proofs.facing.Tie as tie
 

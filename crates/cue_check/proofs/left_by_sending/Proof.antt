@@ -10,7 +10,7 @@ use Rattle.base.specs.Cond.{bit}
 use Rattle.base.specs.Limits.{max_modules}
 use Rattle.cue.specs.declared.Cue.{Cue}
 use Rattle.cue.specs.Calls.{right_at, is_sender}
-use Rattle.cue_check.specs.laws.Right.{record-read, right-read, Passed, passed_start, passed_on, passed-stops, passed_over}
+use Rattle.cue_check.proofs.laws.Right.{record-read, right-read, Passed, passed_start, passed_on, passed-stops, passed_over}
 use Rattle.cue_check.proofs.left_by_sending.Statement.{statement}
 use Rattle.cue_check.proofs.left_by_sending.Tie as tie
 

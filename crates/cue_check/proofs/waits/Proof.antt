@@ -5,7 +5,7 @@ use lib.ListN.{length}
 use borrow.Author.Rules.{rules}
 use Rattle.base.specs.Limits.{max_modules}
 use Rattle.cue.specs.Record.{record_of}
-use Rattle.cue_check.specs.laws.Right.{record-read, waits-read}
+use Rattle.cue_check.proofs.laws.Right.{record-read, waits-read}
 use Rattle.cue_check.proofs.waits.Statement.{statement}
 use Rattle.cue_check.proofs.waits.Tie as tie
 

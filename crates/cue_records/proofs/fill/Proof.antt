@@ -53,7 +53,7 @@ use Rattle.cue.specs.Record.{unheard}
 use Rattle.cue.specs.contracts.Cue as T
 use Rattle.cue.proofs.Cue.TheLaws as T'
 use Rattle.cue_records.specs.Written.{written}
-use Rattle.cue_records.specs.laws.Written.{written_next, length-written, written-fill}
+use Rattle.cue_records.proofs.laws.Written.{written_next, length-written, written-fill}
 use Rattle.cue_records.specs.contracts.fill.Key.{name as #cue-records·fill}
 use Rattle.cue_records.specs.contracts.fill as fill
 use Rattle.cue_records.proofs.fill.Statement as stated

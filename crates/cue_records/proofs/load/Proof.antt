@@ -62,7 +62,7 @@ use Rattle.cue.specs.Record.{unheard}
 use Rattle.cue.specs.contracts.Cue as T
 use Rattle.cue.proofs.Cue.TheLaws as T'
 use Rattle.cue_records.specs.Written.{written}
-use Rattle.cue_records.specs.laws.Written.{written_next, length-written}
+use Rattle.cue_records.proofs.laws.Written.{written_next, length-written}
 use Rattle.cue_records.specs.contracts.blank as blank
 use Rattle.cue_records.proofs.blank.Symbol as blank-def
 use Rattle.cue_records.proofs.blank.Symbol.{name as #cue-records·blank}

@@ -13,8 +13,8 @@ use Rattle.cue.specs.Record.{record_of, heard_record}
 use Rattle.cue_laws.specs.NetOf.{net_of}
 use Rattle.cue_laws.specs.HopsBelow.{hops-below}
 use Rattle.field_laws.specs.Places.{from-below}
-use Rattle.cue_check.specs.laws.Right.{record-read}
-use Rattle.cue_verdict.specs.laws.Verdict.{by_copy, by-none}
+use Rattle.cue_check.proofs.laws.Right.{record-read}
+use Rattle.cue_verdict.proofs.laws.Verdict.{by_copy, by-none}
 use Rattle.cue_verdict.proofs.arriving.Statement.{statement}
 use Rattle.cue_verdict.proofs.arriving.Tie as tie
 

@@ -4,8 +4,8 @@ use mathlib.Core.Path.{sym, ap, ◌∙◌}
 use borrow.Author.Rules.{rules}
 use Rattle.cue.specs.declared.Delivery.TheVariants.{Refused}
 use Rattle.cue.specs.Record.{unheard}
-use Rattle.cue.specs.laws.Refusals.{ready-accepted, delivery-facts}
-use Rattle.cue_verdict.specs.laws.Verdict.{hearing-refused, hearing-goes}
+use Rattle.cue.proofs.laws.Refusals.{ready-accepted, delivery-facts}
+use Rattle.cue_verdict.proofs.laws.Verdict.{hearing-refused, hearing-goes}
 use Rattle.cue_verdict.proofs.decide.Statement.{statement}
 use Rattle.cue_verdict.proofs.decide.Tie as tie
 

@@ -3,7 +3,7 @@ use Prim.Native.Nat.{ℕ}
 use mathlib.Core.Path.{sym, ap₂, ◌∙◌}
 use borrow.Author.Rules.{rules}
 use Rattle.cue.specs.declared.Cue.{Cue}
-use Rattle.cue_verdict.specs.laws.Verdict.{opening-refused, opening-goes}
+use Rattle.cue_verdict.proofs.laws.Verdict.{opening-refused, opening-goes}
 use Rattle.cue_verdict.proofs.open.Statement.{statement}
 use Rattle.cue_verdict.proofs.open.Tie as tie
 

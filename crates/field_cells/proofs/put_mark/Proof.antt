@@ -3,7 +3,7 @@ use native.Mathlib.Omega.{arith}
 use mathlib.Core.Path.{sym, ◌∙◌}
 use borrow.Author.Tests.{le-ltb, not-true, not-false}
 use borrow.Author.Rules.{rules}
-use Rattle.field.specs.laws.Edges.{end-small}
+use Rattle.field.proofs.laws.Edges.{end-small}
 use Rattle.field.specs.Edges.{is_own}
 use Rattle.field_cells.specs.Marks.{mark_put}
 use Rattle.field_cells.proofs.put_mark.Statement.{statement}

@@ -9,7 +9,7 @@ use lib.Seq.{length-take-le}
 use borrow.Author.Tests.{not-true, not-false}
 use borrow.Author.Rules.{rules}
 use Rattle.field.specs.Valid.{all_of, fits}
-use Rattle.plan.specs.laws.Accepted.{accepted}
+use Rattle.plan.proofs.laws.Accepted.{accepted}
 use Rattle.field.specs.Held.{held_from}
 use Rattle.field_check.specs.Checked.{state_in}
 use Rattle.field_check.proofs.Outcomes.{checked, valid-plan, valid-few, valid-gap, valid-fits}

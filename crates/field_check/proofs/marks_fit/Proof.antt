@@ -8,7 +8,7 @@ use borrow.Author.Tests.{le-leb, lt-leb}
 use borrow.Author.Rules.{rules}
 use Rattle.node.specs.Work.{REJECTED}
 use Rattle.base.specs.Test.{every}
-use Rattle.base.specs.laws.Test.{every-goes-on, every-stops, every-of-none}
+use Rattle.base.proofs.laws.Test.{every-goes-on, every-stops, every-of-none}
 use Rattle.plan.specs.Links.{links_of}
 use Rattle.field_check.proofs.marks_fit.Statement.{statement}
 use Rattle.field_check.proofs.marks_fit.Tie as tie

@@ -7,7 +7,7 @@ use borrow.Author.Rules.{rules}
 use Rattle.field.specs.Valid.{node_fits}
 use Rattle.field.specs.State.{node_in}
 use Rattle.base.specs.Test.{every}
-use Rattle.base.specs.laws.Test.{every-goes-on, every-stops, every-of-none}
+use Rattle.base.proofs.laws.Test.{every-goes-on, every-stops, every-of-none}
 use Rattle.plan.specs.Links.{modules_of}
 use Rattle.field_check.proofs.nodes_fit.Statement.{statement}
 use Rattle.field_check.proofs.nodes_fit.Tie as tie

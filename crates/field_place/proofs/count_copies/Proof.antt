@@ -6,7 +6,7 @@ use lib.ListN.{length}
 use borrow.Author.Rules.{rules}
 use Rattle.plan.specs.Links.{links_of}
 use Rattle.node.specs.Work.{number, branches}
-use Rattle.node.specs.laws.Count.{each_number}
+use Rattle.node.proofs.laws.Count.{each_number}
 use Rattle.field.specs.Edges.{own_of, marks_in}
 use Rattle.field.specs.State.{msg_in}
 use Rattle.field_place.proofs.Puts.{copies-told, copies-none}

@@ -2,7 +2,7 @@
 use native.Mathlib.Omega.{arith}
 use mathlib.Core.Path.{sym, ap}
 use lib.ListN.{length}
-use Rattle.node_response.specs.laws.Response.{packet-none}
+use Rattle.node_response.proofs.laws.Response.{packet-none}
 use Rattle.field_place.proofs.Parts.{packet-some}
 use Rattle.field_place.proofs.count_packet.Statement.{statement}
 use Rattle.field_place.proofs.count_packet.Tie as tie

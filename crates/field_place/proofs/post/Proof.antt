@@ -9,7 +9,7 @@ use Rattle.base.specs.Limits.{max_links}
 use Rattle.node_response.specs.Response.{packet_msg}
 use Rattle.format_word.specs.Word.{packed}
 use Rattle.format_message.specs.Listed.{Listed}
-use Rattle.node_response.specs.laws.Response.{packet-none}
+use Rattle.node_response.proofs.laws.Response.{packet-none}
 use Rattle.field_place.proofs.Parts.{packet-header, packet-word, packet-some}
 use Rattle.field_place.proofs.Words.{posted-none, posted-one}
 use Rattle.field_place.proofs.post.Statement.{statement}

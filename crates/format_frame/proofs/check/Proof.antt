@@ -2,7 +2,7 @@
 use mathlib.Core.Path.{sym, ap, ◌∙◌}
 use borrow.Author.Rules.{rules}
 use Rattle.format_message.specs.Listed.{listed}
-use Rattle.format_frame.specs.laws.Frame.{by_size, by-version, by_length, by-list, taken}
+use Rattle.format_frame.proofs.laws.Frame.{by_size, by-version, by_length, by-list, taken}
 use Rattle.format_frame.proofs.check.Statement.{statement}
 use Rattle.format_frame.proofs.check.Tie as tie
 

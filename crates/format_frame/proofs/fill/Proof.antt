@@ -1,7 +1,7 @@
 -- format_frame::fill: six stores, one after the other, are the frame's bytes, by `filled`.
 use native.Mathlib.Omega.{arith}
 use lib.ListN.{length-set}
-use Rattle.format_frame.specs.laws.Frame.{filled}
+use Rattle.format_frame.proofs.laws.Frame.{filled}
 use borrow.Author.Rules.{rules}
 use Rattle.format_frame.proofs.fill.Statement.{statement}
 use Rattle.format_frame.proofs.fill.Tie as tie

@@ -2,7 +2,7 @@
 use mathlib.Core.Path.{sym, ap, ◌∙◌}
 use native.Mathlib.Omega.{arith}
 use borrow.Author.Rules.{rules}
-use Rattle.format_frame.specs.laws.Frame.{frame-ok, read-refused, frame-read-taken}
+use Rattle.format_frame.proofs.laws.Frame.{frame-ok, read-refused, frame-read-taken}
 use Rattle.format_frame.proofs.read.Statement.{statement}
 use Rattle.format_frame.proofs.read.Tie as tie
 

@@ -1,7 +1,7 @@
 -- format_frame::write: one law for each return: `write-unlisted`, `write-short`, `write_done`.
 use mathlib.Core.Path.{sym, ◌∙◌}
 use borrow.Author.Tests.{not-true, not-false}
-use Rattle.format_frame.specs.laws.Frame.{write-unlisted, write-short, write_done}
+use Rattle.format_frame.proofs.laws.Frame.{write-unlisted, write-short, write_done}
 use borrow.Author.Rules.{rules}
 use Rattle.format_frame.proofs.write.Statement.{statement}
 use Rattle.format_frame.proofs.write.Tie as tie

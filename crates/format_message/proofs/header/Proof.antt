@@ -2,7 +2,7 @@
 -- (`or-header`, `from-fits`).
 use mathlib.Core.Path.{sym, ◌∙◌}
 use borrow.Author.Rules.{rules}
-use Rattle.format_message.specs.laws.Byte.{or-header, from-fits, from-kind, from-level, from-find}
+use Rattle.format_message.proofs.laws.Byte.{or-header, from-fits, from-kind, from-level, from-find}
 use Rattle.format_message.proofs.header.Statement.{statement}
 use Rattle.format_message.proofs.header.Tie as tie
 

@@ -6,7 +6,7 @@ use mathlib.Core.Path.{◌≡◌, sym, ap, ◌∙◌}
 use lib.ListN.{length, drop, drop_of_length-le}
 use borrow.Author.Rules.{rules}
 use Rattle.format_text.specs.Put.{page, put}
-use Rattle.format_text.specs.laws.Put.{put-none, put-end, put-turn}
+use Rattle.format_text.proofs.laws.Put.{put-none, put-end, put-turn}
 use Rattle.format_text.proofs.put.Statement.{statement}
 use Rattle.format_text.proofs.put.Tie as tie
 

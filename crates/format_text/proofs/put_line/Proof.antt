@@ -1,6 +1,6 @@
 -- format_text::put_line: `put_named`, then the line's end: two puts are one of both texts, by `put_on`.
 use borrow.Author.Rules.{rules}
-use Rattle.format_text.specs.laws.Put.{put_on}
+use Rattle.format_text.proofs.laws.Put.{put_on}
 use Rattle.format_text.proofs.put_line.Statement.{statement}
 use Rattle.format_text.proofs.put_line.Tie as tie
 

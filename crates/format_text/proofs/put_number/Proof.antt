@@ -3,7 +3,7 @@ use native.Mathlib.Omega.{arith}
 use mathlib.Core.Path.{ap, ◌∙◌}
 use borrow.Author.Rules.{rules}
 use Rattle.format_text.specs.Put.{put}
-use Rattle.format_text.specs.laws.Decimal.{decimal-digits}
+use Rattle.format_text.proofs.laws.Decimal.{decimal-digits}
 use Rattle.format_text.proofs.put_number.Statement.{statement}
 use Rattle.format_text.proofs.put_number.Tie as tie
 

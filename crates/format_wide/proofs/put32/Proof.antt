@@ -1,7 +1,7 @@
 -- format_wide::put32: two stores of half the width, one behind the other.
 use Prim.Native.Nat.{◌+◌, ◌%◌}
 use mathlib.Core.Path.{ap, ◌∙◌}
-use Rattle.format_wide.specs.laws.Wide.{two-16}
+use Rattle.format_wide.proofs.laws.Wide.{two-16}
 use Rattle.format_int16.specs.Int16.{put16}
 use borrow.Author.Rules.{rules}
 use Rattle.format_wide.proofs.put32.Statement.{statement}

@@ -1,7 +1,7 @@
 -- format_wide::put64: two stores of half the width, one behind the other.
 use Prim.Native.Nat.{◌+◌, ◌%◌}
 use mathlib.Core.Path.{ap, ◌∙◌}
-use Rattle.format_wide.specs.laws.Wide.{two-32}
+use Rattle.format_wide.proofs.laws.Wide.{two-32}
 use Rattle.format_wide.specs.Wide.{put32}
 use borrow.Author.Rules.{rules}
 use Rattle.format_wide.proofs.put64.Statement.{statement}

@@ -1,5 +1,5 @@
 -- format_word::pack: the parts lie apart, so that each `|` is a sum, by `or-packed`.
-use Rattle.format_word.specs.laws.Word.{or-packed}
+use Rattle.format_word.proofs.laws.Word.{or-packed}
 use Rattle.format_word.proofs.pack.Statement.{statement}
 use Rattle.format_word.proofs.pack.Tie as tie
 

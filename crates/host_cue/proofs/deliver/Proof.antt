@@ -56,7 +56,7 @@ use Rattle.cue.specs.contracts.Delivery as D
 use Rattle.cue.proofs.Delivery.TheLaws as D'
 use Rattle.cue_verdict.specs.declared.Hearing.{Hearing}
 use Rattle.cue_verdict.specs.Verdict.{hearing, loaded}
-use Rattle.cue_verdict.specs.laws.Verdict.{hearing-delivers}
+use Rattle.cue_verdict.proofs.laws.Verdict.{hearing-delivers}
 use Rattle.cue_verdict.specs.contracts.Hearing as G
 use Rattle.cue_verdict.proofs.Hearing.TheLaws as G'
 use Rattle.cue_verdict.specs.contracts.decide as decide
@@ -64,7 +64,7 @@ use Rattle.cue_verdict.proofs.decide.Symbol as decide-def
 use Rattle.cue_verdict.proofs.decide.Symbol.{name as #cue-verdict·decide}
 use Rattle.cue_verdict.proofs.decide.Met as decide-thm
 use Rattle.cue_records.specs.Written.{written}
-use Rattle.cue_records.specs.laws.Written.{written-within}
+use Rattle.cue_records.proofs.laws.Written.{written-within}
 use Rattle.cue_records.specs.contracts.within as within
 use Rattle.cue_records.proofs.within.Symbol as within-def
 use Rattle.cue_records.proofs.within.Symbol.{name as #cue-records·within}

@@ -50,7 +50,7 @@ use Rattle.cue.specs.contracts.Cue as T
 use Rattle.cue.proofs.Cue.TheLaws as T'
 use Rattle.cue_verdict.specs.declared.Opening.{Opening}
 use Rattle.cue_verdict.specs.Verdict.{opening}
-use Rattle.cue_verdict.specs.laws.Verdict.{opening-starts, count_fits}
+use Rattle.cue_verdict.proofs.laws.Verdict.{opening-starts, count_fits}
 use Rattle.cue_verdict.specs.contracts.Opening as O
 use Rattle.cue_verdict.proofs.Opening.TheLaws as O'
 use Rattle.cue_verdict.specs.contracts.open as open-call

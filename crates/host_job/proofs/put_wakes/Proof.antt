@@ -7,9 +7,9 @@ use lib.ListN.{length}
 use lib.Seq.{sets}
 use Rattle.base.specs.Limits.{max_modules}
 use Rattle.graph.specs.Parts.{lowests}
-use Rattle.graph.specs.laws.Parts.{labels-lowest}
+use Rattle.graph.proofs.laws.Parts.{labels-lowest}
 use Rattle.plan.specs.Links.{modules_of, graph_of}
-use Rattle.plan.specs.laws.Accepted.{accepted}
+use Rattle.plan.proofs.laws.Accepted.{accepted}
 use Rattle.host_job.specs.Job.{wake_steps}
 use Rattle.host_job.proofs.Laws.{low_wakes, low-room, low-next}
 use borrow.Author.Rules.{rules}

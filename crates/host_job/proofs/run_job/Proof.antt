@@ -3,7 +3,7 @@ use native.Mathlib.Omega.{arith}
 use mathlib.Core.Path.{sym, ◌∙◌}
 use lib.Seq.{length-take-le}
 use borrow.Author.Rules.{rules}
-use Rattle.host_job.specs.laws.Job.{not_set, set-taken, not-woken, all-run}
+use Rattle.host_job.proofs.laws.Job.{not_set, set-taken, not-woken, all-run}
 use Rattle.host_job.proofs.run_job.Statement.{statement}
 use Rattle.host_job.proofs.run_job.Tie as tie
 

@@ -2,7 +2,7 @@
 use native.Mathlib.Omega.{arith}
 use mathlib.Core.Path.{sym, ◌∙◌}
 use borrow.Author.Rules.{rules}
-use Rattle.path.specs.laws.Outcomes.{path-refused-plan, path-refused-from, path-refused-to}
+use Rattle.path.proofs.laws.Outcomes.{path-refused-plan, path-refused-from, path-refused-to}
 use Rattle.host_path.proofs.Answers.{told_none}
 use Rattle.host_path.proofs.between.Statement.{statement}
 use Rattle.host_path.proofs.between.Tie as tie

@@ -8,9 +8,9 @@ use borrow.Author.Rules.{rules}
 use Rattle.base.specs.Limits.{max_modules}
 use Rattle.graph.specs.Parts.{SamePart}
 use Rattle.plan.specs.Links.{graph_of}
-use Rattle.plan.specs.laws.Accepted.{Accepted, accepted}
-use Rattle.path.specs.laws.Outcomes.{path-no-way, path-refused-room}
-use Rattle.path.specs.laws.Steps.{path-short}
+use Rattle.plan.proofs.laws.Accepted.{Accepted, accepted}
+use Rattle.path.proofs.laws.Outcomes.{path-no-way, path-refused-room}
+use Rattle.path.proofs.laws.Steps.{path-short}
 use Rattle.path_search.specs.Spread.{hops_to}
 use Rattle.host_path.proofs.Known.{far_apart, known-part}
 use Rattle.host_path.proofs.Answers.{told_none, told-path}

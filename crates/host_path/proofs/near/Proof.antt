@@ -2,8 +2,8 @@
 use native.Mathlib.Omega.{arith}
 use mathlib.Core.Path.{sym, ◌∙◌}
 use borrow.Author.Rules.{rules}
-use Rattle.plan.specs.laws.Accepted.{accepted}
-use Rattle.path.specs.laws.Outcomes.{near-refused-plan, near-refused-module, near-refused-room}
+use Rattle.plan.proofs.laws.Accepted.{accepted}
+use Rattle.path.proofs.laws.Outcomes.{near-refused-plan, near-refused-module, near-refused-room}
 use Rattle.host_path.proofs.Answers.{marks-told}
 use Rattle.host_path.proofs.near.Statement.{statement}
 use Rattle.host_path.proofs.near.Tie as tie

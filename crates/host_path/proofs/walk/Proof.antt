@@ -2,7 +2,7 @@
 use native.Mathlib.Omega.{arith}
 use mathlib.Core.Path.{◌≡◌, refl, ◌∙◌}
 use lib.ListN.{length, get_or, length-set}
-use Rattle.plan.specs.laws.Accepted.{accepted}
+use Rattle.plan.proofs.laws.Accepted.{accepted}
 use Rattle.path.specs.Between.{tree_path}
 use Rattle.host_path.proofs.Walked.{Goes, Walked, walked_none, walked_on, walked_all}
 use Rattle.host_path.proofs.walk.Statement.{statement}

@@ -9,8 +9,8 @@ use lib.Seq.{sets}
 use Rattle.field.specs.declared.Field.{Field}
 use Rattle.field.specs.Edges.{ceiling_of}
 use Rattle.store.specs.Reading.{held_in, record_fits}
-use Rattle.store_check.specs.laws.Fitting.{words-room}
-use Rattle.store_check.specs.laws.Zeros.{zeros-set}
+use Rattle.store_check.proofs.laws.Fitting.{words-room}
+use Rattle.store_check.proofs.laws.Zeros.{zeros-set}
 use borrow.Author.Rules.{rules}
 use Rattle.host_store.proofs.bring_back.Statement.{statement}
 use Rattle.host_store.proofs.bring_back.Tie as tie

@@ -7,7 +7,7 @@ use Rattle.store.specs.Records.{records_in, joined}
 use Rattle.store.specs.Names.{is_named, without_first}
 use Rattle.field.specs.Held.{field_from}
 use Rattle.store.specs.Layout.{record_size}
-use Rattle.store_field.specs.laws.Sizes.{record-size}
+use Rattle.store_field.proofs.laws.Sizes.{record-size}
 use Rattle.store_field.proofs.Record.{part-size}
 use Rattle.host_store.proofs.Saves.{used-left, replaced}
 use borrow.Author.Rules.{rules}

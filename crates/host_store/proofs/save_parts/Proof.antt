@@ -17,7 +17,7 @@ use Rattle.store.specs.Names.{name_fits, is_named, without_first}
 use Rattle.store.specs.Calls.{store_fits}
 use Rattle.store_records.specs.Fit.{fit-stored}
 use Rattle.store.specs.Layout.{record_size}
-use Rattle.store_field.specs.laws.Sizes.{record-with}
+use Rattle.store_field.proofs.laws.Sizes.{record-with}
 use Rattle.host_store.proofs.Saves.{save-31, save-76, save-77, save-78, save-done, kept-fits, name-bound, few-wait, few-sent}
 use Rattle.host_store.proofs.save_parts.Statement.{statement}
 use Rattle.host_store.proofs.save_parts.Tie as tie

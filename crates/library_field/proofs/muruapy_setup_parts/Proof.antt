@@ -1,6 +1,6 @@
 -- library_field::muruapy_setup_parts: by `made-keeps` where setup was refused, else by `made-into`, with the field in its parts.
 use borrow.Author.Rules.{rules}
-use Rattle.library_field.specs.laws.Lent.{made-into, made-keeps}
+use Rattle.library_field.proofs.laws.Lent.{made-into, made-keeps}
 use Rattle.library_field.proofs.muruapy_setup_parts.Statement.{statement}
 use Rattle.library_field.proofs.muruapy_setup_parts.Tie as tie
 

@@ -1,6 +1,6 @@
 -- library_job::muruapy_job_parts: by `job-keeps` where the job was refused, else by `job-into`, with the field in its parts.
 use borrow.Author.Rules.{rules}
-use Rattle.library_job.specs.laws.Lent.{job-into, job-keeps}
+use Rattle.library_job.proofs.laws.Lent.{job-into, job-keeps}
 use Rattle.library_job.proofs.muruapy_job_parts.Statement.{statement}
 use Rattle.library_job.proofs.muruapy_job_parts.Tie as tie
 

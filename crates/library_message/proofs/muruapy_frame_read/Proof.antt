@@ -1,6 +1,6 @@
 -- library_message::muruapy_frame_read: by `frame-read-into` where the bytes were taken, else by `frame-alters-nothing`.
 use borrow.Author.Rules.{rules}
-use Rattle.library_message.specs.laws.Lent.{frame-read-into, frame-alters-nothing}
+use Rattle.library_message.proofs.laws.Lent.{frame-read-into, frame-alters-nothing}
 use Rattle.library_message.proofs.muruapy_frame_read.Statement.{statement}
 use Rattle.library_message.proofs.muruapy_frame_read.Tie as tie
 

@@ -2,7 +2,7 @@
 use native.Mathlib.Omega.{arith}
 use mathlib.Core.Path.{◌∙◌}
 use borrow.Author.Rules.{rules}
-use Rattle.library_plan.specs.laws.Lent.{cost-no-link, cost-no-room, cost-of-link}
+use Rattle.library_plan.proofs.laws.Lent.{cost-no-link, cost-no-room, cost-of-link}
 use Rattle.library_plan.proofs.muruapy_link_cost.Statement.{statement}
 use Rattle.library_plan.proofs.muruapy_link_cost.Tie as tie
 

@@ -1,6 +1,6 @@
 -- library_plan::muruapy_plan_read: by `plan-read-into` where the bytes were taken, else by `plan-alters-nothing`.
 use borrow.Author.Rules.{rules}
-use Rattle.library_plan.specs.laws.Lent.{plan-read-into, plan-alters-nothing}
+use Rattle.library_plan.proofs.laws.Lent.{plan-read-into, plan-alters-nothing}
 use Rattle.library_plan.proofs.muruapy_plan_read.Statement.{statement}
 use Rattle.library_plan.proofs.muruapy_plan_read.Tie as tie
 

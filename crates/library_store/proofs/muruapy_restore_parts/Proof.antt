@@ -1,6 +1,6 @@
 -- library_store::muruapy_restore_parts: by `made-keeps` where the restore was refused, else by `made-into`, with the field in its parts.
 use borrow.Author.Rules.{rules}
-use Rattle.library_field.specs.laws.Lent.{made-into, made-keeps}
+use Rattle.library_field.proofs.laws.Lent.{made-into, made-keeps}
 use Rattle.library_store.proofs.muruapy_restore_parts.Statement.{statement}
 use Rattle.library_store.proofs.muruapy_restore_parts.Tie as tie
 

@@ -4,9 +4,9 @@ use borrow.Author.Rules.{rules}
 use mathlib.Core.Logic.{⊎_elim}
 use mathlib.Core.Path.{refl, sym, ◌∙◌}
 use native.Mathlib.Omega.{arith}
-use Rattle.field.specs.laws.Edges.{own_below}
-use Rattle.node_response.specs.laws.Response.{told-as, does-then}
-use Rattle.node_dispatch.specs.laws.Dispatch.{listed-level, listed-weight, zero-unlisted, rest-unlisted, hears, as-deaf, as-connect, as-initiate, as-test, as-accept, as-reject, as-report, as-change, msg-initiate}
+use Rattle.field.proofs.laws.Edges.{own_below}
+use Rattle.node_response.proofs.laws.Response.{told-as, does-then}
+use Rattle.node_dispatch.proofs.laws.Dispatch.{listed-level, listed-weight, zero-unlisted, rest-unlisted, hears, as-deaf, as-connect, as-initiate, as-test, as-accept, as-reject, as-report, as-change, msg-initiate}
 use Rattle.node_dispatch.proofs.by_kind.Statement.{statement}
 use Rattle.node_dispatch.proofs.by_kind.Tie as tie
 

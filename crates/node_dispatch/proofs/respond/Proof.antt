@@ -1,7 +1,7 @@
 -- node_dispatch::respond: `by_kind` on a response that has done nothing (`begun_fresh`), by `from-begun`.
 use borrow.Author.Rules.{rules}
-use Rattle.node_response.specs.laws.Response.{from-begun}
-use Rattle.node_dispatch.specs.laws.Dispatch.{begun_fresh}
+use Rattle.node_response.proofs.laws.Response.{from-begun}
+use Rattle.node_dispatch.proofs.laws.Dispatch.{begun_fresh}
 use Rattle.node_dispatch.proofs.respond.Statement.{statement}
 use Rattle.node_dispatch.proofs.respond.Tie as tie
 

@@ -1,8 +1,8 @@
 -- node_dispatch::wakes: `wakeup` on a response that has done nothing (`begun_fresh`), by `from-begun`.
 use borrow.Author.Rules.{rules}
 use mathlib.Core.List.{[]}
-use Rattle.node_response.specs.laws.Response.{from-begun}
-use Rattle.node_dispatch.specs.laws.Dispatch.{begun_fresh}
+use Rattle.node_response.proofs.laws.Response.{from-begun}
+use Rattle.node_dispatch.proofs.laws.Dispatch.{begun_fresh}
 use Rattle.node_dispatch.proofs.wakes.Statement.{statement}
 use Rattle.node_dispatch.proofs.wakes.Tie as tie
 

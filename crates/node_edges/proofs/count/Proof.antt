@@ -6,7 +6,7 @@ use native.Mathlib.Omega.{arith}
 use Rattle.plan.specs.Links.{links_of}
 use Rattle.field.specs.Edges.{own_of, marks_in}
 use Rattle.node.specs.Work.{number}
-use Rattle.node_edges.specs.laws.Own.{number-turn, number-end}
+use Rattle.node_edges.proofs.laws.Own.{number-turn, number-end}
 use Rattle.node_edges.specs.Own.{counts}
 use Rattle.node_edges.proofs.count.Statement.{statement}
 use Rattle.node_edges.proofs.count.Tie as tie

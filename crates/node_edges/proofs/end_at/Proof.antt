@@ -1,7 +1,7 @@
 -- node_edges::end_at: from the lower end by `end-lower`, from the higher by `end-higher`.
 use borrow.Author.Rules.{rules}
 use mathlib.Core.Path.{sym, ◌∙◌}
-use Rattle.field.specs.laws.Edges.{end-lower, end-higher}
+use Rattle.field.proofs.laws.Edges.{end-lower, end-higher}
 use Rattle.node_edges.proofs.end_at.Statement.{statement}
 use Rattle.node_edges.proofs.end_at.Tie as tie
 

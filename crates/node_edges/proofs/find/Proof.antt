@@ -9,7 +9,7 @@ use Rattle.base.specs.Limits.{max_links}
 use Rattle.plan.specs.Links.{links_of}
 use Rattle.field.specs.Edges.{own_of, marks_in}
 use Rattle.node.specs.Work.{earliest}
-use Rattle.node_edges.specs.laws.Own.{earliest-turn, earliest-end}
+use Rattle.node_edges.proofs.laws.Own.{earliest-turn, earliest-end}
 use Rattle.node_edges.specs.Own.{marked, looked}
 use Rattle.node_edges.proofs.find.Statement.{statement}
 use Rattle.node_edges.proofs.find.Tie as tie

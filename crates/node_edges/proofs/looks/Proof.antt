@@ -4,7 +4,7 @@ use borrow.Author.Rules.{rules}
 use borrow.Author.Tests.{not-true, not-false}
 use lib.Dec.{eqb}
 use mathlib.Core.Path.{sym, ◌∙◌, ap}
-use Rattle.node_edges.specs.laws.Own.{looks-not, looks-all, looks-basic}
+use Rattle.node_edges.proofs.laws.Own.{looks-not, looks-all, looks-basic}
 use Rattle.node_edges.proofs.looks.Statement.{statement}
 use Rattle.node_edges.proofs.looks.Tie as tie
 

@@ -4,7 +4,7 @@ use borrow.Author.Rules.{rules}
 use lib.ListN.{get_or}
 use mathlib.Core.Path.{sym, ◌∙◌, ap}
 use native.Mathlib.Omega.{arith}
-use Rattle.field.specs.laws.Edges.{end-small, mark-own}
+use Rattle.field.proofs.laws.Edges.{end-small, mark-own}
 use Rattle.node_edges.proofs.mark_at.Statement.{statement}
 use Rattle.node_edges.proofs.mark_at.Tie as tie
 

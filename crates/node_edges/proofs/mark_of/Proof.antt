@@ -2,7 +2,7 @@
 use borrow.Author.Rules.{rules}
 use mathlib.Core.Path.{sym, ◌∙◌}
 use native.Mathlib.Omega.{arith}
-use Rattle.node_edges.specs.laws.Own.{marked-here, marked_other}
+use Rattle.node_edges.proofs.laws.Own.{marked-here, marked_other}
 use Rattle.node_edges.proofs.mark_of.Statement.{statement}
 use Rattle.node_edges.proofs.mark_of.Tie as tie
 

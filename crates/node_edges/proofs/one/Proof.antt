@@ -3,7 +3,7 @@ use borrow.Author.Rules.{rules}
 use borrow.Author.Tests.{not-true, not-false}
 use mathlib.Core.Path.{sym, ◌∙◌}
 use native.Mathlib.Omega.{arith}
-use Rattle.node_edges.specs.laws.Own.{counts-not, counts_all, counts-self, counts-branch, counts-other}
+use Rattle.node_edges.proofs.laws.Own.{counts-not, counts_all, counts-self, counts-branch, counts-other}
 use Rattle.node_edges.proofs.one.Statement.{statement}
 use Rattle.node_edges.proofs.one.Tie as tie
 

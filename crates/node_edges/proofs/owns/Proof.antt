@@ -3,7 +3,7 @@ use borrow.Author.Rules.{rules}
 use mathlib.Core.Path.{sym, ◌∙◌, ap}
 use Prim.Native.Nat.{ℕ}
 use lib.Dec.{eqb}
-use Rattle.field.specs.laws.Edges.{own-lower, own-higher}
+use Rattle.field.proofs.laws.Edges.{own-lower, own-higher}
 use Rattle.node_edges.proofs.owns.Statement.{statement}
 use Rattle.node_edges.proofs.owns.Tie as tie
 

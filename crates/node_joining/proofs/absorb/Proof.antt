@@ -2,8 +2,8 @@
 use borrow.Author.Rules.{rules}
 use mathlib.Core.Path.{sym, ◌∙◌}
 use native.Mathlib.Omega.{arith}
-use Rattle.node.specs.laws.Rules.{absorb-find, absorb-found, count-refused, count-rises}
-use Rattle.node_response.specs.laws.Response.{told-as, does-then, sets-node}
+use Rattle.node.proofs.laws.Rules.{absorb-find, absorb-found, count-refused, count-rises}
+use Rattle.node_response.proofs.laws.Response.{told-as, does-then, sets-node}
 use Rattle.node_joining.proofs.absorb.Statement.{statement}
 use Rattle.node_joining.proofs.absorb.Tie as tie
 

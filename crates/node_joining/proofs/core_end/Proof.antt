@@ -2,8 +2,8 @@
 use borrow.Author.Rules.{rules}
 use mathlib.Core.Path.{sym}
 use native.Mathlib.Omega.{arith}
-use Rattle.node.specs.laws.Rules.{core-refused, core-answers}
-use Rattle.node_response.specs.laws.Response.{told-as}
+use Rattle.node.proofs.laws.Rules.{core-refused, core-answers}
+use Rattle.node_response.proofs.laws.Response.{told-as}
 use Rattle.node_joining.proofs.core_end.Statement.{statement}
 use Rattle.node_joining.proofs.core_end.Tie as tie
 

@@ -1,7 +1,7 @@
 -- node_joining::join: the mark (`marks-edge`) and then the Initiate that `say` sends, by `does-then`.
 use borrow.Author.Rules.{rules}
 use mathlib.Core.Path.{refl}
-use Rattle.node_response.specs.laws.Response.{told-as, does-then, marks-edge}
+use Rattle.node_response.proofs.laws.Response.{told-as, does-then, marks-edge}
 use Rattle.node_joining.proofs.join.Statement.{statement}
 use Rattle.node_joining.proofs.join.Tie as tie
 

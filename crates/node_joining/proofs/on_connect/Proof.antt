@@ -3,9 +3,9 @@ use borrow.Author.Rules.{rules}
 use mathlib.Core.Logic.{⊎_elim}
 use mathlib.Core.Path.{sym, ◌∙◌}
 use native.Mathlib.Omega.{arith}
-use Rattle.field.specs.laws.Edges.{own_below}
-use Rattle.node.specs.laws.Rules.{connect-absorbed, connect-waits, connect-core}
-use Rattle.node_response.specs.laws.Response.{told-as}
+use Rattle.field.proofs.laws.Edges.{own_below}
+use Rattle.node.proofs.laws.Rules.{connect-absorbed, connect-waits, connect-core}
+use Rattle.node_response.proofs.laws.Response.{told-as}
 use Rattle.node_joining.proofs.on_connect.Statement.{statement}
 use Rattle.node_joining.proofs.on_connect.Tie as tie
 

@@ -2,9 +2,9 @@
 use borrow.Author.Rules.{rules}
 use mathlib.Core.Logic.{inl, inr}
 use mathlib.Core.Path.{sym}
-use Rattle.node.specs.laws.Rules.{awake-wakes, awake-is}
+use Rattle.node.proofs.laws.Rules.{awake-wakes, awake-is}
 use Rattle.node.specs.Rules.{awake}
-use Rattle.node_response.specs.laws.Response.{told-as, does-nothing}
+use Rattle.node_response.proofs.laws.Response.{told-as, does-nothing}
 use Rattle.node_procedures.proofs.awake.Statement.{statement}
 use Rattle.node_procedures.proofs.awake.Tie as tie
 

@@ -2,10 +2,10 @@
 use borrow.Author.Rules.{rules}
 use mathlib.Core.Path.{sym, ◌∙◌}
 use native.Mathlib.Omega.{arith}
-use Rattle.field.specs.laws.Edges.{own_below}
-use Rattle.node.specs.laws.Rules.{root-refused, root_told, root-connects}
-use Rattle.node_response.specs.laws.Response.{told-as, does-then, marks-edge}
-use Rattle.node_procedures.specs.laws.Procedures.{other-case}
+use Rattle.field.proofs.laws.Edges.{own_below}
+use Rattle.node.proofs.laws.Rules.{root-refused, root_told, root-connects}
+use Rattle.node_response.proofs.laws.Response.{told-as, does-then, marks-edge}
+use Rattle.node_procedures.proofs.laws.Procedures.{other-case}
 use Rattle.node_procedures.proofs.change_root.Statement.{statement}
 use Rattle.node_procedures.proofs.change_root.Tie as tie
 

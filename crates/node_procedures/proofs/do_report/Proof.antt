@@ -1,9 +1,9 @@
 -- node_procedures::do_report: one law of the rules for each return: `report-counts`, `report-tests`, `report-refused`, `report-sends`.
 use borrow.Author.Rules.{rules}
 use mathlib.Core.Path.{sym}
-use Rattle.node.specs.laws.Rules.{report-counts, report-tests, report-refused, report-sends}
+use Rattle.node.proofs.laws.Rules.{report-counts, report-tests, report-refused, report-sends}
 use Rattle.node.specs.Rules.{do_report}
-use Rattle.node_response.specs.laws.Response.{does-nothing, told-as, does-then, sets-node}
+use Rattle.node_response.proofs.laws.Response.{does-nothing, told-as, does-then, sets-node}
 use Rattle.node_procedures.proofs.do_report.Statement.{statement}
 use Rattle.node_procedures.proofs.do_report.Tie as tie
 

@@ -1,7 +1,7 @@
 -- node_procedures::do_test: `test_on` of the earliest Basic edge is the rules' procedure, by `test-same`.
 use borrow.Author.Rules.{rules}
-use Rattle.node_response.specs.laws.Response.{told-as}
-use Rattle.node_procedures.specs.laws.Procedures.{test-same}
+use Rattle.node_response.proofs.laws.Response.{told-as}
+use Rattle.node_procedures.proofs.laws.Procedures.{test-same}
 use Rattle.node_procedures.proofs.do_test.Statement.{statement}
 use Rattle.node_procedures.proofs.do_test.Tie as tie
 

@@ -1,8 +1,8 @@
 -- node_procedures::test_on: one law of the rules for each return: `test-over`, `test-refused`, `test-sends`.
 use borrow.Author.Rules.{rules}
 use mathlib.Core.Path.{sym}
-use Rattle.node.specs.laws.Rules.{test-over, test-refused, test-sends}
-use Rattle.node_response.specs.laws.Response.{told-as, does-then, sets-node}
+use Rattle.node.proofs.laws.Rules.{test-over, test-refused, test-sends}
+use Rattle.node_response.proofs.laws.Response.{told-as, does-then, sets-node}
 use Rattle.node_procedures.proofs.test_on.Statement.{statement}
 use Rattle.node_procedures.proofs.test_on.Tie as tie
 
@@ -21,7 +21,7 @@ say-requires c κs = c.before.before.before.before.before.requires
 returns-3 : tie.Need-returns-3
 returns-3 c =
     let e2 = c.before.before.before in
-    λ m cs. told-as (does-then ((c.say.ensures m cs).does _ _ c.before.a-test.ensures e2.before.before.if1.false) (sets-node m cs _ _))
+    λ m cs. told-as (does-then ((c.say.ensures m cs).does _ _ c.before.a_test.ensures e2.before.before.if1.false) (sets-node m cs _ _))
     (sym (test-sends _ _ e2.before.before.if1.false e2.if2.false))
 
 pub test-on-spec : {M : Type 1} → statement M

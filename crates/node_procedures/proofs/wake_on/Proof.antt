@@ -4,9 +4,9 @@ use borrow.Author.Rules.{rules}
 use mathlib.Core.List.{[]}
 use mathlib.Core.Path.{refl, sym, ap}
 use Rattle.format_message.specs.Msg.{connect}
-use Rattle.node.specs.laws.Rules.{wake-alone, wake-edge}
+use Rattle.node.proofs.laws.Rules.{wake-alone, wake-edge}
 use Rattle.node.specs.Work.{Work}
-use Rattle.node_response.specs.laws.Response.{told-as, does-then, sets-node, marks-edge}
+use Rattle.node_response.proofs.laws.Response.{told-as, does-then, sets-node, marks-edge}
 use Rattle.node_procedures.proofs.wake_on.Statement.{statement}
 use Rattle.node_procedures.proofs.wake_on.Tie as tie
 

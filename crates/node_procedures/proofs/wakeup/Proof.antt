@@ -1,7 +1,7 @@
 -- node_procedures::wakeup: `wake_on` of the earliest own edge is the rules' wakeup, by `wake-same`.
 use borrow.Author.Rules.{rules}
-use Rattle.node_response.specs.laws.Response.{told-as}
-use Rattle.node_procedures.specs.laws.Procedures.{wake-same}
+use Rattle.node_response.proofs.laws.Response.{told-as}
+use Rattle.node_procedures.proofs.laws.Procedures.{wake-same}
 use Rattle.node_procedures.proofs.wakeup.Statement.{statement}
 use Rattle.node_procedures.proofs.wakeup.Tie as tie
 

@@ -1,5 +1,5 @@
 -- node_response::say: the first message by `says_first`, the second by `says_second`.
-use Rattle.node_response.specs.laws.Response.{says_first, says_second}
+use Rattle.node_response.proofs.laws.Response.{says_first, says_second}
 use Rattle.node_response.proofs.say.Statement.{statement}
 use Rattle.node_response.proofs.say.Tie as tie
 

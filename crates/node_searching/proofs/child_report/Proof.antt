@@ -1,10 +1,10 @@
 -- node_searching::child_report: refused by `child-refused`; else `child-reports`, with the node that `better` answers (`report-with`).
 use borrow.Author.Rules.{rules}
 use mathlib.Core.Path.{sym, ◌∙◌}
-use Rattle.node.specs.laws.Rules.{child-refused, child-reports}
+use Rattle.node.proofs.laws.Rules.{child-refused, child-reports}
 use Rattle.node_response.specs.Response.{work_of}
-use Rattle.node_response.specs.laws.Response.{told-as, does-then, sets-node}
-use Rattle.node_searching.specs.laws.Searching.{report-with}
+use Rattle.node_response.proofs.laws.Response.{told-as, does-then, sets-node}
+use Rattle.node_searching.proofs.laws.Searching.{report-with}
 use Rattle.node_searching.proofs.child_report.Statement.{statement}
 use Rattle.node_searching.proofs.child_report.Tie as tie
 

@@ -1,9 +1,9 @@
 -- node_searching::core_report: one law of the rules for each return: `core-decides`, `core-edge`, `core-idle`, `core-halts`.
 use borrow.Author.Rules.{rules}
 use mathlib.Core.Path.{sym, ◌∙◌}
-use Rattle.node.specs.laws.Rules.{core-decides, core-edge, core-idle, core-halts}
+use Rattle.node.proofs.laws.Rules.{core-decides, core-edge, core-idle, core-halts}
 use Rattle.node.specs.Rules.{core_report}
-use Rattle.node_response.specs.laws.Response.{told-as, does-nothing, sets-node}
+use Rattle.node_response.proofs.laws.Response.{told-as, does-nothing, sets-node}
 use Rattle.node_searching.proofs.core_report.Statement.{statement}
 use Rattle.node_searching.proofs.core_report.Tie as tie
 

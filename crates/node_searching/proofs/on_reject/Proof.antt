@@ -1,6 +1,6 @@
 -- node_searching::on_reject: the struck edge, then procedure test, by `does-then`.
 use mathlib.Core.Path.{ap, ◌∙◌}
-use Rattle.node_response.specs.laws.Response.{does-then}
+use Rattle.node_response.proofs.laws.Response.{does-then}
 use Rattle.node_response.specs.declared.Packet.{Packet}
 use Rattle.node_searching.proofs.on_reject.Statement.{statement}
 use Rattle.node_searching.proofs.on_reject.Tie as tie

@@ -1,8 +1,8 @@
 -- node_searching::on_report: one law of the rules for each return: `report-child`, `report-waits`, `report-core`.
 use borrow.Author.Rules.{rules}
 use mathlib.Core.Path.{sym}
-use Rattle.node.specs.laws.Rules.{report-child, report-waits, report-core}
-use Rattle.node_response.specs.laws.Response.{told-as}
+use Rattle.node.proofs.laws.Rules.{report-child, report-waits, report-core}
+use Rattle.node_response.proofs.laws.Response.{told-as}
 use Rattle.node_searching.proofs.on_report.Statement.{statement}
 use Rattle.node_searching.proofs.on_report.Tie as tie
 

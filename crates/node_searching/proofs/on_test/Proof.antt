@@ -3,9 +3,9 @@ use borrow.Author.Rules.{rules}
 use mathlib.Core.Logic.{⊎_elim}
 use mathlib.Core.Path.{sym, ap, ◌∙◌}
 use native.Mathlib.Omega.{arith}
-use Rattle.field.specs.laws.Edges.{own_below}
-use Rattle.node.specs.laws.Rules.{test-waits, test-accepted, test-crossed, test-rejected}
-use Rattle.node_response.specs.laws.Response.{told-as, does-then}
+use Rattle.field.proofs.laws.Edges.{own_below}
+use Rattle.node.proofs.laws.Rules.{test-waits, test-accepted, test-crossed, test-rejected}
+use Rattle.node_response.proofs.laws.Response.{told-as, does-then}
 use Rattle.node_response.specs.declared.Packet.{Packet}
 use Rattle.node_searching.proofs.on_test.Statement.{statement}
 use Rattle.node_searching.proofs.on_test.Tie as tie

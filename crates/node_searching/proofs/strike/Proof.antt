@@ -5,10 +5,10 @@ use lib.Dec.{eqb}
 use mathlib.Core.Bool.{cond}
 use mathlib.Core.Path.{refl, ap, ◌∙◌}
 use native.Mathlib.Omega.{arith}
-use Rattle.field.specs.laws.Edges.{own_below}
+use Rattle.field.proofs.laws.Edges.{own_below}
 use Rattle.node.specs.Work.{BASIC, REJECTED}
-use Rattle.node_response.specs.laws.Response.{told-as, marks-edge}
-use Rattle.node_searching.specs.laws.Searching.{strike-with}
+use Rattle.node_response.proofs.laws.Response.{told-as, marks-edge}
+use Rattle.node_searching.proofs.laws.Searching.{strike-with}
 use Rattle.node_searching.proofs.strike.Statement.{statement}
 use Rattle.node_searching.proofs.strike.Tie as tie
 

@@ -1,9 +1,9 @@
 -- path_search::begin: what `start` leaves is the first level, by `start-level`.
 use native.Mathlib.Omega.{arith}
 use borrow.Author.Rules.{rules}
-use Rattle.plan.specs.laws.Accepted.{accepted}
-use Rattle.path.specs.laws.Steps.{path_steps}
-use Rattle.path_search.specs.laws.Levels.{start-level}
+use Rattle.plan.proofs.laws.Accepted.{accepted}
+use Rattle.path.proofs.laws.Steps.{path_steps}
+use Rattle.path_search.proofs.laws.Levels.{start-level}
 use Rattle.path_search.proofs.begin.Statement.{statement}
 use Rattle.path_search.proofs.begin.Tie as tie
 

@@ -1,7 +1,7 @@
 -- path_search::list_tree: the tree's bytes, then those marked; they are the branches, by `marked-branches`.
 use native.Mathlib.Omega.{arith}
 use borrow.Author.Rules.{rules}
-use Rattle.plan.specs.laws.Accepted.{accepted}
+use Rattle.plan.proofs.laws.Accepted.{accepted}
 use Rattle.path_search.proofs.Marks.{marked-branches}
 use Rattle.path_search.proofs.list_tree.Statement.{statement}
 use Rattle.path_search.proofs.list_tree.Tie as tie

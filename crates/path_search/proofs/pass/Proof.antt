@@ -5,9 +5,9 @@ use mathlib.Core.Path.{◌≡◌, sym, subst, ◌∙◌}
 use mathlib.Core.Logic.{⊎_elim}
 use mathlib.Core.Bool.{false, true≢false}
 use borrow.Author.Rules.{rules}
-use Rattle.plan.specs.laws.Accepted.{accepted}
-use Rattle.path.specs.laws.Steps.{path_steps}
-use Rattle.path_search.specs.laws.Passes.{PassTo, pass-none, pass-next, passed}
+use Rattle.plan.proofs.laws.Accepted.{accepted}
+use Rattle.path.proofs.laws.Steps.{path_steps}
+use Rattle.path_search.proofs.laws.Passes.{PassTo, pass-none, pass-next, passed}
 use Rattle.path_search.proofs.pass.Statement.{statement}
 use Rattle.path_search.proofs.pass.Tie as tie
 

@@ -6,10 +6,10 @@ use borrow.Author.Rules.{rules}
 use Rattle.base.specs.Limits.{max_modules}
 use Rattle.graph.specs.Graph.{up}
 use Rattle.plan.specs.Links.{modules_of}
-use Rattle.plan.specs.laws.Accepted.{accepted}
-use Rattle.path.specs.laws.Steps.{PathSteps, path_steps}
-use Rattle.path_search.specs.laws.Reach.{unreached}
-use Rattle.path_search.specs.laws.Branch.{BranchFrom, branch-first, branch-second}
+use Rattle.plan.proofs.laws.Accepted.{accepted}
+use Rattle.path.proofs.laws.Steps.{PathSteps, path_steps}
+use Rattle.path_search.proofs.laws.Reach.{unreached}
+use Rattle.path_search.proofs.laws.Branch.{BranchFrom, branch-first, branch-second}
 use Rattle.path_search.proofs.pass_branch.Statement.{statement}
 use Rattle.path_search.proofs.pass_branch.Tie as tie
 

@@ -1,7 +1,7 @@
 -- path_search::reach: the two tests are what `reaches` says.
 use mathlib.Core.Path.{refl, sym}
 use borrow.Author.Rules.{rules}
-use Rattle.path_search.specs.laws.Reach.{reaches-no, reaches-old, reaches-yes}
+use Rattle.path_search.proofs.laws.Reach.{reaches-no, reaches-old, reaches-yes}
 use Rattle.path_search.proofs.reach.Statement.{statement}
 use Rattle.path_search.proofs.reach.Tie as tie
 

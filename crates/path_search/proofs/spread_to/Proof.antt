@@ -8,10 +8,10 @@ use borrow.Author.Rules.{rules}
 use borrow.Author.Tests.{not-true}
 use Rattle.base.specs.Limits.{max_modules}
 use Rattle.plan.specs.Links.{modules_of}
-use Rattle.plan.specs.laws.Accepted.{accepted}
-use Rattle.path.specs.laws.Steps.{PathSteps, path_steps}
+use Rattle.plan.proofs.laws.Accepted.{accepted}
+use Rattle.path.proofs.laws.Steps.{PathSteps, path_steps}
 use Rattle.path_search.specs.Spread.{Level}
-use Rattle.path_search.specs.laws.Levels.{entry-near, known-to, nobody-further}
+use Rattle.path_search.proofs.laws.Levels.{entry-near, known-to, nobody-further}
 use Rattle.path_search.proofs.spread_to.Statement.{statement}
 use Rattle.path_search.proofs.spread_to.Tie as tie
 

@@ -7,10 +7,10 @@ use mathlib.Core.Path.{refl}
 use borrow.Author.Tests.{not-true}
 use Rattle.base.specs.Limits.{max_modules}
 use Rattle.plan.specs.Links.{modules_of}
-use Rattle.plan.specs.laws.Accepted.{accepted}
-use Rattle.path.specs.laws.Steps.{PathSteps, path_steps}
+use Rattle.plan.proofs.laws.Accepted.{accepted}
+use Rattle.path.proofs.laws.Steps.{PathSteps, path_steps}
 use Rattle.path_search.specs.Spread.{Level}
-use Rattle.path_search.specs.laws.Levels.{nobody-further, known-within}
+use Rattle.path_search.proofs.laws.Levels.{nobody-further, known-within}
 use Rattle.path_search.proofs.spread_within.Statement.{statement}
 use Rattle.path_search.proofs.spread_within.Tie as tie
 

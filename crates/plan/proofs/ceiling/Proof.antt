@@ -1,6 +1,6 @@
 -- plan::ceiling: the sum stays within 32 bits, by `first-term-fits`.
 use native.Mathlib.Omega.{arith}
-use Rattle.base.specs.laws.Ceiling.{first-term-fits}
+use Rattle.base.proofs.laws.Ceiling.{first-term-fits}
 use borrow.Author.Rules.{rules}
 use Rattle.plan.proofs.ceiling.Statement.{statement}
 use Rattle.plan.proofs.ceiling.Tie as tie

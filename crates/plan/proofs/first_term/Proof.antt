@@ -3,7 +3,7 @@ use Prim.Native.Nat.{ℕ, ◌*◌, ◌^◌, ◌≤◌, ◌<◌}
 use native.Mathlib.Omega.{arith}
 use mathlib.Core.Path.{◌≡◌}
 use Rattle.base.specs.Log.{log2}
-use Rattle.base.specs.laws.Ceiling.{first-term-fits}
+use Rattle.base.proofs.laws.Ceiling.{first-term-fits}
 use borrow.Author.Rules.{rules}
 use Rattle.plan.proofs.first_term.Statement.{statement}
 use Rattle.plan.proofs.first_term.Tie as tie

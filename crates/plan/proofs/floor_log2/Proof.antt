@@ -1,7 +1,7 @@
 -- plan::floor_log2: 0 by the definition, else 31 less the leading zeros, by `leading`.
 use native.Mathlib.Omega.{arith}
 use Rattle.base.specs.Log.{log2}
-use Rattle.base.specs.laws.Log.{leading}
+use Rattle.base.proofs.laws.Log.{leading}
 use borrow.Author.Rules.{rules}
 use Rattle.plan.proofs.floor_log2.Statement.{statement}
 use Rattle.plan.proofs.floor_log2.Tie as tie

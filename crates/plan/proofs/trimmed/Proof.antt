@@ -6,7 +6,7 @@ use mathlib.Core.Path.{◌≡◌, refl, ◌∙◌}
 use lib.ListN.{get_or}
 use Rattle.plan.specs.Links.{links_of, plan_numbers}
 use Rattle.plan.specs.Trimmed.{trimmed}
-use Rattle.plan.specs.laws.Trimmed.{read_to, none_read, one-read, all_read}
+use Rattle.plan.proofs.laws.Trimmed.{read_to, none_read, one-read, all_read}
 use borrow.Author.Rules.{rules}
 use Rattle.plan.proofs.trimmed.Statement.{statement}
 use Rattle.plan.proofs.trimmed.Tie as tie

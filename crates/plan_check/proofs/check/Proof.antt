@@ -3,7 +3,7 @@ use mathlib.Core.Path.{◌≡◌}
 use mathlib.Core.Bool.{true}
 use Rattle.plan.specs.Links.{modules_of, links_of}
 use Rattle.plan.specs.Refusal.{counts_refusal}
-use Rattle.plan.specs.laws.Accepted.{Counts}
+use Rattle.plan.proofs.laws.Accepted.{Counts}
 use Rattle.plan_check.proofs.Verdict.{p-counts, c-limits, p-links}
 use borrow.Author.Rules.{rules}
 use Rattle.plan_check.proofs.check.Statement.{statement}

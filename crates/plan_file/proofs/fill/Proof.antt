@@ -4,7 +4,7 @@ use native.Mathlib.Omega.{arith}
 use native.Mathlib.Numerals.{add-one}
 use mathlib.Core.Path.{◌≡◌, ap, ◌∙◌}
 use Rattle.plan_file.specs.Layout.{plan_numbers, number_at, decode}
-use Rattle.plan.specs.laws.Trimmed.{read_to, none_read, one-read, all_read}
+use Rattle.plan.proofs.laws.Trimmed.{read_to, none_read, one-read, all_read}
 use borrow.Author.Rules.{rules}
 use Rattle.plan_file.proofs.fill.Statement.{statement}
 use Rattle.plan_file.proofs.fill.Tie as tie

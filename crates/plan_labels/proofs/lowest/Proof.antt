@@ -8,7 +8,7 @@ use mathlib.Core.Bool.{Bool, not}
 use lib.Dec.{eqb}
 use lib.ListN.{get_or}
 use Rattle.base.specs.Test.{every}
-use Rattle.base.specs.laws.Test.{every-of-none, every-goes-on, every-stops}
+use Rattle.base.proofs.laws.Test.{every-of-none, every-goes-on, every-stops}
 use borrow.Author.Rules.{rules}
 use Rattle.plan_labels.proofs.lowest.Statement.{statement}
 use Rattle.plan_labels.proofs.lowest.Tie as tie

@@ -5,7 +5,7 @@ use native.Mathlib.Numerals.{add-one}
 use mathlib.Core.Path.{◌≡◌, ◌∙◌}
 use Rattle.base.specs.Limits.{max_modules}
 use Rattle.base.specs.Table.{tabulate}
-use Rattle.base.specs.laws.Table.{length-tabulate}
+use Rattle.base.proofs.laws.Table.{length-tabulate}
 use Rattle.graph.specs.Decide.{label}
 use Rattle.plan.specs.Links.{links_of, lower_of, higher_of, graph_of}
 use Rattle.plan_labels.proofs.Laws.{all, merge-turn}

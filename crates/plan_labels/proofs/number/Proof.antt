@@ -6,7 +6,7 @@ use mathlib.Core.Path.{◌≡◌, refl, ◌∙◌}
 use lib.ListN.{get_or}
 use Rattle.base.specs.Limits.{max_modules}
 use Rattle.base.specs.Table.{tabulate, upto}
-use Rattle.base.specs.laws.Table.{fill_start, fill-turn, fill_end}
+use Rattle.base.proofs.laws.Table.{fill_start, fill-turn, fill_end}
 use borrow.Author.Rules.{rules}
 use Rattle.plan_labels.proofs.number.Statement.{statement}
 use Rattle.plan_labels.proofs.number.Tie as tie

@@ -1,7 +1,7 @@
 -- plan_labels::relabel: a loop; the first v labels are renamed and the others as they were, by `fill-turn`.
 use mathlib.Core.Path.{ap, ◌≡◌, refl, ◌∙◌}
 use Rattle.base.specs.Table.{tabulate, upto}
-use Rattle.base.specs.laws.Table.{fill-next, fill_start, fill-turn, fill_end}
+use Rattle.base.proofs.laws.Table.{fill-next, fill_start, fill-turn, fill_end}
 use Prim.Native.Nat.{◌≤◌, ◌-◌}
 use native.Mathlib.Omega.{arith}
 use native.Mathlib.Numerals.{add-one}

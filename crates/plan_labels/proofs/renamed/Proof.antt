@@ -2,7 +2,7 @@
 use mathlib.Core.Path.{sym}
 use borrow.Author.Tests.{ne_eqb}
 use Rattle.graph.specs.Labels.{rename}
-use Rattle.graph.specs.laws.Labels.{rename-from}
+use Rattle.graph.proofs.laws.Labels.{rename-from}
 use Rattle.plan_labels.proofs.renamed.Statement.{statement}
 use Rattle.plan_labels.proofs.renamed.Tie as tie
 

@@ -4,7 +4,7 @@ use borrow.Author.Rules.{rules}
 use lib.ListN.{length}
 use Rattle.plan.specs.Links.{links_of}
 use Rattle.plan.specs.Refusal.{plan_refusal}
-use Rattle.plan_tree.specs.laws.Tree.{refused-plan, refused-size, built}
+use Rattle.plan_tree.proofs.laws.Tree.{refused-plan, refused-size, built}
 use Rattle.plan_tree.proofs.build.Statement.{statement}
 use Rattle.plan_tree.proofs.build.Tie as tie
 

@@ -3,9 +3,9 @@ use mathlib.Core.Path.{◌∙◌}
 use native.Mathlib.Omega.{arith}
 use borrow.Author.Rules.{rules}
 use Rattle.plan.specs.Links.{graph_of}
-use Rattle.plan.specs.laws.Accepted.{accepted}
+use Rattle.plan.proofs.laws.Accepted.{accepted}
 use Rattle.plan_tree.specs.laws.Forest.{forest-start}
-use Rattle.plan_tree.specs.laws.Tree.{exact_bytes, accepted-ends}
+use Rattle.plan_tree.proofs.laws.Tree.{exact_bytes, accepted-ends}
 use Rattle.plan_tree.proofs.Joins.{own-label, own-parts}
 use Rattle.plan_tree.proofs.grow.Statement.{statement}
 use Rattle.plan_tree.proofs.grow.Tie as tie

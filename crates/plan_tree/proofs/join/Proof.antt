@@ -2,7 +2,7 @@
 use native.Mathlib.Omega.{arith}
 use borrow.Author.Rules.{rules}
 use Rattle.base.specs.Limits.{max_modules}
-use Rattle.base.specs.laws.Table.{length-tabulate}
+use Rattle.base.proofs.laws.Table.{length-tabulate}
 use Rattle.plan.specs.Links.{graph_of}
 use Rattle.plan_tree.proofs.Joins.{set-joined}
 use Rattle.plan_tree.proofs.join.Statement.{statement}

@@ -3,7 +3,7 @@ use mathlib.Core.Path.{◌≡◌, refl, ◌∙◌}
 use lib.ListN.{length}
 use Rattle.plan.specs.Links.{graph_of}
 use Rattle.plan.specs.Weights.{earlier}
-use Rattle.plan.specs.laws.Weights.{order_of}
+use Rattle.plan.proofs.laws.Weights.{order_of}
 use Rattle.plan_tree.specs.laws.Forest.{Forest, finished}
 use Rattle.plan_tree.specs.laws.Phase.{apart}
 use Rattle.plan_tree.specs.Lent.{at, LabelsFit}

@@ -3,13 +3,13 @@
 -- needs a connected graph.
 use Rattle.std.specs.Prelude.{ℕ, ◌≤◌, ◌<◌, ◌≡◌, refl, ◌≢◌, Bool}
 use Rattle.std.proofs.Common.{arith, sym, ap, subst, ◌∙◌, inl, inr}
-use Rattle.base.specs.laws.Cond.{by-eq}
+use Rattle.base.proofs.laws.Cond.{by-eq}
 use Rattle.base.specs.Limits.{max_modules}
 use Rattle.graph.specs.Graph.{Graph, Joins, up, down}
 use Rattle.graph.specs.Order.{Order, InTree}
 use Rattle.graph.specs.Labels.{rename}
-use Rattle.graph.specs.laws.Labels.{Labels, With, rename-elim, rename-from, rename-to, labels-add, labels-same, labels-none}
-use Rattle.graph.specs.laws.Cycle.{needed}
+use Rattle.graph.proofs.laws.Labels.{Labels, With, rename-elim, rename-from, rename-to, labels-add, labels-same, labels-none}
+use Rattle.graph.proofs.laws.Cycle.{needed}
 
 -- the ends of each edge are nodes
 abbrev pub Ends : Graph → Type 0

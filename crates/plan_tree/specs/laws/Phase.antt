@@ -3,14 +3,14 @@
 use Rattle.std.specs.Prelude.{ℕ, zero, suc, ◌+◌, ◌≤◌, ◌<◌, ◌≡◌, refl, ◌≢◌, ◌⊎◌, Bool, true, false, cond, not, eqb}
 use Rattle.std.proofs.Common.{arith, sym, ap, subst, ◌∙◌, inl, inr, true≢false}
 use Rattle.base.specs.Cond.{bit}
-use Rattle.base.specs.laws.Cond.{by-eq, bool_cases, eqb_same, eqb-diff}
+use Rattle.base.proofs.laws.Cond.{by-eq, bool_cases, eqb_same, eqb-diff}
 use Rattle.base.specs.Sum.{sum}
-use Rattle.base.specs.laws.Sum.{sum_lt, le-sum}
+use Rattle.base.proofs.laws.Sum.{sum_lt, le-sum}
 use Rattle.base.specs.None.{none}
 use Rattle.graph.specs.Graph.{Graph, Joins, up, down}
 use Rattle.graph.specs.Order.{Order, InTree}
-use Rattle.graph.specs.laws.Ways.{joins-lt}
-use Rattle.graph.specs.laws.Cut.{cut}
+use Rattle.graph.proofs.laws.Ways.{joins-lt}
+use Rattle.graph.proofs.laws.Cut.{cut}
 use Rattle.plan_tree.specs.laws.Forest.{Ends, Inside, Coarser}
 
 -- edge k has one end in part a, and one in another part

@@ -2,7 +2,7 @@
 use mathlib.Core.Path.{sym, ap, ◌∙◌}
 use borrow.Author.Rules.{rules}
 use Rattle.format_text.specs.Put.{put}
-use Rattle.text_owed.specs.laws.Reported.{job-refused, job-shown}
+use Rattle.text_owed.proofs.laws.Reported.{job-refused, job-shown}
 use Rattle.program_report.proofs.job_report.Statement.{statement}
 use Rattle.program_report.proofs.job_report.Tie as tie
 

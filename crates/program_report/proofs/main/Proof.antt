@@ -4,9 +4,9 @@ use Prim.Native.Nat.{◌≤◌}
 use native.Mathlib.Omega.{arith}
 use borrow.Author.Rules.{rules}
 use Rattle.format_text.specs.Input.{room_of}
-use Rattle.format_text.specs.laws.Input.{input-told}
-use Rattle.text_owed.specs.laws.ReportFits.{reported-fits}
-use Rattle.text_owed.specs.laws.ReportLong.{PLANROOM, long-refused}
+use Rattle.format_text.proofs.laws.Input.{input-told}
+use Rattle.text_owed.proofs.laws.ReportFits.{reported-fits}
+use Rattle.text_owed.proofs.laws.ReportLong.{PLANROOM, long-refused}
 use Rattle.program_report.proofs.main.Statement.{statement}
 use Rattle.program_report.proofs.main.Tie as tie
 

@@ -8,8 +8,8 @@ use borrow.Author.Rules.{rules}
 use Rattle.base.specs.Limits.{max_words}
 use Rattle.format_text.specs.Put.{put}
 use Rattle.field.specs.Edges.{ceiling_of}
-use Rattle.text_owed.specs.laws.Reported.{plan-refused, plan-taken}
-use Rattle.text_owed.specs.laws.ReportFits.{read_small, zeros-front}
+use Rattle.text_owed.proofs.laws.Reported.{plan-refused, plan-taken}
+use Rattle.text_owed.proofs.laws.ReportFits.{read_small, zeros-front}
 use Rattle.program_report.proofs.report.Statement.{statement}
 use Rattle.program_report.proofs.report.Tie as tie
 

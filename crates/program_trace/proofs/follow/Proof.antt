@@ -4,8 +4,8 @@ use lib.Seq.{length-take-le}
 use borrow.Author.Rules.{rules}
 use Rattle.field_check.proofs.Words.{front, within}
 use Rattle.format_text.specs.Put.{put}
-use Rattle.plan.specs.laws.Accepted.{accepted}
-use Rattle.text_owed.specs.laws.Traced.{ran-shown}
+use Rattle.plan.proofs.laws.Accepted.{accepted}
+use Rattle.text_owed.proofs.laws.Traced.{ran-shown}
 use Rattle.program_trace.proofs.follow.Statement.{statement}
 use Rattle.program_trace.proofs.follow.Tie as tie
 

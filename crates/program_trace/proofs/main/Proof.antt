@@ -3,9 +3,9 @@ use Prim.Native.Nat.{◌≤◌}
 use native.Mathlib.Omega.{arith}
 use borrow.Author.Rules.{rules}
 use Rattle.format_text.specs.Input.{room_of}
-use Rattle.format_text.specs.laws.Input.{input-told}
-use Rattle.text_owed.specs.laws.TraceFits.{traced-fits}
-use Rattle.text_owed.specs.laws.TraceLong.{RUNROOM, long_same}
+use Rattle.format_text.proofs.laws.Input.{input-told}
+use Rattle.text_owed.proofs.laws.TraceFits.{traced-fits}
+use Rattle.text_owed.proofs.laws.TraceLong.{RUNROOM, long_same}
 use Rattle.program_trace.proofs.main.Statement.{statement}
 use Rattle.program_trace.proofs.main.Tie as tie
 

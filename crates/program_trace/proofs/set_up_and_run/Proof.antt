@@ -4,7 +4,7 @@ use borrow.Author.Rules.{rules}
 use Rattle.base.specs.Loop.{After}
 use Rattle.field.specs.Held.{Held}
 use Rattle.field_calls.specs.Call.{run_bytes}
-use Rattle.text_owed.specs.laws.Traced.{fresh-taken}
+use Rattle.text_owed.proofs.laws.Traced.{fresh-taken}
 use Rattle.program_trace.proofs.set_up_and_run.Statement.{statement}
 use Rattle.program_trace.proofs.set_up_and_run.Tie as tie
 

@@ -7,9 +7,9 @@ use borrow.Author.Rules.{rules}
 use Rattle.base.specs.Limits.{max_words}
 use Rattle.format_text.specs.Put.{put}
 use Rattle.plan.specs.Refusal.{plan_refusal}
-use Rattle.plan.specs.laws.Ceiling.{ceiling-small}
-use Rattle.plan_file.specs.laws.RoundTrip.{read_taken}
-use Rattle.text_owed.specs.laws.Traced.{traced-refused, traced-ran}
+use Rattle.plan.proofs.laws.Ceiling.{ceiling-small}
+use Rattle.plan_file.proofs.laws.RoundTrip.{read_taken}
+use Rattle.text_owed.proofs.laws.Traced.{traced-refused, traced-ran}
 use Rattle.program_trace.proofs.trace.Statement.{statement}
 use Rattle.program_trace.proofs.trace.Tie as tie
 

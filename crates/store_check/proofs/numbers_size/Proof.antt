@@ -1,7 +1,7 @@
 -- store_check::numbers_size: by `number-bytes`.
 use mathlib.Core.Path.{sym, ap₂, ◌∙◌}
 use Rattle.store.specs.Layout.{number_bytes}
-use Rattle.store_field.specs.laws.Sizes.{number-bytes}
+use Rattle.store_field.proofs.laws.Sizes.{number-bytes}
 use borrow.Author.Rules.{rules}
 use Rattle.store_check.proofs.numbers_size.Statement.{statement}
 use Rattle.store_check.proofs.numbers_size.Tie as tie

@@ -1,6 +1,6 @@
 -- store_check::take_record: the reads of a record that fits, by `fits-there`; its marks are as they were, by `marks-whole`.
 use mathlib.Core.Path.{◌∙◌}
-use Rattle.store_check.specs.laws.Fitting.{fits-there, marks-whole}
+use Rattle.store_check.proofs.laws.Fitting.{fits-there, marks-whole}
 use borrow.Author.Rules.{rules}
 use Rattle.store_check.proofs.take_record.Statement.{statement}
 use Rattle.store_check.proofs.take_record.Tie as tie

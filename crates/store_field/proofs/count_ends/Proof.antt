@@ -5,7 +5,7 @@ use mathlib.Core.Path.{◌≡◌, ap, ◌∙◌}
 use lib.ListN.{length}
 use Rattle.base.specs.Limits.{max_modules}
 use Rattle.base.specs.Table.{tabulate}
-use Rattle.base.specs.laws.Table.{length-tabulate, get_d_tabulate}
+use Rattle.base.proofs.laws.Table.{length-tabulate, get_d_tabulate}
 use Rattle.plan.specs.Links.{links_of}
 use Rattle.field.specs.Edges.{from}
 use Rattle.field_laws.specs.Places.{from-below}

@@ -5,7 +5,7 @@ use native.Mathlib.Numerals.{add-one}
 use mathlib.Core.Path.{◌≡◌, refl, ap, ◌∙◌}
 use lib.ListN.{length}
 use Rattle.base.specs.Limits.{max_modules}
-use Rattle.base.specs.laws.Table.{length-tabulate, get_d_tabulate, fill_start, fill-turn, fill-next}
+use Rattle.base.proofs.laws.Table.{length-tabulate, get_d_tabulate, fill_start, fill-turn, fill-next}
 use Rattle.plan.specs.Links.{modules_of, links_of}
 use Rattle.field.specs.State.{WIDTH}
 use Rattle.store.specs.Layout.{places_below}

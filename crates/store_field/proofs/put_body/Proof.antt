@@ -4,7 +4,7 @@ use native.Mathlib.Omega.{arith}
 use lib.ListN.{length}
 use Rattle.field.specs.Held.{field_from}
 use Rattle.store.specs.Layout.{field_bytes, word_bytes}
-use Rattle.store_field.specs.laws.Sizes.{field-bytes}
+use Rattle.store_field.proofs.laws.Sizes.{field-bytes}
 use Rattle.store_field.proofs.Record.{part-size, part-on}
 use borrow.Author.Rules.{rules}
 use Rattle.store_field.proofs.put_body.Statement.{statement}

@@ -1,8 +1,8 @@
 -- store_field::put_field: the plan, then the numbers in the part behind it (`field-run`).
 use native.Mathlib.Omega.{arith}
 use Rattle.field.specs.Held.{field_from}
-use Rattle.plan_file.specs.laws.Lengths.{length-encode}
-use Rattle.store_field.specs.laws.Sizes.{field-bytes}
+use Rattle.plan_file.proofs.laws.Lengths.{length-encode}
+use Rattle.store_field.proofs.laws.Sizes.{field-bytes}
 use Rattle.store_field.proofs.Record.{field-run}
 use borrow.Author.Rules.{rules}
 use Rattle.store_field.proofs.put_field.Statement.{statement}

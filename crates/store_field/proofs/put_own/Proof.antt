@@ -6,7 +6,7 @@ use mathlib.Core.List.{[], ◌∷◌}
 use lib.ListN.{length}
 use borrow.Author.Tests.{not-true, not-false}
 use Rattle.format_int16.specs.Int16.{put16}
-use Rattle.field.specs.laws.Edges.{end-small}
+use Rattle.field.proofs.laws.Edges.{end-small}
 use Rattle.store_field.specs.Ends.{own_end, entry}
 use Rattle.store_field.proofs.Ends.{own-none, own-one}
 use Rattle.store_field.proofs.Runs.{run_none, run-one}

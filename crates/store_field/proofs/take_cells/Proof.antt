@@ -5,7 +5,7 @@ use native.Mathlib.Numerals.{add-one}
 use mathlib.Core.Path.{◌≡◌, refl, ap, ◌∙◌}
 use lib.ListN.{length}
 use Rattle.base.specs.Table.{tabulate, upto}
-use Rattle.base.specs.laws.Table.{fill_start, fill-turn}
+use Rattle.base.proofs.laws.Table.{fill_start, fill-turn}
 use Rattle.plan.specs.Links.{modules_of}
 use Rattle.field.specs.State.{WIDTH, CELLS}
 use Rattle.store.specs.Reading.{number_in}

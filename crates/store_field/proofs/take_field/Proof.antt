@@ -3,7 +3,7 @@ use Prim.Native.Nat.{ℕ}
 use mathlib.Core.Path.{ap, ◌∙◌}
 use lib.ListN.{length, length-replicate}
 use Rattle.base.specs.Limits.{max_modules, max_ends}
-use Rattle.field.specs.laws.Held.{fresh-length}
+use Rattle.field.proofs.laws.Held.{fresh-length}
 use Rattle.store_field.proofs.Taken.{cells-taken, marks-taken}
 use borrow.Author.Rules.{rules}
 use Rattle.store_field.proofs.take_field.Statement.{statement}

@@ -6,7 +6,7 @@ use mathlib.Core.Path.{◌≡◌, refl, ap, ◌∙◌}
 use lib.ListN.{length}
 use Rattle.base.specs.Limits.{max_modules, max_ends}
 use Rattle.base.specs.Table.{tabulate, upto}
-use Rattle.base.specs.laws.Table.{length-tabulate, fill_start, fill-turn}
+use Rattle.base.proofs.laws.Table.{length-tabulate, fill_start, fill-turn}
 use Rattle.plan.specs.Links.{Plan, links_of}
 use Rattle.field.specs.Edges.{from}
 use Rattle.field.specs.State.{WIDTH}

@@ -3,9 +3,9 @@ use mathlib.Core.Path.{sym, ap, ◌∙◌}
 use mathlib.Core.List.{◌++◌}
 use borrow.Author.Rules.{rules}
 use Rattle.format_text.specs.Put.{put}
-use Rattle.format_text.specs.laws.Put.{put-none, put_on}
+use Rattle.format_text.proofs.laws.Put.{put-none, put_on}
 use Rattle.format_text.specs.Lines.{named, line}
-use Rattle.text_report.specs.laws.Text.{branch-none, branch_one}
+use Rattle.text_report.proofs.laws.Text.{branch-none, branch_one}
 use Rattle.text_report.proofs.branch.Statement.{statement}
 use Rattle.text_report.proofs.branch.Tie as tie
 

@@ -6,9 +6,9 @@ use lib.ListN.{length}
 use borrow.Author.Rules.{rules}
 use Rattle.base.specs.Limits.{max_links}
 use Rattle.text_report.specs.Text.{branch_lines, branch_text}
-use Rattle.text_report.specs.laws.Text.{lines_none, lines-turn, capped}
+use Rattle.text_report.proofs.laws.Text.{lines_none, lines-turn, capped}
 use Rattle.format_text.specs.Put.{page, put}
-use Rattle.format_text.specs.laws.Put.{put-none, put_on}
+use Rattle.format_text.proofs.laws.Put.{put-none, put_on}
 use Rattle.text_report.proofs.branches.Statement.{statement}
 use Rattle.text_report.proofs.branches.Tie as tie
 

@@ -5,9 +5,9 @@ use mathlib.Core.Logic.{◌≢◌}
 use borrow.Author.Rules.{rules}
 use Rattle.plan.specs.Links.{modules_of}
 use Rattle.plan.specs.Refusal.{plan_refusal}
-use Rattle.plan.specs.laws.Accepted.{accepted}
+use Rattle.plan.proofs.laws.Accepted.{accepted}
 use Rattle.format_text.specs.Put.{put}
-use Rattle.text_report.specs.laws.Text.{core-blank, core-unparted, core-parts}
+use Rattle.text_report.proofs.laws.Text.{core-blank, core-unparted, core-parts}
 use Rattle.text_report.proofs.core.Statement.{statement}
 use Rattle.text_report.proofs.core.Tie as tie
 

@@ -3,8 +3,8 @@ use mathlib.Core.Path.{sym, ap, ◌∙◌}
 use borrow.Author.Rules.{rules}
 use borrow.Author.Tests.{not-true, not-false}
 use Rattle.format_text.specs.Put.{put}
-use Rattle.format_text.specs.laws.Put.{put-none}
-use Rattle.text_report.specs.laws.Text.{end-elsewhere, end_none, end-one}
+use Rattle.format_text.proofs.laws.Put.{put-none}
+use Rattle.text_report.proofs.laws.Text.{end-elsewhere, end_none, end-one}
 use Rattle.text_report.proofs.end.Statement.{statement}
 use Rattle.text_report.proofs.end.Tie as tie
 

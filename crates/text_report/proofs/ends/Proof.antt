@@ -5,12 +5,12 @@ use mathlib.Core.Path.{◌≡◌, refl, sym, ap, ◌∙◌}
 use lib.ListN.{length}
 use borrow.Author.Rules.{rules}
 use Rattle.base.specs.Limits.{max_modules}
-use Rattle.graph.specs.laws.Parts.{labels-part}
+use Rattle.graph.proofs.laws.Parts.{labels-part}
 use Rattle.plan.specs.Links.{modules_of, graph_of}
 use Rattle.text_report.specs.Text.{ends_text, end_text}
-use Rattle.text_report.specs.laws.Text.{ends-none, ends-turn}
+use Rattle.text_report.proofs.laws.Text.{ends-none, ends-turn}
 use Rattle.format_text.specs.Put.{page, put}
-use Rattle.format_text.specs.laws.Put.{put-none, put_on}
+use Rattle.format_text.proofs.laws.Put.{put-none, put_on}
 use Rattle.text_report.proofs.ends.Statement.{statement}
 use Rattle.text_report.proofs.ends.Tie as tie
 

@@ -5,13 +5,13 @@ use mathlib.Core.List.{◌++◌}
 use borrow.Author.Rules.{rules}
 use Rattle.base.specs.Limits.{max_modules}
 use Rattle.graph.specs.Parts.{part_nodes}
-use Rattle.graph.specs.laws.Parts.{labels-nodes}
+use Rattle.graph.proofs.laws.Parts.{labels-nodes}
 use Rattle.plan.specs.Links.{modules_of, graph_of}
 use Rattle.format_text.specs.Ascii.{ascii}
 use Rattle.format_text.specs.Put.{put}
-use Rattle.format_text.specs.laws.Put.{put_on}
+use Rattle.format_text.proofs.laws.Put.{put_on}
 use Rattle.text_report.specs.Text.{ends_text}
-use Rattle.text_report.specs.laws.Text.{part-line-none, part-line-ends}
+use Rattle.text_report.proofs.laws.Text.{part-line-none, part-line-ends}
 use Rattle.text_report.proofs.part.Statement.{statement}
 use Rattle.text_report.proofs.part.Tie as tie
 

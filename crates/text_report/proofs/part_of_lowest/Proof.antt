@@ -8,10 +8,10 @@ use borrow.Author.Rules.{rules}
 use borrow.Author.Tests.{not-true, not-false}
 use Rattle.base.specs.Limits.{max_modules}
 use Rattle.graph.specs.Parts.{lowest}
-use Rattle.graph.specs.laws.Parts.{labels-lowest}
+use Rattle.graph.proofs.laws.Parts.{labels-lowest}
 use Rattle.plan.specs.Links.{graph_of}
 use Rattle.format_text.specs.Put.{put}
-use Rattle.format_text.specs.laws.Put.{put-none}
+use Rattle.format_text.proofs.laws.Put.{put-none}
 use Rattle.text_report.proofs.part_of_lowest.Statement.{statement}
 use Rattle.text_report.proofs.part_of_lowest.Tie as tie
 

@@ -6,9 +6,9 @@ use lib.ListN.{length}
 use borrow.Author.Rules.{rules}
 use Rattle.plan.specs.Links.{modules_of}
 use Rattle.text_report.specs.Text.{part_lines}
-use Rattle.text_report.specs.laws.Text.{parts_none, parts-turn}
+use Rattle.text_report.proofs.laws.Text.{parts_none, parts-turn}
 use Rattle.format_text.specs.Put.{page, put}
-use Rattle.format_text.specs.laws.Put.{put-none, put_on}
+use Rattle.format_text.proofs.laws.Put.{put-none, put_on}
 use Rattle.text_report.proofs.parts.Statement.{statement}
 use Rattle.text_report.proofs.parts.Tie as tie
 

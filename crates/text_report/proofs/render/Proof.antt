@@ -4,7 +4,7 @@ use borrow.Author.Rules.{rules}
 use Rattle.format_text.specs.Put.{put}
 use Rattle.text_report.specs.Text.{tail_text}
 use Rattle.format_text.specs.Lines.{line}
-use Rattle.text_report.specs.laws.Text.{report-parts}
+use Rattle.text_report.proofs.laws.Text.{report-parts}
 use Rattle.text_report.proofs.render.Statement.{statement}
 use Rattle.text_report.proofs.render.Tie as tie
 

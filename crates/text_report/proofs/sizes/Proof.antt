@@ -1,6 +1,6 @@
 -- text_report::sizes: the two lines one behind the other, by `put_on`.
 use borrow.Author.Rules.{rules}
-use Rattle.format_text.specs.laws.Put.{put_on}
+use Rattle.format_text.proofs.laws.Put.{put_on}
 use Rattle.format_text.specs.Lines.{line}
 use Rattle.text_report.proofs.sizes.Statement.{statement}
 use Rattle.text_report.proofs.sizes.Tie as tie

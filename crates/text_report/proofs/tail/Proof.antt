@@ -1,7 +1,7 @@
 -- text_report::tail: the two lines one behind the other, by `put_on`.
 use mathlib.Core.List.{◌++◌}
 use borrow.Author.Rules.{rules}
-use Rattle.format_text.specs.laws.Put.{put_on}
+use Rattle.format_text.proofs.laws.Put.{put_on}
 use Rattle.format_text.specs.Lines.{named, line}
 use Rattle.text_report.proofs.tail.Statement.{statement}
 use Rattle.text_report.proofs.tail.Tie as tie

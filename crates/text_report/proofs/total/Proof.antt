@@ -4,9 +4,9 @@ use native.Mathlib.Omega.{arith}
 use mathlib.Core.Path.{◌≡◌, refl, sym, ap, ◌∙◌}
 use mathlib.Core.Logic.{⊎_elim}
 use borrow.Author.Rules.{rules}
-use Rattle.text_report.specs.laws.Text.{capped}
+use Rattle.text_report.proofs.laws.Text.{capped}
 use Rattle.text_report.specs.Total.{total}
-use Rattle.text_report.specs.laws.Total.{total-branch, total-other}
+use Rattle.text_report.proofs.laws.Total.{total-branch, total-other}
 use Rattle.text_report.proofs.total.Statement.{statement}
 use Rattle.text_report.proofs.total.Tie as tie
 use Rattle.base.specs.Limits.{max_links}

@@ -2,7 +2,7 @@
 use mathlib.Core.Path.{sym, ap, ◌∙◌}
 use borrow.Author.Rules.{rules}
 use Rattle.format_text.specs.Put.{put}
-use Rattle.text_trace.specs.laws.Text.{link-none, link-some}
+use Rattle.text_trace.proofs.laws.Text.{link-none, link-some}
 use Rattle.text_trace.proofs.link_or_none.Statement.{statement}
 use Rattle.text_trace.proofs.link_or_none.Tie as tie
 

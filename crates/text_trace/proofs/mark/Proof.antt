@@ -3,10 +3,10 @@ use mathlib.Core.Path.{sym, ap, ◌∙◌}
 use borrow.Author.Rules.{rules}
 use borrow.Author.Tests.{not-true, not-false}
 use Rattle.format_text.specs.Put.{put}
-use Rattle.format_text.specs.laws.Put.{put-none, put_on}
+use Rattle.format_text.proofs.laws.Put.{put-none, put_on}
 use Rattle.format_text.specs.Lines.{named}
 use Rattle.text_trace.specs.Text.{item}
-use Rattle.text_trace.specs.laws.Text.{mark-none, mark-shown}
+use Rattle.text_trace.proofs.laws.Text.{mark-none, mark-shown}
 use Rattle.text_trace.proofs.mark.Statement.{statement}
 use Rattle.text_trace.proofs.mark.Tie as tie
 

@@ -5,7 +5,7 @@ use borrow.Author.Rules.{rules}
 use Rattle.format_text.specs.Ascii.{ascii}
 use Rattle.format_text.specs.Lines.{named}
 use Rattle.format_text.specs.Put.{put}
-use Rattle.format_text.specs.laws.Put.{put_on}
+use Rattle.format_text.proofs.laws.Put.{put_on}
 use Rattle.text_trace.specs.Text.{values_text, marks_text}
 use Rattle.text_trace.proofs.module_line.Statement.{statement}
 use Rattle.text_trace.proofs.module_line.Tie as tie

@@ -5,9 +5,9 @@ use mathlib.Core.Path.{◌≡◌, refl, sym, ap, ◌∙◌}
 use lib.ListN.{length}
 use borrow.Author.Rules.{rules}
 use Rattle.format_text.specs.Put.{page, put}
-use Rattle.format_text.specs.laws.Put.{put-none, put_on}
+use Rattle.format_text.proofs.laws.Put.{put-none, put_on}
 use Rattle.text_trace.specs.Text.{modules_text}
-use Rattle.text_trace.specs.laws.Text.{modules-none, modules-turn}
+use Rattle.text_trace.proofs.laws.Text.{modules-none, modules-turn}
 use Rattle.text_trace.proofs.modules.Statement.{statement}
 use Rattle.text_trace.proofs.modules.Tie as tie
 

@@ -1,6 +1,6 @@
 -- text_trace::other_values: five items one behind the other, by `put_on`.
 use borrow.Author.Rules.{rules}
-use Rattle.format_text.specs.laws.Put.{put_on}
+use Rattle.format_text.proofs.laws.Put.{put_on}
 use Rattle.text_trace.proofs.other_values.Statement.{statement}
 use Rattle.text_trace.proofs.other_values.Tie as tie
 

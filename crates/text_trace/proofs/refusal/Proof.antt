@@ -2,7 +2,7 @@
 use mathlib.Core.Path.{sym, ap, ◌∙◌}
 use borrow.Author.Rules.{rules}
 use Rattle.format_text.specs.Put.{put}
-use Rattle.text_trace.specs.laws.Text.{refusal-none, refusal-some}
+use Rattle.text_trace.proofs.laws.Text.{refusal-none, refusal-some}
 use Rattle.text_trace.proofs.refusal.Statement.{statement}
 use Rattle.text_trace.proofs.refusal.Tie as tie
 

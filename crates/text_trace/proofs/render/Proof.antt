@@ -1,6 +1,6 @@
 -- text_trace::render: summary, modules and words one behind the other: the trace, by `trace-parts`.
 use borrow.Author.Rules.{rules}
-use Rattle.text_trace.specs.laws.Text.{trace-parts}
+use Rattle.text_trace.proofs.laws.Text.{trace-parts}
 use Rattle.text_trace.proofs.render.Statement.{statement}
 use Rattle.text_trace.proofs.render.Tie as tie
 

@@ -1,7 +1,7 @@
 -- text_trace::summary: the four lines one behind the other, by `put_on`.
 use borrow.Author.Rules.{rules}
 use mathlib.Core.List.{◌++◌}
-use Rattle.format_text.specs.laws.Put.{put_on}
+use Rattle.format_text.proofs.laws.Put.{put_on}
 use Rattle.format_text.specs.Lines.{line}
 use Rattle.text_trace.specs.Text.{refusal_text}
 use Rattle.text_trace.proofs.summary.Statement.{statement}

@@ -1,6 +1,6 @@
 -- text_trace::values: the first five and the others, by `put_on`.
 use borrow.Author.Rules.{rules}
-use Rattle.format_text.specs.laws.Put.{put_on}
+use Rattle.format_text.proofs.laws.Put.{put_on}
 use Rattle.text_trace.specs.Text.{first_text, other_text}
 use Rattle.text_trace.proofs.values.Statement.{statement}
 use Rattle.text_trace.proofs.values.Tie as tie

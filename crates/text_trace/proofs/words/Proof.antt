@@ -6,7 +6,7 @@ use lib.ListN.{length, drop}
 use borrow.Author.Rules.{rules}
 use Rattle.format_text.specs.Put.{page, put}
 use Rattle.text_trace.specs.Text.{words_text}
-use Rattle.text_trace.specs.laws.Text.{words-turn, words-over}
+use Rattle.text_trace.proofs.laws.Text.{words-turn, words-over}
 use Rattle.text_trace.proofs.words.Statement.{statement}
 use Rattle.text_trace.proofs.words.Tie as tie
 

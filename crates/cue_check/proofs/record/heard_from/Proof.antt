@@ -1,6 +1,6 @@
 -- cue_check::record::heard_from: by `heard-alike`.
 use borrow.Author.Rules.{rules}
-use Rattle.cue_check.specs.laws.Right.{heard-alike}
+use Rattle.cue_check.proofs.laws.Right.{heard-alike}
 use Rattle.cue_check.proofs.record.heard_from.Statement.{statement}
 use Rattle.cue_check.proofs.record.heard_from.Tie as tie
 

@@ -1,7 +1,7 @@
 -- cue_check::record::in_tree: by `mark-tells`.
 use mathlib.Core.Path.{sym}
 use borrow.Author.Rules.{rules}
-use Rattle.cue_check.specs.laws.Bytes.{mark-tells}
+use Rattle.cue_check.proofs.laws.Bytes.{mark-tells}
 use Rattle.cue_check.proofs.record.in_tree.Statement.{statement}
 use Rattle.cue_check.proofs.record.in_tree.Tie as tie
 

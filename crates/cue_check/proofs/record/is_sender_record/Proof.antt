@@ -1,5 +1,5 @@
 -- cue_check::record::is_sender_record: by `sender-alike`.
-use Rattle.cue_check.specs.laws.Right.{sender-alike}
+use Rattle.cue_check.proofs.laws.Right.{sender-alike}
 use Rattle.cue_check.proofs.record.is_sender_record.Statement.{statement}
 use Rattle.cue_check.proofs.record.is_sender_record.Tie as tie
 

@@ -1,9 +1,9 @@
 -- cue_check::record::own_branch: past the links it is no own link, by `own_below`; else what the two callees answer.
 use native.Mathlib.Omega.{arith}
 use borrow.Author.Rules.{rules}
-use Rattle.base.specs.laws.Cond.{bool_cases}
+use Rattle.base.proofs.laws.Cond.{bool_cases}
 use Rattle.field.specs.Edges.{is_own}
-use Rattle.field.specs.laws.Edges.{own_below}
+use Rattle.field.proofs.laws.Edges.{own_below}
 use Rattle.cue_check.proofs.record.own_branch.Statement.{statement}
 use Rattle.cue_check.proofs.record.own_branch.Tie as tie
 

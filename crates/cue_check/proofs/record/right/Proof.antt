@@ -2,7 +2,7 @@
 use mathlib.Core.Path.{ap₂, ◌∙◌}
 use mathlib.Core.Bool.{◌&&◌}
 use borrow.Author.Rules.{rules}
-use Rattle.cue_check.specs.laws.Right.{right-silent, right-sender, right-heard}
+use Rattle.cue_check.proofs.laws.Right.{right-silent, right-sender, right-heard}
 use Rattle.cue_check.proofs.record.right.Statement.{statement}
 use Rattle.cue_check.proofs.record.right.Tie as tie
 

@@ -6,9 +6,9 @@ use mathlib.Core.List.{List}
 use lib.ListN.{length}
 use borrow.Author.Rules.{rules}
 use Rattle.base.specs.Test.{every}
-use Rattle.plan.specs.laws.Accepted.{accepted}
+use Rattle.plan.proofs.laws.Accepted.{accepted}
 use Rattle.cue_check.specs.Bytes.{byte_agrees}
-use Rattle.cue_check.specs.laws.Bytes.{bytes-agree}
+use Rattle.cue_check.proofs.laws.Bytes.{bytes-agree}
 use Rattle.cue_check.proofs.tree.agrees.Statement.{statement}
 use Rattle.cue_check.proofs.tree.agrees.Tie as tie
 

@@ -5,7 +5,7 @@ use lib.ListN.{length}
 use borrow.Author.Rules.{rules}
 use borrow.Author.Tests.{not-true, not-false}
 use Rattle.base.specs.Test.{every}
-use Rattle.base.specs.laws.Test.{every-goes-on, every-stops, every-of-none}
+use Rattle.base.proofs.laws.Test.{every-goes-on, every-stops, every-of-none}
 use Rattle.cue_check.specs.Bytes.{byte_agrees}
 use Rattle.cue_check.proofs.tree.links_agree.Statement.{statement}
 use Rattle.cue_check.proofs.tree.links_agree.Tie as tie

@@ -6,10 +6,10 @@ use mathlib.Core.Bool.{true}
 use borrow.Author.Rules.{rules}
 use borrow.Author.Tests.{not-true, not-false}
 use Rattle.plan.specs.Links.{modules_of}
-use Rattle.plan.specs.laws.Accepted.{Accepted}
+use Rattle.plan.proofs.laws.Accepted.{Accepted}
 use Rattle.field.specs.Held.{Held, held_from}
 use Rattle.cue.specs.Calls.{left_by_sending}
-use Rattle.cue.specs.laws.Refusals.{FieldReady, ready-accepted, field-ready, delivery-field, delivery-few, delivery-73, delivery-42, facts-delivery}
+use Rattle.cue.proofs.laws.Refusals.{FieldReady, ready-accepted, field-ready, delivery-field, delivery-few, delivery-73, delivery-42, facts-delivery}
 use Rattle.cue_verdict.proofs.delivery.refusal.Statement.{statement}
 use Rattle.cue_verdict.proofs.delivery.refusal.Tie as tie
 

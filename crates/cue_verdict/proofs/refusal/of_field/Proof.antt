@@ -5,7 +5,7 @@ use borrow.Author.Rules.{rules}
 use borrow.Author.Tests.{not-true, not-false}
 use Rattle.field.specs.Held.{Held, valid, held_from}
 use Rattle.field_check.proofs.Admitted.{invalid, passes}
-use Rattle.cue.specs.laws.Refusals.{valid-plan-taken, field-31, field-71, field-goes-on}
+use Rattle.cue.proofs.laws.Refusals.{valid-plan-taken, field-31, field-71, field-goes-on}
 use Rattle.cue_verdict.proofs.refusal.of_field.Statement.{statement}
 use Rattle.cue_verdict.proofs.refusal.of_field.Tie as tie
 

@@ -5,7 +5,7 @@ use mathlib.Core.Path.{sym, ◌∙◌}
 use borrow.Author.Rules.{rules}
 use Rattle.plan.specs.Links.{modules_of}
 use Rattle.field.specs.Held.{Held, held_from}
-use Rattle.cue.specs.laws.Refusals.{FieldReady, field-ready, start-field, start-72, start-73, facts-start}
+use Rattle.cue.proofs.laws.Refusals.{FieldReady, field-ready, start-field, start-72, start-73, facts-start}
 use Rattle.cue_verdict.proofs.start.refusal.Statement.{statement}
 use Rattle.cue_verdict.proofs.start.refusal.Tie as tie
 

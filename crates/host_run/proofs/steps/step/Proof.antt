@@ -5,7 +5,7 @@ use borrow.Author.Rules.{rules}
 use Rattle.field.specs.Step.{hand}
 use Rattle.field_serve.proofs.Ready.{stays, hands, hand-sound}
 use Rattle.field_serve.proofs.Turns.{advances-as}
-use Rattle.field.specs.laws.Step.{wake-is-step, hand-is-step, serve-is-step, other-is-54}
+use Rattle.field.proofs.laws.Step.{wake-is-step, hand-is-step, serve-is-step, other-is-54}
 use Rattle.host_run.proofs.steps.step.Statement.{statement}
 use Rattle.host_run.proofs.steps.step.Tie as tie
 
