@@ -3,7 +3,7 @@
 
 usage: tools/port_laws.py      once, at the top, after tools/port_names.py
 
-In plan_tree, laws/Forest and laws/Phase hold what contracts say too: they stay.
+The files of STAY hold what contracts of their own crate say: they stay.
 
 Today an edit of a definition cannot be tried where a theorem of specs/ rests on it: what is in specs/ is read before anything is proved.
 """
@@ -12,6 +12,8 @@ import glob
 import os
 import re
 import subprocess
+
+STAY = {"plan_tree": ["Forest", "Phase"], "plan_file": ["Head"], "host_schedule": ["Kinds"], "node_joining": ["Copies"], "node_searching": ["Searching"]}
 
 
 def read(path):
@@ -49,19 +51,29 @@ def main():
         got = text.replace("specs/laws", "proofs/laws")
         if got != text:
             write(path, got)
-    # what contracts say stays in specs/
-    stay = "crates/plan_tree"
-    os.makedirs(f"{stay}/specs/laws")
-    for name in ("Forest", "Phase"):
-        subprocess.run(["git", "mv", f"{stay}/proofs/laws/{name}.antt", f"{stay}/specs/laws/{name}.antt"], check=True)
-        write(f"{stay}/proofs/laws.antt", read(f"{stay}/proofs/laws.antt").replace(f"pub mod {name}\n", ""))
-    write(f"{stay}/specs/laws.antt", "pub mod Forest\npub mod Phase\n")
-    write(f"{stay}/specs/Lib.antt", read(f"{stay}/specs/Lib.antt") + "pub mod laws\n")
-    for path in glob.glob("crates/**/*.antt", recursive=True) + glob.glob("crates/*/src/*.rt"):
-        text = read(path)
-        got = re.sub(r"plan_tree\.proofs\.laws\.(Forest|Phase)", r"plan_tree.specs.laws.\1", text)
-        if got != text:
-            write(path, got)
+    for c, names in STAY.items():
+        os.makedirs(f"crates/{c}/specs/laws")
+        for name in names:
+            subprocess.run(["git", "mv", f"crates/{c}/proofs/laws/{name}.antt", f"crates/{c}/specs/laws/{name}.antt"], check=True)
+        left = [n for n in re.findall(r"pub mod (\w+)", read(f"crates/{c}/proofs/laws.antt")) if n not in names]
+        write(f"crates/{c}/specs/laws.antt", "".join(f"pub mod {n}\n" for n in names))
+        write(f"crates/{c}/specs/Lib.antt", read(f"crates/{c}/specs/Lib.antt") + "pub mod laws\n")
+        if left:
+            write(f"crates/{c}/proofs/laws.antt", "".join(f"pub mod {n}\n" for n in left))
+        else:
+            subprocess.run(["git", "rm", "-qf", f"crates/{c}/proofs/laws.antt"], check=True)
+            lib = f"crates/{c}/proofs/Lib.antt"
+            text = read(lib).replace("pub mod laws\n", "")
+            if text.strip():
+                write(lib, text)
+            else:
+                os.remove(lib)
+        own = re.compile(rf"{c}\.proofs\.laws\.({'|'.join(names)})\b")
+        for path in glob.glob("crates/**/*.antt", recursive=True) + glob.glob("crates/*/src/*.rt"):
+            text = read(path)
+            got = own.sub(rf"{c}.specs.laws.\1", text)
+            if got != text:
+                write(path, got)
     print(f"port_laws: {len(moved)} crates")
 
 

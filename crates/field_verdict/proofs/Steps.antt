@@ -26,7 +26,7 @@ use Rattle.node.specs.Rules.{respond, wake_on, wakes}
 use Rattle.node_response.specs.declared.Packet.{Packet}
 use Rattle.node_response.specs.declared.Response.{Response}
 use Rattle.node_response.specs.Response.{packet_msg, work_of, Formed}
-use Rattle.node_joining.proofs.laws.Copies.{copies_in}
+use Rattle.node_joining.specs.laws.Copies.{copies_in}
 use Rattle.node_dispatch.specs.Receives.{Receives}
 use Rattle.field.specs.Edges.{own_of, link_of, limit_of}
 use Rattle.field.specs.State.{State, node_in, node_at, mark_at, msg_in}

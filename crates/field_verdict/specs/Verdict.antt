@@ -8,7 +8,7 @@ use Rattle.plan.specs.Links.{Plan}
 use Rattle.node.specs.Work.{Work, BACK}
 use Rattle.node_response.specs.declared.Response.{Response}
 use Rattle.node_response.specs.Response.{work_of}
-use Rattle.node_joining.proofs.laws.Copies.{copies_in}
+use Rattle.node_joining.specs.laws.Copies.{copies_in}
 use Rattle.field.specs.Edges.{own_of, link_of, ceiling_of}
 use Rattle.field.specs.State.{State, mark_at, msg_in, placed}
 use Rattle.field.specs.Step.{without, back_of}

@@ -3,7 +3,7 @@
 
 ghost use Rattle.std.specs.Prelude.{◌≡◌, ◌+◌, ◌*◌, ◌<◌, length};
 ghost use Rattle.field_calls.specs.Schedule.{kind_of, number_of, kind_listed, schedule_refusal};
-ghost use Rattle.host_schedule.proofs.laws.Kinds.{kinds_from};
+ghost use Rattle.host_schedule.specs.laws.Kinds.{kinds_from};
 
 // Whether a kind is 1 (wake), 2 (hand over) or 3 (serve).
 fn is_kind(kind: u8) -> bool

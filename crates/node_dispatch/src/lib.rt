@@ -8,7 +8,7 @@ ghost use Rattle.field.specs.Edges.{own_of, marks_in, limit_of};
 ghost use Rattle.node.specs.Work.{ASLEEP, Send};
 ghost use Rattle.node.specs.Rules.{respond_to, respond, wakes};
 ghost use Rattle.node_response.specs.Response.{Does, Formed, packet_msg, work_of};
-ghost use Rattle.node_joining.proofs.laws.Copies.{copies_in};
+ghost use Rattle.node_joining.specs.laws.Copies.{copies_in};
 ghost use Rattle.node_dispatch.specs.Receives.{Receives, Fresh};
 
 use base::NONE;

@@ -10,7 +10,7 @@ ghost use Rattle.field.specs.Edges.{is_own, own_of, marks_in, limit_of};
 ghost use Rattle.node.specs.Work.{Send};
 ghost use Rattle.node.specs.Rules.{join_over, absorb, core_end, on_connect, on_initiate};
 ghost use Rattle.node_response.specs.Response.{Does};
-ghost use Rattle.node_joining.proofs.laws.Copies.{copies_in};
+ghost use Rattle.node_joining.specs.laws.Copies.{copies_in};
 
 use base::NONE;
 use field::Marks;

@@ -11,7 +11,7 @@ ghost use Rattle.field.specs.Edges.{is_own, own_of, marks_in};
 ghost use Rattle.node.specs.Work.{BASIC, REJECTED, Send};
 ghost use Rattle.node.specs.Rules.{strike, on_test, on_accept, on_reject, child_report, core_report, on_report};
 ghost use Rattle.node_response.specs.Response.{Does};
-ghost use Rattle.node_searching.proofs.laws.Searching.{bettered};
+ghost use Rattle.node_searching.specs.laws.Searching.{bettered};
 
 use base::NONE;
 use field::Marks;

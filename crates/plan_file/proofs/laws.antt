@@ -1,4 +1,3 @@
-pub mod Head
 pub mod Lengths
 pub mod Numbers
 pub mod RoundTrip

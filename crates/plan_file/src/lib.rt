@@ -6,7 +6,7 @@ ghost use Rattle.std.proofs.lemmas.List.Edits.{sets};
 ghost use Rattle.base.specs.Limits.{max_links};
 ghost use Rattle.plan.specs.Links.{links_of};
 ghost use Rattle.plan_file.specs.Layout.{number_at, decode, encode, blank};
-ghost use Rattle.plan_file.proofs.laws.Head.{HeadOk};
+ghost use Rattle.plan_file.specs.laws.Head.{HeadOk};
 ghost use Rattle.plan_file.specs.Reading.{head_refusal, read_refusal, read_plan, Loaded};
 ghost use Rattle.plan_file.specs.Writing.{size, write_plan};
 

@@ -2,7 +2,7 @@
 use Prim.Native.Nat.{ℕ, ◌+◌, ◌/◌, ◌%◌}
 use mathlib.Core.Path.{sym, ap, ◌∙◌}
 use borrow.Author.Rules.{rules}
-use Rattle.host_schedule.proofs.laws.Kinds.{kinds_from, short-is-51, version-is-52, wrong-length-is-53, uneven-is-53, of-kinds}
+use Rattle.host_schedule.specs.laws.Kinds.{kinds_from, short-is-51, version-is-52, wrong-length-is-53, uneven-is-53, of-kinds}
 use Rattle.host_schedule.proofs.check.Statement.{statement}
 use Rattle.host_schedule.proofs.check.Tie as tie
 

@@ -1,6 +1,6 @@
 -- host_schedule::is_kind: the arms are the definition's list; what no arm names is `unlisted`.
 use native.Mathlib.Omega.{arith}
-use Rattle.host_schedule.proofs.laws.Kinds.{unlisted}
+use Rattle.host_schedule.specs.laws.Kinds.{unlisted}
 use Rattle.host_schedule.proofs.is_kind.Statement.{statement}
 use Rattle.host_schedule.proofs.is_kind.Tie as tie
 

@@ -7,7 +7,7 @@ use borrow.Author.Count.{below_more}
 use borrow.Author.Rules.{rules}
 use borrow.Author.Tests.{not-true, not-false}
 use Rattle.field_calls.specs.Schedule.{kind_of, kind_listed}
-use Rattle.host_schedule.proofs.laws.Kinds.{kinds-bad, kinds-fine}
+use Rattle.host_schedule.specs.laws.Kinds.{kinds-bad, kinds-fine}
 use Rattle.host_schedule.proofs.kinds.Statement.{statement}
 use Rattle.host_schedule.proofs.kinds.Tie as tie
 

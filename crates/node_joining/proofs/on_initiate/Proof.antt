@@ -4,7 +4,7 @@ use mathlib.Core.Path.{sym, ◌∙◌}
 use native.Mathlib.Omega.{arith}
 use Rattle.node.proofs.laws.Rules.{initiate-found}
 use Rattle.node_response.proofs.laws.Response.{told-as, does-then, sets-node}
-use Rattle.node_joining.proofs.laws.Copies.{tell-find, tell-found, initiate-refused, initiate-searches}
+use Rattle.node_joining.specs.laws.Copies.{tell-find, tell-found, initiate-refused, initiate-searches}
 use Rattle.node_joining.proofs.on_initiate.Statement.{statement}
 use Rattle.node_joining.proofs.on_initiate.Tie as tie
 

@@ -1,7 +1,7 @@
 -- node_searching::better: one law for each return: `better-new`, `better-old`.
 use borrow.Author.Rules.{rules}
 use mathlib.Core.Path.{sym, ◌∙◌}
-use Rattle.node_searching.proofs.laws.Searching.{better-new, better-old}
+use Rattle.node_searching.specs.laws.Searching.{better-new, better-old}
 use Rattle.node_searching.proofs.better.Statement.{statement}
 use Rattle.node_searching.proofs.better.Tie as tie
 

@@ -4,7 +4,7 @@ use mathlib.Core.Path.{sym, ◌∙◌}
 use Rattle.node.proofs.laws.Rules.{child-refused, child-reports}
 use Rattle.node_response.specs.Response.{work_of}
 use Rattle.node_response.proofs.laws.Response.{told-as, does-then, sets-node}
-use Rattle.node_searching.proofs.laws.Searching.{report-with}
+use Rattle.node_searching.specs.laws.Searching.{report-with}
 use Rattle.node_searching.proofs.child_report.Statement.{statement}
 use Rattle.node_searching.proofs.child_report.Tie as tie
 

@@ -3,7 +3,7 @@ use borrow.Author.Rules.{rules}
 use mathlib.Core.Logic.{inl}
 use Rattle.node_response.specs.Response.{work_of}
 use Rattle.node_response.proofs.laws.Response.{told-as, does-then, sets-node}
-use Rattle.node_searching.proofs.laws.Searching.{report-with}
+use Rattle.node_searching.specs.laws.Searching.{report-with}
 use Rattle.node_searching.proofs.on_accept.Statement.{statement}
 use Rattle.node_searching.proofs.on_accept.Tie as tie
 

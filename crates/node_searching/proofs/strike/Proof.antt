@@ -8,7 +8,7 @@ use native.Mathlib.Omega.{arith}
 use Rattle.field.proofs.laws.Edges.{own_below}
 use Rattle.node.specs.Work.{BASIC, REJECTED}
 use Rattle.node_response.proofs.laws.Response.{told-as, marks-edge}
-use Rattle.node_searching.proofs.laws.Searching.{strike-with}
+use Rattle.node_searching.specs.laws.Searching.{strike-with}
 use Rattle.node_searching.proofs.strike.Statement.{statement}
 use Rattle.node_searching.proofs.strike.Tie as tie
 

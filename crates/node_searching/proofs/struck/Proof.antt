@@ -1,6 +1,6 @@
 -- node_searching::struck: one law for each return: `struck-basic`, `struck-other`.
 use mathlib.Core.Path.{sym}
-use Rattle.node_searching.proofs.laws.Searching.{struck-basic, struck-other}
+use Rattle.node_searching.specs.laws.Searching.{struck-basic, struck-other}
 use Rattle.node_searching.proofs.struck.Statement.{statement}
 use Rattle.node_searching.proofs.struck.Tie as tie
 

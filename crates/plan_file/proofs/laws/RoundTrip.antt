@@ -24,7 +24,7 @@ use Rattle.plan_file.specs.Layout.{plan_numbers, bytes_of, encode, number_at, de
 use Rattle.plan_file.proofs.laws.Lengths.{length-encode}
 use Rattle.plan_file.specs.Reading.{head_refusal, read_refusal, read_plan}
 use Rattle.plan_file.specs.Writing.{size, write_refusal, write_plan}
-use Rattle.plan_file.proofs.laws.Head.{HeadOk, head_ok, ok-head}
+use Rattle.plan_file.specs.laws.Head.{HeadOk, head_ok, ok-head}
 use Rattle.plan_file.proofs.laws.Numbers.{all-bytes, number_of, bytes-numbers, bytes-of, All-tabulate}
 
 -- WRITTEN, THEN READ

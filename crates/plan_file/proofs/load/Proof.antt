@@ -1,6 +1,6 @@
 -- plan_file::load: refused at the head by `load-head`; else the plan is read and its check answers, by `load-plan`.
 use mathlib.Core.Path.{sym, ◌∙◌}
-use Rattle.plan_file.proofs.laws.Head.{head_ok}
+use Rattle.plan_file.specs.laws.Head.{head_ok}
 use Rattle.plan_file.proofs.Answers.{load-head, load-plan}
 use borrow.Author.Rules.{rules}
 use Rattle.plan_file.proofs.load.Statement.{statement}

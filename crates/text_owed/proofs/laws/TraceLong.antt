@@ -18,7 +18,7 @@ use Rattle.base.proofs.laws.Refuse.{first_refusal-zero}
 use Rattle.plan_file.specs.declared.Outcome.{Outcome}
 use Rattle.plan_file.specs.Layout.{decode, blank}
 use Rattle.plan_file.specs.Reading.{head_refusal, read_refusal, read_plan}
-use Rattle.plan_file.proofs.laws.Head.{head_ok}
+use Rattle.plan_file.specs.laws.Head.{head_ok}
 use Rattle.field.specs.Held.{Held, valid}
 use Rattle.field_calls.specs.Schedule.{schedule_refusal}
 use Rattle.field_calls.specs.Call.{refused_run, run_bytes}

@@ -4,7 +4,7 @@ use native.Mathlib.Omega.{arith}
 use mathlib.Core.Path.{◌≡◌, refl}
 use borrow.Author.Rules.{rules}
 use Rattle.field_calls.specs.Schedule.{steps_in, step_at, never}
-use Rattle.host_schedule.proofs.laws.Kinds.{taken-size}
+use Rattle.host_schedule.specs.laws.Kinds.{taken-size}
 use Rattle.field_serve.proofs.Going.{Going, not-gone, goes-on, goes-off, goes_over}
 use Rattle.host_run.proofs.Dispatch.{read_step}
 use Rattle.host_run.proofs.steps.steps.Statement.{statement}
