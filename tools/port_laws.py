@@ -14,6 +14,7 @@ import re
 import subprocess
 
 STAY = {"plan_tree": ["Forest", "Phase"], "plan_file": ["Head"], "host_schedule": ["Kinds"], "node_joining": ["Copies"], "node_searching": ["Searching"]}
+CLASH = ["host_job", "plan_labels", "plan_tree"]
 
 
 def read(path):
@@ -72,6 +73,16 @@ def main():
         for path in glob.glob("crates/**/*.antt", recursive=True) + glob.glob("crates/*/src/*.rt"):
             text = read(path)
             got = own.sub(rf"{c}.specs.laws.\1", text)
+            if got != text:
+                write(path, got)
+    # two files whose names differ only in case are refused
+    for c in CLASH:
+        subprocess.run(["git", "mv", f"crates/{c}/proofs/Laws.antt", f"crates/{c}/proofs/Lemmas.antt"], check=True)
+        lib = f"crates/{c}/proofs/Lib.antt"
+        write(lib, read(lib).replace("pub mod Laws\n", "pub mod Lemmas\n"))
+        for path in glob.glob(f"crates/{c}/proofs/**/*.antt", recursive=True):
+            text = read(path)
+            got = re.sub(rf"{c}\.proofs\.Laws\b", f"{c}.proofs.Lemmas", text)
             if got != text:
                 write(path, got)
     print(f"port_laws: {len(moved)} crates")

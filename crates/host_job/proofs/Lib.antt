@@ -1,2 +1,2 @@
 pub mod laws
-pub mod Laws
+pub mod Lemmas

@@ -1,4 +1,4 @@
 pub mod laws
-pub mod Laws
+pub mod Lemmas
 pub mod Offers
 pub mod Joins

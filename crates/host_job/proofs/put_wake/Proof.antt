@@ -4,7 +4,7 @@ use mathlib.Core.Path.{◌∙◌}
 use lib.ListN.{length-set}
 use borrow.Author.Tests.{not-true, not-false}
 use Rattle.field.specs.Step.{WAKE}
-use Rattle.host_job.proofs.Laws.{wake-none, wake-one}
+use Rattle.host_job.proofs.Lemmas.{wake-none, wake-one}
 use borrow.Author.Rules.{rules}
 use Rattle.host_job.proofs.put_wake.Statement.{statement}
 use Rattle.host_job.proofs.put_wake.Tie as tie

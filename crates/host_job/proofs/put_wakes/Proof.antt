@@ -11,7 +11,7 @@ use Rattle.graph.proofs.laws.Parts.{labels-lowest}
 use Rattle.plan.specs.Links.{modules_of, graph_of}
 use Rattle.plan.proofs.laws.Accepted.{accepted}
 use Rattle.host_job.specs.Job.{wake_steps}
-use Rattle.host_job.proofs.Laws.{low_wakes, low-room, low-next}
+use Rattle.host_job.proofs.Lemmas.{low_wakes, low-room, low-next}
 use borrow.Author.Rules.{rules}
 use Rattle.host_job.proofs.put_wakes.Statement.{statement}
 use Rattle.host_job.proofs.put_wakes.Tie as tie

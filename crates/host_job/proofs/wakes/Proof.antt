@@ -4,7 +4,7 @@ use native.Mathlib.Omega.{arith}
 use mathlib.Core.Path.{◌∙◌}
 use lib.ListN.{length-set}
 use Rattle.host_job.specs.Job.{most_wakes}
-use Rattle.host_job.proofs.Laws.{low-most, schedule-written}
+use Rattle.host_job.proofs.Lemmas.{low-most, schedule-written}
 use borrow.Author.Rules.{rules}
 use Rattle.host_job.proofs.wakes.Statement.{statement}
 use Rattle.host_job.proofs.wakes.Tie as tie

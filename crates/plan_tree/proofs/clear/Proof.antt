@@ -5,7 +5,7 @@ use mathlib.Core.Path.{◌≡◌, refl}
 use borrow.Author.Rules.{rules}
 use lib.ListN.{length, length-set}
 use Rattle.plan_tree.specs.Lent.{at}
-use Rattle.plan_tree.proofs.Laws.{fill}
+use Rattle.plan_tree.proofs.Lemmas.{fill}
 use Rattle.plan_tree.proofs.clear.Statement.{statement}
 use Rattle.plan_tree.proofs.clear.Tie as tie
 

@@ -7,7 +7,7 @@ use Rattle.base.specs.Sum.{sum}
 use Rattle.plan.specs.Links.{links_of, graph_of}
 use Rattle.plan_tree.specs.laws.Phase.{apart_at, apart-le, apart-most}
 use Rattle.plan_tree.specs.Lent.{at, Firsts}
-use Rattle.plan_tree.proofs.Laws.{sum-next}
+use Rattle.plan_tree.proofs.Lemmas.{sum-next}
 use Rattle.plan_tree.proofs.scan.Statement.{statement}
 use Rattle.plan_tree.proofs.scan.Tie as tie
 
