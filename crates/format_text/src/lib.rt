@@ -10,7 +10,8 @@ ghost use Rattle.format_text.specs.Decimal.{decimal};
 ghost use Rattle.format_text.specs.Lines.{refused_text};
 ghost use Rattle.format_text.specs.Input.{room_of, count_of};
 
-use libc::STDIN_FILENO;
+// The C library's number for standard input.
+const STDIN_FILENO: i32 = 0;
 
 pub fn put(out: &mut [u8], at: usize, s: &[u8]) -> usize
     ensures { page result out.new ≡ Put·put (page at out.old) s.now }

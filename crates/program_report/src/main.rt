@@ -10,8 +10,10 @@ ghost use Rattle.text_owed.specs.Reported.{job_text, reported};
 
 use base::MAX_WORDS;
 use format_text::Intake;
-use libc::STDOUT_FILENO;
 use plan::Plan;
+
+// The C library's number for standard output.
+const STDOUT_FILENO: i32 = 1;
 
 // The report of what the whole job on a plan leaves. (`words` is lent for the job alone: what it leaves there is of no use after.)
 fn job_report(p: &Plan, words: &mut [u64], out: &mut [u8]) -> usize

@@ -14,8 +14,10 @@ ghost use Rattle.text_owed.specs.Traced.{fresh_held, ran_text, traced};
 use base::MAX_WORDS;
 use format_text::Intake;
 use host_run::ScheduleRan;
-use libc::STDOUT_FILENO;
 use plan::Plan;
+
+// The C library's number for standard output.
+const STDOUT_FILENO: i32 = 1;
 
 // Setup of an accepted plan with exactly M words, then a run of the schedule.
 fn set_up_and_run(p: &Plan, lent: &mut [u64], schedule: &[u8]) -> ScheduleRan

@@ -9,4 +9,4 @@ pub returns : goal.returns
 returns c =
     let after = c.before in
     let told = after.decimal-n.ensures in
-    after.put.ensures ∙ ap (put _) (told.1.1 ∙ decimal-digits _ _ (omega arith) told.1.0)
+    after.put.ensures ∙ ap (put _) (told.digits ∙ decimal-digits _ _ (omega arith) told.len)
