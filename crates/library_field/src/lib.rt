@@ -1,5 +1,5 @@
-// Fields from C: setup, 31 by itself, a step, a run of a schedule, a run of rounds. A field is lent in its parts; the inline functions of
-// include/muruapy.h pass them.
+// Fields for C: setup, 31 by itself, a step, a run of a schedule, a run of rounds. A field is lent in its parts; the inline functions of
+// include/muruapy.h pass them. library_field_c exports these functions.
 #![tactic(auto)]
 
 ghost use Rattle.std.specs.Prelude.{◌≡◌, cond, length};
@@ -38,8 +38,7 @@ pub fn hand_back(g: Field, cells: &mut Cells, marks: &mut Marks, sent: &mut u32)
 }
 
 // Setup: 14 to 18, then 21. `held` is the plan's place in the field.
-#[unsafe(no_mangle)]
-pub extern "C" fn muruapy_setup_parts(
+pub fn muruapy_setup_parts(
     plan: &Plan,
     held: &mut Plan,
     cells: &mut Cells,
@@ -62,8 +61,7 @@ pub extern "C" fn muruapy_setup_parts(
 }
 
 // 31 by itself.
-#[unsafe(no_mangle)]
-pub extern "C" fn muruapy_field_check_parts<'a>(
+pub fn muruapy_field_check_parts<'a>(
     plan: &'a Plan,
     cells: &'a Cells,
     marks: &'a Marks,
@@ -80,16 +78,14 @@ pub extern "C" fn muruapy_field_check_parts<'a>(
 }
 
 // How many words wait.
-#[unsafe(no_mangle)]
-pub extern "C" fn muruapy_waiting(words: &[u64]) -> usize
+pub fn muruapy_waiting(words: &[u64]) -> usize
     ensures { result ≡ length (waiting_in words.now) }
 {
     field_check::waiting(words)
 }
 
 // A step given alone.
-#[unsafe(no_mangle)]
-pub extern "C" fn muruapy_step_parts(
+pub fn muruapy_step_parts(
     plan: &Plan,
     cells: &mut Cells,
     marks: &mut Marks,
@@ -108,8 +104,7 @@ pub extern "C" fn muruapy_step_parts(
 }
 
 // A run of a schedule; `steps` gets the steps done.
-#[unsafe(no_mangle)]
-pub extern "C" fn muruapy_run_parts(
+pub fn muruapy_run_parts(
     plan: &Plan,
     cells: &mut Cells,
     marks: &mut Marks,
@@ -129,8 +124,7 @@ pub extern "C" fn muruapy_run_parts(
 }
 
 // A run of rounds; `rounds` gets the rounds completed.
-#[unsafe(no_mangle)]
-pub extern "C" fn muruapy_rounds_parts(
+pub fn muruapy_rounds_parts(
     plan: &Plan,
     cells: &mut Cells,
     marks: &mut Marks,
