@@ -1,16 +1,10 @@
-use Prim.Native.Nat.{◌-◌}
 use native.Mathlib.Omega.{arith}
 use mathlib.Core.Path.{◌≡◌, refl, ◌∙◌}
 use lib.ListN.{length, length-set}
 use Rattle.plan.specs.Links.{links_of}
 use Rattle.plan_file.specs.Layout.{plan_numbers}
 use Rattle.plan_file.proofs.Stores.{put-start, write-turn, write-end}
-use Rattle.plan_file.proofs.put_plan.Goals.{After-put}
 use Rattle.plan_file.proofs.put_plan.Goals as goal
-
--- the buffer's length, after version and length
-long : (c : After-put) → length c.put.new.s ≡ length c.args.out.now
-long c = c.put.auto.0 ∙ simp length-set
 
 pub put-requires : goal.put-requires
 put-requires c = simp length-set (omega arith)
@@ -20,17 +14,19 @@ loop-i-init c = (omega arith, omega (arith, c.links-l.ensures), refl, put-start 
 
 pub put-requires-in-loop-i : goal.put-requires-in-loop-i
 put-requires-in-loop-i c =
-    let e = c.before.before.before in
-    omega (arith, e.loop-i.invariant.2, long c.before.before.before.before.before.before.before)
+    let long : length c.put.new.s ≡ length c.args.out.now = c.put.auto.s ∙ simp length-set in
+    omega (arith, c.loop-i.invariant.2, long)
 
 pub loop-i-preserved : goal.loop-i-preserved
 loop-i-preserved c =
     let q = c.before.before in
     let e = q.before.before.before.before in
-    (omega arith, e.loop-i.invariant.1, q.put-in-loop-i.auto.0 ∙ e.loop-i.invariant.2, q.put-in-loop-i.ensures ∙ write-turn _ _ _ _ e.loop-i.invariant.3)
+    (omega arith, e.loop-i.invariant.1, q.put-in-loop-i.auto.s ∙ e.loop-i.invariant.2, q.put-in-loop-i.ensures ∙ write-turn _ _ _ _ e.loop-i.invariant.3)
 
 pub shape_of-out : goal.shape_of-out
-shape_of-out c = c.loop-i.invariant.2 ∙ long c.before.before.before.before
+shape_of-out c =
+    let long : length c.put.new.s ≡ length c.args.out.now = c.put.auto.s ∙ simp length-set in
+    c.loop-i.invariant.2 ∙ long
 
 pub returns : goal.returns
 returns c =
