@@ -1,5 +1,5 @@
 // The schedule reader: the lent bytes and a place in them, the number of the step that is read next.
-// The borrow checker covers no function over such a struct, so `open`, `left` and `next` are proved by hand; the work is in the functions on bytes.
+// The work is in the functions on bytes; `open`, `left` and `next` take the struct apart.
 #![tactic(auto)]
 
 ghost use Rattle.std.specs.Prelude.{◌≡◌};
