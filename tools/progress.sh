@@ -49,7 +49,7 @@ progress() { # CRATES EDITS
 closure() {
     WANTED="$*" awk '
         { sub(/#.*/, ""); at = index($0, ":"); if (!at) next
-          name = substr($0, 1, at - 1); gsub(/[ \t]/, "", name); needs[name] = substr($0, at + 1) }
+          name = substr($0, 1, at - 1); sub(/ .*/, "", name); gsub(/[ \t]/, "", name); needs[name] = substr($0, at + 1) }
         function visit(n,    list, i, count) {
             if (!(n in needs) || n in seen) return
             seen[n] = 1
