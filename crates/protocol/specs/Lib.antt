@@ -12,16 +12,3 @@ pub mod Decisions
 pub mod Search
 pub mod Traffic
 pub mod Inv
-pub mod Lemmas
-pub mod Facts
-pub mod Same
-pub mod Flow
-pub mod Reopen
-pub mod Take
-pub mod Post
-pub mod Quiet
-pub mod Wake
-pub mod Best
-pub mod Setup
-pub mod Prelude
-pub mod Weigh

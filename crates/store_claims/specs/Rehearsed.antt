@@ -23,7 +23,7 @@ use Rattle.field_calls.specs.Call.{Call, does, after, answers}
 use Rattle.field_calls.specs.Demand.{Allowed, Claim}
 use Rattle.field_laws.specs.Laid.{Live}
 use Rattle.field_laws.specs.After.{started, after-live, after-plan}
-use Rattle.demand.specs.Demand.{demand3}
+use Rattle.demand.proofs.Demand.{demand3}
 use Rattle.store.specs.Names.{name_fits, shown_part}
 use Rattle.store.specs.Layout.{record_bytes}
 use Rattle.store.specs.Calls.{store_fits, save_point, restore_point}

@@ -33,7 +33,7 @@ use Rattle.field_calls.specs.Demand.{BothSay, InPart, Agreed, Allowed, ComesToRe
 use Rattle.field_laws.specs.After.{started, trimmed-ceiling, begun-live, fresh-node}
 use Rattle.field_laws.specs.Laid.{Live}
 use Rattle.field_roundlaws.specs.Awake.{woken-app, all-member}
-use Rattle.demand.specs.Demand.{demand3}
+use Rattle.demand.proofs.Demand.{demand3}
 use Rattle.plan_tree.specs.Tree.{central_tree}
 use Rattle.plan_tree.proofs.laws.Theorems.{written-tree, tree-written}
 use Rattle.host_job.specs.Job.{wakes_of, job_wakes, max_rounds, job_run}
