@@ -1,5 +1,4 @@
-// The lent slice of cue records: one record is written, the first of them are, and they are read into a row. No function over such a slice is
-// covered, so `mark`, `fill` and `load` are proved by hand; whatever decides works on the row.
+// The lent slice of cue records: one record is written, the first of them are, and they are read into a row; whatever decides works on the row.
 #![tactic(auto)]
 
 ghost use Rattle.std.specs.Prelude.{◌≡◌, ◌++◌, ◌≤◌, min, length, set, take, drop, replicate};
