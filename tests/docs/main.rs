@@ -40,7 +40,8 @@ fn check(tree: &Tree, made: &str) -> bool {
         tables::claims(row, &by, &mut found);
         tables::functions(row, tree, &mut found);
     }
-    let pages = ["README.md", "docs/PROOF.md", "docs/PROTOCOL.md", "docs/TOUR.md", "docs/DECISIONS.md", "docs/FORMATS.md"];
+    let pages =
+        ["README.md", "docs/PROOF.md", "docs/PROTOCOL.md", "docs/TOUR.md", "docs/DECISIONS.md", "docs/FORMATS.md"];
     let requests = fs::read_dir("docs/requests").into_iter().flatten().flatten();
     let requests = requests.map(|entry| entry.path().display().to_string());
     for page in pages.map(String::from).into_iter().chain(requests) {

@@ -21,7 +21,7 @@ fn groups(listing: &str) -> Vec<Pair> {
             }
             open = true;
         } else if let (Some((name, _)), Some(row)) = (line.split_once(':'), rows.last_mut()) {
-            row.0.push(name.trim());
+            row.0.extend(name.split_whitespace().next());
             open = false;
         }
     }

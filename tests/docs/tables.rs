@@ -69,11 +69,11 @@ fn files_named(cell: &str) -> Vec<(Option<String>, String)> {
 }
 
 /// The names that each file defines, fields and constructors among them, by crate and by the file's name; a file of specs/laws/
-/// has `laws/` in front of it.
+/// or proofs/laws/ has `laws/` in front of it.
 pub fn defined(tree: &Tree) -> Names {
     let mut by = Names::new();
     for (_, _, file, item) in tree.all().filter(|(_, _, file, _)| file.path.ends_with(".antt")) {
-        let law = if file.path.contains("/specs/laws/") { "laws/" } else { "" };
+        let law = if file.module.get(1).is_some_and(|part| part == "laws") { "laws/" } else { "" };
         let stem = format!("{law}{}", file.module.last().cloned().unwrap_or_default());
         let names = by.entry((file.of.clone(), stem)).or_default();
         names.insert(item.name.clone());

@@ -9,11 +9,13 @@ use scan::Tree;
 mod made;
 use made::Made;
 
-const SPECS: &str = "-- Head.\nuse M.{ℕ, _≡_}\n\nabbrev pub n : ℕ\nn = 0\n\npub n-law : n ≡ 0\nn-law = idle\n\npub record R (k : ℕ) : Type 0 where\n  pub same : k ≡ n\n\npub idle : R 0\nidle = record { same = n-law }\n\npub Big : Type 0\nBig = R 1\n";
+const SPECS: &str = "-- Head.\nuse M.{ℕ, ◌≡◌}\n\nabbrev pub n : ℕ\nn = 0\n\npub n-law : n ≡ 0\nn-law = idle\n\npub record R (k : ℕ) : Type 0 where\n  pub same : k ≡ n\n\npub idle : R 0\nidle = record { same = n-law }\n\npub Big : Type 0\nBig = R 1\n";
 
 fn tree() -> (Made, Tree) {
     let made = Made::new(&[
         ("crates/a/specs/F.antt", SPECS),
+        ("crates/a/specs/laws/F.antt", "-- Head.\npub near : ℕ\nnear = 0\n"),
+        ("crates/b/proofs/laws/F.antt", "-- Head.\npub far : ℕ\nfar = 0\n"),
         ("crates/b/specs/F.antt", "-- Head.\npub other : ℕ\nother = 0\n"),
     ]);
     let tree = Tree::load(made.top());
@@ -35,6 +37,16 @@ fn a_row_names_the_crate() {
         assert!(faults("Part", "`n-law`, `same`", file).is_empty(), "{file}");
     }
     assert_eq!(faults("Part", "`n-law`", "b/F"), ["PAGE:5: n-law is in none of b/F"]);
+}
+
+#[test]
+fn laws_stand_in_specs_or_in_proofs() {
+    for (name, file) in
+        [("near", "a/laws/F"), ("near", "a/specs/laws/F"), ("far", "b/laws/F"), ("far", "b/proofs/laws/F")]
+    {
+        assert!(faults("Part", &format!("`{name}`"), file).is_empty(), "{file}");
+    }
+    assert_eq!(faults("Part", "`near`, `far`", "a/F, b/F").len(), 2);
 }
 
 #[test]
@@ -99,7 +111,9 @@ fn the_map_is_compared() {
     assert_eq!(faults(&page), 0);
     assert_eq!(faults(&page.replace("a, b", "a")), 1);
     assert_eq!(faults(&format!("{page}- **a**: Ground.\n")), 1);
-    let long = map::list("# A line of words that is longer than a page is wide, so that it goes on below the first one.\na:\n");
+    let long = map::list(
+        "# A line of words that is longer than a page is wide, so that it goes on below the first one.\na:\n",
+    );
     assert!(long.lines().count() == 2 && long.lines().all(|line| line.len() < 100), "{long}");
 }
 
@@ -135,7 +149,7 @@ fn every_name_is_followed() {
 
 #[test]
 fn what_a_host_may_call_is_listed() {
-    let code = "// Head.\npub fn free(x: u8) -> u8\n    ensures { λ r. ⌜ r ≡ x ⌝ }\n{\n    x\n}\n\npub fn bound(x: u8) -> u8\n    requires { ⌜ x < 9 ⌝ }\n{\n    x\n}\n\nfn own() {\n}\n";
+    let code = "// Head.\npub fn free(x: u8) -> u8\n    ensures { result ≡ x }\n{\n    x\n}\n\npub fn bound(x: u8) -> u8\n    requires { x < 9 }\n{\n    x\n}\n\nfn own() {\n}\n";
     let made = Made::new(&[("crates/host_a/src/lib.rt", code), ("crates/b/src/lib.rt", code)]);
     let tree = Tree::load(made.top());
     assert_eq!(unlisted(&tree, &[]), ["host_a::free is neither listed nor spared"]);

@@ -20,7 +20,11 @@ const CLAIMS: [(&str, &str, &str); 17] = [
     ("That a store stays whole, request 06", "crates/store/specs/Claims.antt", "StaysWhole"),
     ("What a restore comes back to, request 06", "crates/store/specs/Claims.antt", "ComesBack"),
     ("How rehearsals with named points are judged, request 06", "crates/store/specs/Console.antt", "Rehearsals"),
-    ("What a path is, with its worst link, or that there is no way, requests 07 and 08", "crates/path/specs/Claims.antt", "PathClaim"),
+    (
+        "What a path is, with its worst link, or that there is no way, requests 07 and 08",
+        "crates/path/specs/Claims.antt",
+        "PathClaim",
+    ),
     ("That a path is the same turned round, request 07", "crates/path/specs/Claims.antt", "TurnedClaim"),
     ("Which room is enough for a path, request 07", "crates/path/specs/Claims.antt", "RoomClaim"),
     ("Which modules are near one, request 07", "crates/path/specs/Claims.antt", "NearClaim"),
@@ -117,7 +121,7 @@ fn called(tree: &Tree) -> Vec<Key> {
 }
 
 fn asks(item: &Item) -> bool {
-    item.groups[1].tokens.iter().any(|t| t.is("requires"))
+    item.groups[1].tokens.iter().any(|t| t.is("requires") || t.is("requires*"))
 }
 
 /// Public functions of the crates that a host calls that ask for nothing and stand in neither table.
@@ -182,11 +186,11 @@ fn files_table(tree: &Tree, keys: &BTreeSet<Key>) -> String {
     out
 }
 
-/// By module. A crate's own files have "·specs" in the names of its modules, other crates have not: it is one module.
+/// By module.
 fn library_table(outside: &BTreeSet<(String, String)>) -> String {
     let mut by: BTreeMap<String, BTreeSet<String>> = BTreeMap::new();
     for (module, name) in outside {
-        by.entry(module.replace("·specs.", ".")).or_default().insert(name.clone());
+        by.entry(module.clone()).or_default().insert(name.clone());
     }
     let mut out = String::from("| Module | Names |\n|---|---|\n");
     by.into_iter().for_each(|(module, names)| out += &format!("| {module} | {} |\n", code(names)));

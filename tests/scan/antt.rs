@@ -102,9 +102,12 @@ fn members(tokens: &[Placed]) -> Vec<String> {
     found
 }
 
+/// What may stand in front of a signature.
+pub const MARKS: [&str; 5] = ["pub", "abbrev", "unfoldable", "axiom", "pattern"];
+
 /// What a group declares, if it is a signature, a record or a data type.
 fn declares(tokens: &[Placed]) -> Option<Item> {
-    let marks = tokens.iter().take_while(|t| ["pub", "abbrev", "unfoldable", "axiom"].iter().any(|m| t.is(m))).count();
+    let marks = tokens.iter().take_while(|t| MARKS.iter().any(|m| t.is(m))).count();
     let marked = |m: &str| tokens[..marks].iter().any(|t| t.is(m));
     let first = tokens.get(marks)?.name()?;
     let (at, sort) = match first {

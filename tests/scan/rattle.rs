@@ -39,18 +39,36 @@ fn block_end(lines: &[&str], from: usize) -> usize {
     lines.len()
 }
 
-/// A `use` of Rattle: `use a::b::C;`, as the name that it brings.
-fn code_import(line: &str, number: usize) -> Use {
-    let path: Vec<String> = line
-        .trim()
-        .trim_end_matches(';')
-        .split_whitespace()
-        .last()
-        .unwrap_or("")
-        .split("::")
-        .map(str::to_string)
-        .collect();
-    Use { line: number, public: line.starts_with("pub"), alias: path.last().cloned(), path, names: Vec::new() }
+/// A `use` of Rattle, `use a::b::C;` or `use a::{b::C, D as E};`: a `Use` for each name that it brings.
+fn code_imports(text: &str, number: usize) -> Vec<Use> {
+    let all = tokens(text, number, Language::Rattle);
+    let Some(at) = all.iter().position(|t| t.is("use")) else {
+        return Vec::new();
+    };
+    let (mut found, mut above, mut path) = (Vec::<Use>::new(), Vec::<Vec<String>>::new(), Vec::new());
+    let public = text.trim_start().starts_with("pub");
+    for (i, t) in all.iter().enumerate().skip(at + 1) {
+        match &t.token {
+            Token::Word(_) if i > 0 && all[i - 1].is("as") => {
+                let last = found.last_mut().expect("a name in front of as");
+                last.alias = t.name().map(str::to_string);
+            }
+            Token::Word(_) if t.is("as") => {}
+            Token::Word(word) => {
+                path = above.last().cloned().unwrap_or_default();
+                path.extend(word.iter().cloned());
+                let alias = path.last().cloned();
+                found.push(Use { line: number, public, alias, path: path.clone(), names: Vec::new() });
+            }
+            Token::Mark('{') => {
+                found.pop();
+                above.push(path.clone());
+            }
+            Token::Mark('}') => drop(above.pop()),
+            _ => {}
+        }
+    }
+    found
 }
 
 /// A `ghost use` is a `use` of antt.
@@ -70,30 +88,47 @@ fn signature(head: &[Placed]) -> (usize, Vec<Placed>) {
     (arguments, head[open..].to_vec())
 }
 
-/// The parameters as binders in front of a contract: there they hide what else has their name.
-fn binders(head: &[Placed]) -> Vec<Placed> {
+/// The parameters, and `result`, as binders in front of a contract: there they hide what else has their name.
+fn binders(head: &[Placed], ghosts: Vec<String>) -> Vec<Placed> {
     let open = head.iter().position(|t| t.mark() == Some('(')).unwrap_or(head.len());
     let close = head.iter().position(|t| t.mark() == Some(')')).unwrap_or(head.len());
     let typed = |i: &usize| head.get(i + 1).is_some_and(|t| t.mark() == Some(':'));
-    let names: Vec<Token> =
-        (open..close).filter(typed).filter_map(|i| head[i].name()).map(|n| Token::Word(vec![n.to_string()])).collect();
-    if names.is_empty() {
-        return Vec::new();
-    }
+    let names = (open..close).filter(typed).filter_map(|i| head[i].name()).map(str::to_string);
+    let names = names.chain(ghosts).chain(["result".to_string()]).map(|n| Token::Word(vec![n]));
     let colon = [Token::Word(vec![":".to_string()]), Token::Mark(')')];
     let all = [Token::Mark('(')].into_iter().chain(names).chain(colon);
     all.map(|token| Placed { token, line: head[0].line, column: 0 }).collect()
 }
 
-/// The clauses of a function, and where its body begins: the lines of `requires` and `ensures`.
-fn clauses(lines: &[&str], from: usize, to: usize) -> (usize, Vec<Placed>, usize) {
-    let is_clause = |l: &str| l.trim_start().starts_with("ensures {") || l.trim_start().starts_with("requires {");
+const CLAUSES: [&str; 5] = ["requires", "ensures", "requires*", "ensures*", "ghost"];
+
+/// The tokens of clauses without their names, as `low` of `ensures low { .. }`, and the values that `ghost` clauses name.
+fn unnamed(all: Vec<Placed>) -> (Vec<Placed>, Vec<String>) {
+    let (mut kept, mut ghosts, mut depth) = (Vec::new(), Vec::new(), 0usize);
+    for t in all {
+        let opens = matches!(t.mark(), Some('(' | '{'));
+        depth -= usize::from(matches!(t.mark(), Some(')' | '}')) && depth > 0);
+        let named = depth == 0 && !opens && t.name().is_some_and(|n| !CLAUSES.contains(&n));
+        if named && kept.last().is_some_and(|k: &Placed| k.is("ghost")) {
+            ghosts.extend(t.name().map(|n| n.trim_end_matches(':').to_string()).filter(|n| !n.is_empty()));
+        } else if !named {
+            kept.push(t);
+        }
+        depth += usize::from(opens);
+    }
+    (kept, ghosts)
+}
+
+/// The clauses of a function, and where its body begins: the lines of `requires`, `ensures` and `ghost`.
+fn clauses(lines: &[&str], from: usize, to: usize) -> (usize, Vec<Placed>, Vec<String>, usize) {
+    let is_clause = |l: &str| l.split_whitespace().next().is_some_and(|w| CLAUSES.contains(&w)) && l.contains('{');
     let first = (from..to).find(|&i| is_clause(lines[i])).unwrap_or(to);
     let body = (from..to)
         .find(|&i| lines[i].starts_with('{') || (lines[i].trim_end().ends_with('{') && i < first))
         .unwrap_or(to);
     let first = first.min(body);
-    (first, tokens(&lines[first..body].join("\n"), first + 1, Language::Antt), body)
+    let (contract, ghosts) = unnamed(tokens(&lines[first..body].join("\n"), first + 1, Language::Antt));
+    (first, contract, ghosts, body)
 }
 
 fn plain_group(tokens: Vec<Placed>, own: usize) -> Group {
@@ -107,7 +142,7 @@ fn item(name: &str, line: usize, lines: usize, public: bool, sort: Sort) -> Item
 
 /// A function: lines `from` up to `to`.
 fn function(lines: &[&str], from: usize, to: usize, out: &mut Source) {
-    let (first, contract, body) = clauses(lines, from, to);
+    let (first, contract, ghosts, body) = clauses(lines, from, to);
     let code = |a: usize, b: usize| tokens(&lines[a..b].join("\n"), a + 1, Language::Rattle);
     let head = code(from, first.max(from + 1));
     let Some(name) = head.iter().skip_while(|t| !t.is("fn")).nth(1).and_then(Placed::name).map(str::to_string) else {
@@ -123,7 +158,7 @@ fn function(lines: &[&str], from: usize, to: usize, out: &mut Source) {
         lines[from].starts_with("pub"),
         Sort::Function,
     );
-    let header = binders(&head);
+    let header = binders(&head, ghosts);
     let own = header.len();
     let contract = header.into_iter().chain(contract).collect();
     found.groups = vec![plain_group(types, 0), plain_group(contract, own)];
@@ -159,7 +194,7 @@ pub fn parse(text: &str) -> Source {
             Some("use") if lines[i].starts_with("ghost") => {
                 out.ghosts.extend(ghost_import(&lines[i..end].join(" "), i + 1))
             }
-            Some("use") => out.parsed.uses.push(code_import(lines[i], i + 1)),
+            Some("use") => out.parsed.uses.extend(code_imports(&lines[i..end].join(" "), i + 1)),
             Some("struct" | "enum" | "const" | "type") => declared(&lines, i, end, &mut out),
             Some("fn") => function(&lines, i, end, &mut out),
             _ => {

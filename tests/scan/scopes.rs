@@ -1,5 +1,5 @@
 //! Names that a piece of antt binds itself, with the stretch of tokens in which each means what is bound.
-use crate::antt::Group;
+use crate::antt::{Group, MARKS};
 use crate::words::{Placed, Token};
 
 /// `name` is bound for the tokens from `from` up to, without, `to`; if it stands in a clause's pattern, unless it is a
@@ -11,8 +11,6 @@ pub struct Span {
     pub to: usize,
     pub pattern: bool,
 }
-
-const MARKS: [&str; 4] = ["pub", "abbrev", "unfoldable", "axiom"];
 
 /// How many brackets are open before each token.
 fn depths(tokens: &[Placed]) -> Vec<usize> {
@@ -118,6 +116,23 @@ fn clause_variables(tokens: &[Placed], i: usize, locals: &[Span]) -> Option<(Vec
     (tokens.get(at)?.is("=") && at < to).then_some((names, to))
 }
 
+/// The variables of a case `| p ↦ ..` of an `elim` whose pattern begins behind token `i`, and where the case ends.
+fn case_variables(tokens: &[Placed], depth: &[usize], i: usize) -> Option<(Vec<String>, usize)> {
+    if !["|", "["].iter().any(|m| tokens[i].is(m)) {
+        return None;
+    }
+    let (names, at) = names_until(tokens, i + 1, |t| ["↦", "|", "]"].iter().any(|m| t.is(m)));
+    if !tokens.get(at)?.is("↦") {
+        return None;
+    }
+    let mut open = 0;
+    let to = (at..tokens.len()).find(|&j| {
+        open += i32::from(tokens[j].is("[")) - i32::from(tokens[j].is("]"));
+        open < 0 || (open == 0 && tokens[j].is("|")) || depth[j] < depth[i]
+    });
+    Some((names, to.unwrap_or(tokens.len())))
+}
+
 /// The variables on the left of the group's own clause.
 fn own_variables(tokens: &[Placed], own: usize) -> Vec<String> {
     names_until(tokens, own + 1, |t| t.is("=")).0
@@ -147,9 +162,9 @@ pub fn bound(group: &Group) -> Vec<Span> {
             add(name(), if group.clause { 0 } else { next_line(tokens, i) }, tokens.len());
         }
     }
-    let inner: Vec<(Vec<String>, usize, usize)> = (own + 1..tokens.len())
-        .filter_map(|i| clause_variables(tokens, i, &spans).map(|(names, to)| (names, i, to)))
-        .collect();
+    let inner = |i: usize| clause_variables(tokens, i, &spans).or_else(|| case_variables(tokens, &depth, i));
+    let inner: Vec<(Vec<String>, usize, usize)> =
+        (own + 1..tokens.len()).filter_map(|i| inner(i).map(|(names, to)| (names, i, to))).collect();
     let whole = group.clause.then(|| (own_variables(tokens, own), 0, tokens.len()));
     for (names, from, to) in inner.into_iter().chain(whole) {
         spans.extend(names.into_iter().map(|name| Span { name, from, to, pattern: true }));

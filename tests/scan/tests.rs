@@ -32,9 +32,9 @@ fn sections_and_clauses() {
 
 #[test]
 fn what_a_section_opens() {
-    let made = one_file("record R : Type 0 where\n  x : ℕ\n\nr : R\nr = record { x = 0 }\n\nmodule _ (p : P) where\n  open R r using (x)\n\n  f : ℕ\n  f = 0\n\ng : ℕ\ng = 0\n");
+    let made = one_file("record R : Type 0 where\n  x : ℕ\n\nr : R\nr = record { x = 0 }\n\nmodule _ (p : P) where\n  open r use {x}\n\n  f : ℕ\n  f = 0\n\ng : ℕ\ng = 0\n");
     let tree = Tree::load(made.top());
-    assert_eq!(named(&tree, "f"), ["specs.A/R", "specs.A/r", "specs.A/f"]);
+    assert_eq!(named(&tree, "f"), ["specs.A/r", "specs.A/f"]);
     assert_eq!(named(&tree, "g"), ["specs.A/g"]);
 }
 
@@ -48,8 +48,8 @@ fn records_and_data() {
 
 #[test]
 fn imports() {
-    let uses = parse("use M.N.{a, b as c, _∷_}\npub use M.{d,\n  e}\nuse M.O as P\nuse M.Q\n").uses;
-    assert_eq!(uses[0].names, [("a", "a"), ("b", "c"), ("_∷_", "_∷_")].map(|(x, y)| (x.to_string(), y.to_string())));
+    let uses = parse("use M.N.{a, b as c, ◌∷◌}\npub use M.{d,\n  e}\nuse M.O as P\nuse M.Q\n").uses;
+    assert_eq!(uses[0].names, [("a", "a"), ("b", "c"), ("◌∷◌", "◌∷◌")].map(|(x, y)| (x.to_string(), y.to_string())));
     assert!(uses[1].public && uses[1].names.len() == 2 && !uses[0].public);
     assert_eq!((uses[2].alias.as_deref(), uses[3].alias.as_deref()), (Some("P"), Some("Q")));
 }
@@ -66,6 +66,14 @@ fn what_is_bound_is_not_named() {
 }
 
 #[test]
+fn what_a_case_binds_is_not_named() {
+    let made = one_file("x : ℕ\nx = 0\n\ny : ℕ\ny = 0\n\npub data D : Type 0 where\n  one : D\n  two : D → D\n\nf : D → ℕ\nf d = elim d [\n      | one ↦ 0\n      | two x ↦ g x (elim x [ one ↦ y | two y ↦ 0 ])\n    ]\n\ng : ℕ\ng = elim one [ two x ↦ 0 ] x\n");
+    let tree = Tree::load(made.top());
+    assert_eq!(named(&tree, "f"), ["specs.A/y", "specs.A/D", "specs.A/f", "specs.A/g"]);
+    assert_eq!(named(&tree, "g"), ["specs.A/x", "specs.A/D", "specs.A/g"]);
+}
+
+#[test]
 fn a_field_is_bound_behind_its_line() {
     let made = one_file("x : ℕ\nx = 0\n\nrecord R : Type 0 where\n  a : P x\n  x : P a\n  b : P x\n\nrecord S : Type 0 where\n  x : ℕ\n  b : P x\n");
     let tree = Tree::load(made.top());
@@ -76,19 +84,21 @@ fn a_field_is_bound_behind_its_line() {
 #[test]
 fn names_through_modules() {
     let made = Made::new(&[
-        ("crates/a/specs/A.antt", "pub data D : Type 0 where\n  one : D\n\npub _⊕_ : D → D → D\nx ⊕ y = x\n"),
-        ("crates/a/specs/laws/B.antt", "pub use Rattle·a·specs.specs.A.{D as E, one}\n\npub b : E\nb = one\n"),
-        ("crates/c/src/lib.rt", "pub struct S {\n    pub n: u16,\n}\n"),
-        ("crates/c/specs/C.antt", "use Rattle·a.specs.laws.B.{E, one}\nuse Rattle·a.specs.A.{_⊕_}\nuse Rattle·a.specs.laws.B as L\nuse Rattle·c·specs.specs.declared.S.{S}\n\nf : S → E\nf one = L.b ⊕ one\n"),
+        ("crates/a/specs/A.antt", "pub data D : Type 0 where\n  one : D\n\npub ◌⊕◌ : D → D → D\nx ⊕ y = x\n"),
+        ("crates/a/specs/laws/B.antt", "pub use Rattle.a.specs.A.{D as E, one}\n\npub b : E\nb = one\n"),
+        ("crates/c/src/lib.rt", "pub struct S {\n    pub n: u16,\n}\n\npub enum T {\n    S,\n    Two(u8),\n}\n\npub const MOST: u16 = 9;\n"),
+        ("crates/c/specs/C.antt", "use Rattle.a.specs.laws.B.{E, one}\nuse Rattle.a.specs.A.{◌⊕◌}\nuse Rattle.a.specs.laws.B as L\nuse Rattle.c.specs.declared.S.{S}\n\nf : S → E\nf one = L.b ⊕ one\n"),
+        ("crates/c/proofs/C.antt", "use Rattle.c.specs.declared.T.TheVariants.{S, Two}\nuse Rattle.c.specs.declared.TheConstants.{MOST}\n\ng : ℕ\ng = h S Two MOST\n"),
     ]);
     let tree = Tree::load(made.top());
     let names = named(&tree, "f");
-    assert_eq!(names, ["specs.A/D", "specs.A/_⊕_", "specs.laws.B/b", "specs.C/f", "src.lib/S"]);
+    assert_eq!(names, ["specs.A/D", "specs.A/◌⊕◌", "specs.laws.B/b", "specs.C/f", "src.lib/S"]);
+    assert_eq!(named(&tree, "g"), ["proofs.C/g", "src.lib/T", "src.lib/MOST"]);
 }
 
 #[test]
 fn functions_and_contracts() {
-    let text = "// head\nuse plan::Plan;\nghost use M.{spec, at};\n\n// says\npub fn f<'a>(at: u16, s: &'a [u8]) -> Plan\n    requires { ⌜ at < 3 ⌝ }\n    ensures { λ r. ⌜ r ≡ spec at\n        (now (s .entry)) ⌝ }\n{\n    if b'{' == s[0] {\n        return g(at);\n    }\n    g(at)\n}\n\n#[no_mangle]\npub extern \"C\" fn g() {\n}\n";
+    let text = "// head\nuse plan::Plan;\nghost use M.{spec, at};\n\n// says\npub fn f<'a>(at: u16, s: &'a [u8]) -> Plan\n    requires { at < 3 }\n    ensures { result ≡ spec at\n        s.now }\n{\n    if b'{' == s[0] {\n        return g(at);\n    }\n    g(at)\n}\n\n#[unsafe(no_mangle)]\npub extern \"C\" fn g() {\n}\n";
     let source = rattle::parse(text);
     let said: Vec<_> =
         source.functions.iter().map(|f| (f.name.as_str(), f.line, f.lines, f.arguments, f.exported)).collect();
@@ -96,4 +106,32 @@ fn functions_and_contracts() {
     let made = Made::new(&[("crates/a/src/lib.rt", text)]);
     let tree = Tree::load(made.top());
     assert_eq!(named(&tree, "f"), ["M.spec"]);
+}
+
+#[test]
+fn clauses_with_names() {
+    let text = "fn f(s: &mut [u8], k: u8)\n    ghost top: { T }\n    requires* free { held top }\n    requires low { b' < k }\n    ensures high {\n        let x = s.new in result ≡ x\n    }\n    ensures { b' ≡ k }\n{\n    g(b'\\'', b'}')\n}\n\nfn g() {\n}\n";
+    let uses = "// head\nghost use M.{T, held, top, low, free, high, result, x, b', s};\n\n";
+    let made = Made::new(&[("crates/a/src/lib.rt", &format!("{uses}{text}"))]);
+    let tree = Tree::load(made.top());
+    assert_eq!(named(&tree, "f"), ["M.T", "M.b'", "M.held"]);
+    let said: Vec<_> = tree.files[0].functions.iter().map(|f| (f.name.as_str(), f.lines, f.arguments)).collect();
+    assert_eq!(said, [("f", 11, 2), ("g", 2, 0)]);
+}
+
+#[test]
+fn imports_of_code() {
+    let uses = rattle::parse("use a::B;\npub use a::{C, d::{e, F as G},\n    H};\nuse k as l;\n").parsed.uses;
+    let said: Vec<_> = uses.iter().map(|u| (u.path.join("::"), u.alias.clone().unwrap(), u.public)).collect();
+    let want = [("a::B", "B", false), ("a::C", "C", true), ("a::d::e", "e", true), ("a::d::F", "G", true)];
+    let want = want.into_iter().chain([("a::H", "H", true), ("k", "l", false)]);
+    assert_eq!(said, want.map(|(p, a, public)| (p.to_string(), a.to_string(), public)).collect::<Vec<_>>());
+}
+
+#[test]
+fn the_listing() {
+    let made = Made::new(&[("crates.txt", "# Of all.\na:\nb staticlib: a io\n")]);
+    let listed = Tree::load(made.top()).listed;
+    let said: Vec<_> = listed.iter().map(|(line, name, named)| (*line, name.as_str(), named.join(" "))).collect();
+    assert_eq!(said, [(2, "a", String::new()), (3, "b", "a io".to_string())]);
 }

@@ -96,20 +96,32 @@ fn read(top: &Path, path: &Path) -> File {
     }
 }
 
-/// The crates that crates.txt lists.
+/// The crates that crates.txt lists. What stands behind a crate's name, as `staticlib`, is not looked at.
 fn listing(text: &str) -> Vec<(usize, String, Vec<String>)> {
     let lines = text.lines().enumerate().map(|(i, l)| (i + 1, l.split('#').next().unwrap_or("")));
     lines
         .filter_map(|(i, l)| {
             let (name, rest) = l.split_once(':')?;
-            Some((i, name.trim().to_string(), rest.split_whitespace().map(str::to_string).collect()))
+            Some((
+                i,
+                name.split_whitespace().next()?.to_string(),
+                rest.split_whitespace().map(str::to_string).collect(),
+            ))
         })
         .collect()
 }
 
-/// The parts of an operator's name: `_∷_` is written `∷`.
+/// The parts of an operator's name: `◌∷◌` is written `∷`.
 pub fn parts(name: &str) -> Vec<&str> {
-    name.split('_').filter(|p| !p.is_empty()).collect()
+    name.split('◌').filter(|p| !p.is_empty()).collect()
+}
+
+/// The crate of a path `Rattle.crate.specs.File`, and what is behind it.
+pub fn of_crate(path: &[String]) -> Option<(&str, &[String])> {
+    match path {
+        [first, of, behind @ ..] if first == "Rattle" => Some((of, behind)),
+        _ => None,
+    }
 }
 
 impl Tree {
@@ -134,22 +146,34 @@ impl Tree {
         }
     }
 
-    /// The file of a module: of `Rattle·crate.specs.File`, or from inside the crate `Rattle·crate·specs.specs.File`.
+    /// The file of a module: of `Rattle.crate.specs.File`.
     fn file_of(&self, module: &[String]) -> Option<usize> {
-        let of = module.first()?.strip_prefix("Rattle·")?.split('·').next()?;
-        self.files.iter().position(|f| f.of == of && f.module == module[1..] && f.path.ends_with(".antt"))
+        let (of, behind) = of_crate(module)?;
+        self.files.iter().position(|f| f.of == of && f.module == behind && f.path.ends_with(".antt"))
     }
 
-    /// A declared type: `Rattle·crate.specs.declared.Type` is a struct, an enum or a constant of src/.
+    /// What is declared in src/: `Rattle.crate.specs.declared.Type` has a struct or an enum, its `TheVariants` the variants of
+    /// that enum, `Rattle.crate.specs.declared.TheConstants` a constant; modules of src/ stand in front of these.
     fn declared(&self, module: &[String], name: &str) -> Option<Meaning> {
-        let of = module.first()?.strip_prefix("Rattle·")?.split('·').next()?;
-        if module.get(2).map(String::as_str) != Some("declared") {
+        let (of, behind) = of_crate(module)?;
+        let ["specs", "declared", behind @ ..] = &behind.iter().map(String::as_str).collect::<Vec<_>>()[..] else {
             return None;
-        }
-        let below = &module[3..module.len().max(4) - 1];
-        let fits = |m: &[String]| below.is_empty() || m[1..] == *below;
+        };
+        let below: Vec<&str> = behind.iter().copied().take_while(|m| !m.starts_with(char::is_uppercase)).collect();
+        let fits = |m: &[String]| below.is_empty() || m[1..] == below;
         let file = |f: &File| f.of == of && f.path.ends_with(".rt") && fits(&f.module);
-        self.files.iter().enumerate().filter(|(_, f)| file(f)).find_map(|(f, _)| self.own(f, name, Sort::Declared))
+        let mut files = self.files.iter().enumerate().filter(|(_, f)| file(f)).map(|(f, _)| f);
+        match behind {
+            [.., of_type, "TheVariants"] => files.find_map(|f| self.variant(f, of_type, name)),
+            _ => files.find_map(|f| self.own(f, name, Sort::Declared)),
+        }
+    }
+
+    /// A variant of an enum that a file declares.
+    fn variant(&self, file: usize, of_type: &str, name: &str) -> Option<Meaning> {
+        let fits = |i: &Item| i.sort == Sort::Declared && i.name == of_type && i.members.iter().any(|m| m == name);
+        let i = self.files[file].items.iter().position(fits)?;
+        Some(Meaning { target: Target::Item(file, i), name: name.to_string(), constructor: true })
     }
 
     /// A name that a file defines: an item, a constructor or a field of one.
@@ -217,11 +241,11 @@ impl Tree {
     /// What a path of names in a file means: a name, a name behind a module's or a type's, or nothing that is known.
     fn path(&self, file: usize, path: &[String]) -> Vec<Meaning> {
         let scope = &self.scopes[file];
-        let plain = |word: &str| scope.names.get(word).or_else(|| scope.names.get(word.trim_matches('_'))).cloned();
+        let plain = |word: &str| scope.names.get(word).or_else(|| scope.names.get(word.trim_matches('◌'))).cloned();
         if path.len() > 1 {
             let module = match scope.modules.get(&path[0]) {
                 Some(module) => [module, &path[1..path.len() - 1]].concat(),
-                None if path[0].starts_with("Rattle·") => path[..path.len() - 1].to_vec(),
+                None if path[0] == "Rattle" => path[..path.len() - 1].to_vec(),
                 None => return plain(&path[0]).unwrap_or_default(),
             };
             return vec![self.meaning(&module, &path[path.len() - 1])];
@@ -237,7 +261,7 @@ impl Tree {
         let (name, of) = (whole.last()?, if whole.len() > 1 && whole[0] != "crate" { &whole[0] } else { &this.of });
         let first = self.own(file, name, Sort::Declared).filter(|m| !m.constructor && whole.len() == 1);
         first.or_else(|| {
-            self.declared(&[format!("Rattle·{of}"), "specs".into(), "declared".into()], name).filter(|m| !m.constructor)
+            self.declared(&["Rattle", of, "specs", "declared"].map(str::to_string), name).filter(|m| !m.constructor)
         })
     }
 

@@ -4,7 +4,7 @@
 pub enum Token {
     /// A name, or a path of names: `a`, `M.a`.
     Word(Vec<String>),
-    /// A projection: ` .field`.
+    /// A projection behind a bracket: `(f x).field`.
     Field(Vec<String>),
     /// A bracket, a dot that ends binders, `;`, `,` or `@`.
     Mark(char),
@@ -71,13 +71,20 @@ fn comment_end(text: &[char], i: usize, language: Language) -> usize {
     }
 }
 
+/// Whether the quote at `i` opens a byte `b'x'`: a primed name, as `b'` or `ab'`, has none.
+fn opens_byte(text: &[char], i: usize) -> bool {
+    let named = i > 1 && (text[i - 2].is_alphanumeric() || text[i - 2] == '_');
+    let closed = text.get(i + if text.get(i + 1) == Some(&'\\') { 3 } else { 2 }) == Some(&'\'');
+    text[i] == '\'' && i > 0 && text[i - 1] == 'b' && !named && closed
+}
+
 /// The text with spaces for its comments and for what is quoted; lines and columns stay.
 pub fn plain(text: &str, language: Language) -> String {
     let text: Vec<char> = text.chars().collect();
     let mut out = String::new();
     let mut i = 0;
     while i < text.len() {
-        let byte = language == Language::Rattle && text[i] == '\'' && i > 0 && text[i - 1] == 'b';
+        let byte = language == Language::Rattle && opens_byte(&text, i);
         let end = if text[i] == '"' || byte { quoted_end(&text, i) } else { comment_end(&text, i, language) };
         if end == i {
             out.push(text[i]);

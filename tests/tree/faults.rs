@@ -1,7 +1,7 @@
 //! What is wrong in a tree, kind by kind.
-use scan::antt::{Sort, Use};
-use scan::tree::{parts, File};
-use scan::words::Token;
+use scan::antt::{Item, Sort, Use};
+use scan::tree::{of_crate, parts, File};
+use scan::words::{Placed, Token};
 use scan::{Target, Tree};
 use std::collections::{BTreeMap, BTreeSet};
 
@@ -34,7 +34,7 @@ fn called(tree: &Tree, f: usize) -> BTreeMap<String, BTreeSet<String>> {
         let aside = if item.sort == Sort::Function { &[][..] } else { &item.aside[..] };
         for (token, meaning) in contract.iter().chain(aside).flat_map(|g| tree.meanings(f, g)) {
             let Token::Word(path) = &token.token else { continue };
-            let word = if path[0] == meaning.name { &path[0] } else { path[0].trim_matches('_') };
+            let word = if path[0] == meaning.name { &path[0] } else { path[0].trim_matches('◌') };
             found.entry(meaning.name).or_default().insert(word.to_string());
         }
     }
@@ -47,10 +47,7 @@ fn is_called(name: &str, called: &BTreeMap<String, BTreeSet<String>>) -> bool {
 
 /// Whether some other file takes this name from this module.
 fn passed_on(tree: &Tree, file: &File, name: &str) -> bool {
-    let from = |u: &Use| {
-        let crate_name = u.path.first().and_then(|p| p.strip_prefix("Rattle·")).and_then(|p| p.split('·').next());
-        crate_name == Some(&file.of) && u.path[1..] == file.module
-    };
+    let from = |u: &Use| of_crate(&u.path).is_some_and(|(of, module)| of == file.of && module == file.module);
     let taken = |u: &Use| u.alias.is_some() || u.names.iter().any(|(there, _)| there == name);
     tree.files.iter().flat_map(|f| f.uses.iter().chain(&f.ghosts)).any(|u| from(u) && taken(u))
 }
@@ -72,11 +69,19 @@ pub fn imports(tree: &Tree) -> Vec<Fault> {
     found
 }
 
+/// Whether an item of a function's proof is an answer, an invariant or the like: its type is the goal of its name. In a
+/// Proof.antt it is each public one.
+fn answers(file: &File, item: &Item) -> bool {
+    let asked = |t: &Placed| matches!(&t.token, Token::Word(path) if path.len() > 1 && path[1..] == [&*item.name]);
+    let signature = item.groups.iter().take(1).flat_map(|g| &g.tokens[g.own..]);
+    let whole = file.path.ends_with("/Proof.antt");
+    item.public && proved(file).is_some() && (whole || signature.take_while(|t| !t.is("=")).any(asked))
+}
+
 /// Definitions of specs/ and proofs/ that no contract, no proof of a function and no page reaches.
 pub fn definitions(tree: &Tree, pages: &BTreeSet<String>) -> Vec<Fault> {
-    let begins = |file: &File, item: &scan::antt::Item| {
-        item.sort == Sort::Function || (item.public && file.path.ends_with("/Proof.antt")) || pages.contains(&item.name)
-    };
+    let begins =
+        |file: &File, item: &Item| item.sort == Sort::Function || answers(file, item) || pages.contains(&item.name);
     let mut worklist: Vec<(usize, usize)> =
         tree.all().filter(|(_, _, file, item)| begins(file, item)).map(|(f, i, ..)| (f, i)).collect();
     let mut reached = BTreeSet::new();
@@ -90,14 +95,28 @@ pub fn definitions(tree: &Tree, pages: &BTreeSet<String>) -> Vec<Fault> {
     idle.map(|(_, _, file, item)| fault(&file.path, item.line, &item.name)).collect()
 }
 
+/// The crates that a file names: in its imports, in its code behind `::`, in its antt by `Rattle.crate`. A variable of that name is none.
+fn crates_named(file: &File) -> BTreeSet<&str> {
+    let antt = file.path.ends_with(".antt");
+    let groups =
+        file.items.iter().flat_map(|i| i.groups.iter().take(if antt { usize::MAX } else { 1 }).chain(&i.aside));
+    let words = groups.flat_map(|g| &g.tokens).filter_map(|t| match &t.token {
+        Token::Word(path) if path.len() > 1 => Some(path),
+        _ => None,
+    });
+    let code = if antt { &[][..] } else { &file.uses[..] };
+    let listed = file.uses.iter().chain(&file.ghosts).map(|u| &u.path).chain(words.clone());
+    let listed = listed.filter_map(|p| of_crate(p).map(|(of, _)| of));
+    let bare = code.iter().map(|u| &u.path).chain(words.filter(|_| !antt)).map(|p| &*p[0]);
+    listed.chain(bare).collect()
+}
+
 /// Crates that a line of crates.txt names and the crate's files do not.
 pub fn dependencies(tree: &Tree) -> Vec<Fault> {
     let mut found = Vec::new();
     for (line, name, named) in &tree.listed {
-        let files = || tree.files.iter().filter(|f| f.of == *name);
-        let uses = files().flat_map(|f| f.uses.iter().chain(&f.ghosts)).map(|u| &u.path);
-        let heads = uses.chain(files().flat_map(paths)).map(|p| p[0].strip_prefix("Rattle·").unwrap_or(&p[0]));
-        let heads: BTreeSet<&str> = heads.map(|h| h.split('·').next().unwrap_or(h)).collect();
+        let files = tree.files.iter().filter(|f| f.of == *name);
+        let heads: BTreeSet<&str> = files.flat_map(crates_named).collect();
         let idle = named.iter().filter(|d| !heads.contains(d.as_str()));
         found.extend(idle.map(|d| fault("crates.txt", *line, format!("{name}: {d}"))));
     }
@@ -118,46 +137,59 @@ pub fn lengths(tree: &Tree) -> Vec<Fault> {
     long.map(|(f, g)| fault(&f.path, g.line, format!("{}: {} lines", g.name, g.lines))).collect()
 }
 
-/// What the head of a proof begins with: the function, as callers write it.
+/// What the head of a proof begins with: the function, as callers write it. A proof is Answers.antt and Invariants.antt of one folder, or
+/// one of these, or Proof.antt; of functions that call one another the folder is `+name`.
 fn proved(file: &File) -> Option<String> {
-    let path = file.module.join("::");
-    let function = path.strip_prefix("proofs::")?.strip_suffix("::Proof")?;
-    Some(format!("{}::{function}:", file.of))
+    let (last, path) = file.module.strip_prefix(&["proofs".to_string()])?.split_last()?;
+    let function = path.iter().map(|part| part.trim_start_matches('+')).collect::<Vec<_>>().join("::");
+    let proof = ["Answers", "Invariants", "Proof"].contains(&&**last) && !path.is_empty();
+    proof.then(|| format!("{}::{function}:", file.of))
+}
+
+/// The files of the proof that a file belongs to, itself among them.
+fn proof_of<'t>(tree: &'t Tree, file: &File) -> Vec<&'t File> {
+    let folder = |f: &File| f.module.split_last().map(|(_, path)| path.to_vec());
+    let same = |f: &&File| f.of == file.of && folder(f) == folder(file) && proved(f).is_some();
+    tree.files.iter().filter(same).collect()
 }
 
 /// What is wrong with a proof's head: another beginning, or the first name in backquotes that the proof does not have. Functions are called
-/// `with_lines` there, and the proof calls them with-lines.
-fn misled(file: &File) -> Option<String> {
+/// `with_lines` there, and the proof may call them with-lines.
+fn misled(tree: &Tree, file: &File) -> Option<String> {
     let function = proved(file)?;
     if !file.head.starts_with(&function) {
         return Some(format!("the head does not begin with {function}"));
     }
+    let proof = proof_of(tree, file);
+    let says = |name: &str| proof.iter().any(|f| f.body.contains(name));
     let mut named = file.head.split('`').skip(1).step_by(2).filter(|n| n.len() > 1 && !n.contains([' ', '&', ':']));
-    let gone = |n: &&str| !file.body.contains(*n) && !file.body.contains(&n.replace('_', "-"));
+    let gone = |n: &&str| !says(n) && !says(&n.replace('_', "-"));
     named.find(gone).map(|n| format!("the head names {n}, and the proof does not"))
 }
 
 /// Files that do not begin with a comment, and proofs whose comment is about something else. Spared: laws.antt and Lib.antt, which are
-/// lists of files, but not where the crate's source is empty, since specs/Lib.antt then says what the crate holds; and that source.
+/// lists of files, but not where the crate's source is empty, since specs/Lib.antt then says what the crate holds; that source; and of the
+/// two files of one proof the one whose other has the head.
 pub fn heads(tree: &Tree) -> Vec<Fault> {
     let coded: BTreeSet<&str> =
         tree.files.iter().filter(|f| f.path.ends_with(".rt") && !f.head.is_empty()).map(|f| f.of.as_str()).collect();
     let list = |f: &File| f.path.ends_with("/laws.antt") || f.path.ends_with("/proofs/Lib.antt");
     let said = |f: &File| f.path.ends_with("/specs/Lib.antt") && coded.contains(f.of.as_str());
     let empty = |f: &File| f.path.ends_with("/src/lib.rt") && f.uses.is_empty() && f.items.is_empty();
-    let bare = tree.files.iter().filter(|f| f.head.is_empty() && !list(f) && !said(f) && !empty(f));
+    let other = |f: &File| proved(f).is_some() && proof_of(tree, f).iter().any(|g| !g.head.is_empty());
+    let bare = tree.files.iter().filter(|f| f.head.is_empty() && !list(f) && !said(f) && !empty(f) && !other(f));
     let bare = bare.map(|f| fault(&f.path, 1, "no head"));
     let headed = tree.files.iter().filter(|f| !f.head.is_empty());
-    bare.chain(headed.filter_map(|f| Some(fault(&f.path, 1, misled(f)?)))).collect()
+    bare.chain(headed.filter_map(|f| Some(fault(&f.path, 1, misled(tree, f)?)))).collect()
 }
 
-/// Rows of docs/TRUST.md whose file is one of laws: what must be believed stands outside specs/laws/.
+/// Rows of docs/TRUST.md whose file is one of laws: what must be believed stands outside specs/laws/ and proofs/.
 pub fn believed_laws(believed: &[(usize, String)]) -> Vec<Fault> {
-    let laws = believed.iter().filter(|(_, path)| path.contains("/specs/laws/"));
+    let laws = believed.iter().filter(|(_, path)| path.contains("/specs/laws/") || path.contains("/proofs/"));
     laws.map(|(line, path)| fault("docs/TRUST.md", *line, path)).collect()
 }
 
-/// Theorems outside specs/laws/ in the crates that docs/TRUST.md names. What is neither `abbrev` nor `unfoldable` is one: nobody can see
+/// Theorems of specs/ outside specs/laws/ in the crates that docs/TRUST.md names. What is neither `abbrev` nor `unfoldable` is one: nobody can see
 /// more of it than its type.
 pub fn loose_laws(tree: &Tree, believed: &[(usize, String)]) -> Vec<Fault> {
     let crates: BTreeSet<&str> = believed.iter().filter_map(|(_, path)| path.split('/').next()).collect();
@@ -180,9 +212,9 @@ pub fn crates(tree: &Tree) -> Vec<Fault> {
 /// definition.)
 pub fn shared(tree: &Tree) -> Vec<Fault> {
     let mut by: BTreeMap<&str, Vec<(&File, usize)>> = BTreeMap::new();
-    let counts = |file: &File, item: &scan::antt::Item| {
+    let counts = |file: &File, item: &Item| {
         let constant = item.sort == Sort::Declared && !item.name.contains(char::is_lowercase);
-        item.public && item.sort != Sort::Function && !constant && !file.path.ends_with("/Proof.antt")
+        item.public && item.sort != Sort::Function && !constant && proved(file).is_none()
     };
     for (_, _, file, item) in tree.all().filter(|(_, _, file, item)| counts(file, item)) {
         by.entry(&item.name).or_default().push((file, item.line));
@@ -192,8 +224,8 @@ pub fn shared(tree: &Tree) -> Vec<Fault> {
     several.flat_map(|(name, places)| places.into_iter().map(move |(f, line)| fault(&f.path, line, name))).collect()
 }
 
-/// What a program's source has beside one read of its input and one write of its text: the prover does not see what is read and written, so
-/// a second read, or a write of something else, would be proved.
+/// What a program's source has beside one read of its input and one write of its text, to standard output: the prover does not see what is
+/// read and written, so a second read, or a write of something else, would be proved. The libraries that read and write otherwise are not named.
 pub fn programs(tree: &Tree) -> Vec<Fault> {
     let mut found = Vec::new();
     for main in tree.files.iter().filter(|f| f.path.ends_with("/src/main.rt")) {
@@ -201,9 +233,13 @@ pub fn programs(tree: &Tree) -> Vec<Fault> {
             tree.files.iter().filter(|f| f.of == main.of && f.path.ends_with(".rt")).map(|f| &*f.body).collect();
         let code: Vec<&str> = source.lines().map(|l| l.split("//").next().unwrap_or("")).collect();
         let times = |text: &str| code.iter().map(|l| l.matches(text).count()).sum::<usize>();
-        let once = ["format_text::read_input(", "io::write_all(STDOUT_FILENO, text)", "io::", "libc::"];
+        let once =
+            ["format_text::read_input(", "io::write_all(STDOUT_FILENO, text)", "io::", "const STDOUT_FILENO: i32 = 1;"];
+        let wanted = once.map(|t| (t, 1)).into_iter().chain(["libc::", "std::", "os::"].map(|t| (t, 0)));
         found.extend(
-            once.iter().filter(|t| times(t) != 1).map(|t| fault(&main.path, 1, format!("{t} {} times", times(t)))),
+            wanted
+                .filter(|(t, n)| times(t) != *n)
+                .map(|(t, _)| fault(&main.path, 1, format!("{t} {} times", times(t)))),
         );
     }
     found
