@@ -1,6 +1,5 @@
 use mathlib.Core.Path.{ap, refl, ◌∙◌}
 use Rattle.base.proofs.laws.Table.{fill-next, fill_start, fill-turn, fill_end}
-use Prim.Native.Nat.{◌-◌}
 use native.Mathlib.Omega.{arith}
 use native.Mathlib.Numerals.{add-one}
 use Rattle.base.specs.Limits.{max_modules}
