@@ -21,11 +21,11 @@ use Rattle.field.specs.Valid.{word_fits}
 use Rattle.field.specs.Held.{state_of, fresh}
 use Rattle.field_calls.specs.Demand.{InPart, AsAtSetup}
 use Rattle.field_calls.specs.Trail.{Awake}
-use Rattle.field_laws.specs.After.{fresh-node}
-use Rattle.field_laws.specs.Chan.{is_up, msgs, chan}
-use Rattle.field_laws.specs.Fits.{word-link}
-use Rattle.field_laws.specs.Keeps.{Sound}
-use Rattle.field_laws.specs.Places.{over-from}
+use Rattle.field_laws.proofs.After.{fresh-node}
+use Rattle.field_laws.proofs.Chan.{is_up, msgs, chan}
+use Rattle.field_laws.proofs.Fits.{word-link}
+use Rattle.field_laws.proofs.Keeps.{Sound}
+use Rattle.field_laws.proofs.Places.{over-from}
 use Rattle.protocol.specs.Network.{Edge}
 use Rattle.protocol.specs.Chan.{In, next, in-nil, in_app, in_left, in_right}
 use Rattle.protocol_stuck.proofs.Parts.{PartAsleep, part-asleep}

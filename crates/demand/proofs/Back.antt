@@ -5,7 +5,7 @@ use Rattle.format_message.specs.Msg.{Msg, connect, initiate, test, accept, rejec
 use Rattle.node.specs.declared.Node.{Node}
 use Rattle.node.specs.Work.{Own, Work, BACK, start}
 use Rattle.node.specs.Rules.{respond}
-use Rattle.field_roundlaws.specs.Steady.{PutsBack, ends-awake}
+use Rattle.field_roundlaws.proofs.Steady.{PutsBack, ends-awake}
 use Rattle.protocol.specs.State.{ProtocolState}
 use Rattle.protocol.specs.Step.{Blocked}
 use Rattle.protocol_bridge.proofs.Real.{real}

@@ -2,7 +2,7 @@
 use Rattle.plan.proofs.laws.Accepted.{Accepted}
 use Rattle.plan.specs.Links.{Plan}
 use Rattle.field_calls.specs.Demand.{Demand3}
-use Rattle.field_roundlaws.specs.Reduce.{Protocol, demand3-from}
+use Rattle.field_roundlaws.proofs.Reduce.{Protocol, demand3-from}
 use Rattle.demand.proofs.Good.{Good, good_start}
 use Rattle.demand.proofs.Steps.{step-fine}
 use Rattle.demand.proofs.Rest.{stuck-none}

@@ -8,8 +8,8 @@ use Rattle.plan.specs.Trimmed.{trimmed}
 use Rattle.plan.proofs.laws.Accepted.{Accepted, accepted}
 use Rattle.field.specs.State.{State}
 use Rattle.field_calls.specs.Demand.{InPart, Core, Agreed, AllAgreed, Demand3OnePart}
-use Rattle.field_laws.specs.After.{started}
-use Rattle.field_roundlaws.specs.Awake.{exactly-woken}
+use Rattle.field_laws.proofs.After.{started}
+use Rattle.field_roundlaws.proofs.Awake.{exactly-woken}
 use Rattle.demand.proofs.Demand.{demand3}
 
 module _ (p : Plan) (s : State) (w : ℕ) (all : (v : ℕ) → v < modules_of p → InPart p w v) where

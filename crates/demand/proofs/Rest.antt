@@ -15,11 +15,11 @@ use Rattle.field.specs.Edges.{own_of, link_of, from, dest, limit_of, end_of}
 use Rattle.field.specs.State.{State, node_at, mark_at, msg_in}
 use Rattle.field.specs.Step.{in_air}
 use Rattle.field.specs.Valid.{word_fits}
-use Rattle.field_laws.specs.Chan.{is_up, msgs, chan, up-parts, air-parts}
-use Rattle.field_laws.specs.Places.{link-over, over-from}
-use Rattle.field_laws.specs.Fits.{word-link}
-use Rattle.field_laws.specs.Keeps.{Sound}
-use Rattle.field_roundlaws.specs.Progress.{BlockedWord}
+use Rattle.field_laws.proofs.Chan.{is_up, msgs, chan, up-parts, air-parts}
+use Rattle.field_laws.proofs.Places.{link-over, over-from}
+use Rattle.field_laws.proofs.Fits.{word-link}
+use Rattle.field_laws.proofs.Keeps.{Sound}
+use Rattle.field_roundlaws.proofs.Progress.{BlockedWord}
 use Rattle.graph.proofs.laws.Ways.{flip}
 use Rattle.plan.specs.Links.{Plan}
 use Rattle.protocol.specs.Network.{Edge, end_lt}

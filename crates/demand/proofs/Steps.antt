@@ -18,11 +18,11 @@ use Rattle.node.specs.Rules.{respond, wakes}
 use Rattle.field.specs.Edges.{own_of, link_of, from, limit_of, ceiling_of, marks_in}
 use Rattle.field.specs.State.{State, node_at, msg_in, placed}
 use Rattle.field.specs.Step.{in_air, in_queue, carry_out, wake_work, wake, hand, serve_work, back_of, serve, step}
-use Rattle.field_laws.specs.Chan.{queue-parts}
-use Rattle.field_laws.specs.Lists.{WorkOk}
-use Rattle.field_laws.specs.Fits.{word-link, word-shaped}
-use Rattle.field_laws.specs.Cases.{HandedOver}
-use Rattle.field_laws.specs.Keeps.{Sound, wake-ok, serve-ok}
+use Rattle.field_laws.proofs.Chan.{queue-parts}
+use Rattle.field_laws.proofs.Lists.{WorkOk}
+use Rattle.field_laws.proofs.Fits.{word-link, word-shaped}
+use Rattle.field_laws.proofs.Cases.{HandedOver}
+use Rattle.field_laws.proofs.Keeps.{Sound, wake-ok, serve-ok}
 use Rattle.protocol.specs.Network.{Edge}
 use Rattle.protocol_bridge.proofs.Real.{Real, real}
 use Rattle.protocol_bridge.proofs.Place.{to_pop}

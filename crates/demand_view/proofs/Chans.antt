@@ -16,9 +16,9 @@ use Rattle.node.specs.Work.{Send}
 use Rattle.field.specs.Edges.{is_own, link_of, from, end_of}
 use Rattle.field.specs.State.{msg_in, posted}
 use Rattle.field.specs.Step.{in_air, in_queue}
-use Rattle.field_laws.specs.Chan.{chan, ups, downs, hand-chan, queue-parts, take_own, take-other, back-own, back-other}
-use Rattle.field_laws.specs.Sends.{Packs, onto, onto-nil, onto-here, onto-else, post-chan, post-away}
-use Rattle.field_laws.specs.Places.{link-over, from-over, from-own, over-from, ends-apart}
+use Rattle.field_laws.proofs.Chan.{chan, ups, downs, hand-chan, queue-parts, take_own, take-other, back-own, back-other}
+use Rattle.field_laws.proofs.Sends.{Packs, onto, onto-nil, onto-here, onto-else, post-chan, post-away}
+use Rattle.field_laws.proofs.Places.{link-over, from-over, from-own, over-from, ends-apart}
 use Rattle.protocol_bridge.proofs.Real.{post}
 use Rattle.protocol_bridge.proofs.Place.{post-pop}
 use Rattle.demand_view.proofs.View.{chans}

@@ -11,7 +11,7 @@ use Rattle.plan.proofs.laws.Weights.{order_of}
 use Rattle.plan.proofs.laws.Accepted.{Accepted}
 use Rattle.field.proofs.laws.Edges.{own-lower, own-higher}
 use Rattle.field.specs.Edges.{is_own, own_of, link_of, from, dest, end_of}
-use Rattle.field_laws.specs.Places.{own-link-below, own-end, from-over, link-over, over_below}
+use Rattle.field_laws.proofs.Places.{own-link-below, own-end, from-over, link-over, over_below}
 use Rattle.protocol.specs.Network.{Network, Edge}
 use Rattle.protocol_bridge.proofs.Real.{own_p}
 

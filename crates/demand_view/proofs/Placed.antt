@@ -13,10 +13,10 @@ use Rattle.node.specs.Work.{Work}
 use Rattle.field.specs.Edges.{is_own, own_of, link_of, from, limit_of, marks_in}
 use Rattle.field.specs.State.{State, msg_in, posted, placed}
 use Rattle.field.specs.Step.{in_queue}
-use Rattle.field_laws.specs.Lists.{WorkOk}
-use Rattle.field_laws.specs.Fits.{sends-pack}
-use Rattle.field_laws.specs.Keeps.{Sized}
-use Rattle.field_laws.specs.Sends.{Packs}
+use Rattle.field_laws.proofs.Lists.{WorkOk}
+use Rattle.field_laws.proofs.Fits.{sends-pack}
+use Rattle.field_laws.proofs.Keeps.{Sized}
+use Rattle.field_laws.proofs.Sends.{Packs}
 use Rattle.protocol_bridge.proofs.Real.{post, place_in}
 use Rattle.protocol_bridge.proofs.Place.{to_pop}
 use Rattle.demand_view.proofs.View.{chans, tables, view, place-tables, nodes, nodes-put, marks-put}

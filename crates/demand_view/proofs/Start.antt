@@ -16,10 +16,10 @@ use Rattle.base.specs.Limits.{max_modules, max_ends}
 use Rattle.base.specs.Keep.{keep}
 use Rattle.plan.specs.Links.{Plan, modules_of}
 use Rattle.field.proofs.laws.Edges.{mark-own, mark-not}
-use Rattle.field_laws.specs.Chan.{chan}
-use Rattle.field_laws.specs.Places.{over_below}
-use Rattle.field_laws.specs.Laid.{waiting-zeros}
-use Rattle.field_laws.specs.After.{fresh-node}
+use Rattle.field_laws.proofs.Chan.{chan}
+use Rattle.field_laws.proofs.Places.{over_below}
+use Rattle.field_laws.proofs.Laid.{waiting-zeros}
+use Rattle.field_laws.proofs.After.{fresh-node}
 use Rattle.protocol.specs.State.{setup_state}
 use Rattle.protocol_bridge.proofs.Real.{real}
 use Rattle.demand_view.proofs.View.{nodes, chans, tables, view}

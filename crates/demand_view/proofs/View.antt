@@ -13,8 +13,8 @@ use Rattle.node.specs.declared.Node.{Node}
 use Rattle.node.specs.Work.{Work, start, setup}
 use Rattle.field.specs.Edges.{is_own, end_of, marks_in}
 use Rattle.field.specs.State.{State, WIDTH, node_in, put_node, put_marks}
-use Rattle.field_laws.specs.Chan.{chan}
-use Rattle.field_laws.specs.Places.{node-same, node-other, mark-same, mark-other}
+use Rattle.field_laws.proofs.Chan.{chan}
+use Rattle.field_laws.proofs.Places.{node-same, node-other, mark-same, mark-other}
 use Rattle.protocol_bridge.proofs.Real.{Real, post, place_in}
 use Rattle.protocol_bridge.proofs.Place.{upd-own, post-nil}
 use Rattle.protocol_bridge.proofs.Fin.{Shows}

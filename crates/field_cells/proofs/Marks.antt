@@ -20,7 +20,7 @@ use Rattle.field.specs.State.{new_mark, put_marks}
 use Rattle.plan.proofs.laws.Accepted.{Accepted}
 use Rattle.plan.specs.Links.{Plan, links_of}
 use Rattle.field.proofs.laws.Edges.{mark-own}
-use Rattle.field_laws.specs.Places.{put_marks-at, length-new, over-from, from-own, link-over, over_below, from-over, own-link-below}
+use Rattle.field_laws.proofs.Places.{put_marks-at, length-new, over-from, from-own, link-over, over_below, from-over, own-link-below}
 use Rattle.field_cells.specs.Marks.{mark_put}
 
 -- the mark of directed end d, in both cases

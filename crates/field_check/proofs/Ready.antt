@@ -16,8 +16,8 @@ use Rattle.field.specs.State.{CELLS}
 use Rattle.field.specs.Valid.{zero_after, fits}
 use Rattle.field.specs.Held.{Held, layout, valid}
 use Rattle.field.specs.Held as H
-use Rattle.field_laws.specs.Keeps.{Sound}
-use Rattle.field_laws.specs.Laid.{Live, live-plan, live-sound, held_same}
+use Rattle.field_laws.proofs.Keeps.{Sound}
+use Rattle.field_laws.proofs.Laid.{Live, live-plan, live-sound, held_same}
 use Rattle.field_check.specs.declared.Checked.{Checked}
 use Rattle.field_check.specs.Checked.{check_of}
 use Rattle.field_check.proofs.Words.{within}

@@ -3,7 +3,7 @@ use Rattle.std.specs.Prelude.{ℕ, ◌≤◌, ◌≡◌, List, length}
 use Rattle.plan.specs.Links.{Plan, plan_size}
 use Rattle.plan.proofs.laws.Accepted.{Accepted}
 use Rattle.field.specs.Edges.{ceiling_of}
-use Rattle.field_laws.specs.Keeps.{Sound}
+use Rattle.field_laws.proofs.Keeps.{Sound}
 use Rattle.field_words.specs.Laid.{Laid}
 use Rattle.field_words.specs.Hands.{lent_state}
 

@@ -13,7 +13,7 @@ use Rattle.node_response.specs.declared.Response.{Response}
 use Rattle.node_response.specs.Response.{packet_sends, copies_of}
 use Rattle.field.specs.State.{word_of, posted}
 use Rattle.field.specs.Held.{layout}
-use Rattle.field_laws.specs.Sends.{length-posted}
+use Rattle.field_laws.proofs.Sends.{length-posted}
 use Rattle.field_words.specs.Laid.{Laid}
 use Rattle.field_words.proofs.Laid.{zeros-from, laid}
 use Rattle.field_place.specs.Posted.{Posted, Put, copies_to, sends_by}

@@ -11,7 +11,7 @@ use Rattle.plan.specs.Links.{Plan, links_of}
 use Rattle.node.specs.Work.{on_each}
 use Rattle.field.specs.Edges.{own_of, end_of}
 use Rattle.field.specs.State.{msg_in, posted}
-use Rattle.field_laws.specs.Sends.{length-posted}
+use Rattle.field_laws.proofs.Sends.{length-posted}
 use Rattle.field_place.specs.Posted.{copy_test, copied_at, copies_to, Posted}
 use Rattle.field_place.proofs.Words.{posted-none, posted-length, posted-then}
 use Rattle.field_place.proofs.Copies.{each_on, each-short, copies-on}

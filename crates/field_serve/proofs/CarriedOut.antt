@@ -14,7 +14,7 @@ use Rattle.plan.specs.Links.{Plan, modules_of, links_of}
 use Rattle.node.specs.Work.{Work}
 use Rattle.field.specs.State.{State, put_node, posted, placed}
 use Rattle.field.specs.Step.{without, back_of}
-use Rattle.field_laws.specs.Keeps.{Sound}
+use Rattle.field_laws.proofs.Keeps.{Sound}
 use Rattle.field_cells.specs.Marks.{mark_put}
 use Rattle.field_cells.proofs.Marks.{mark-put}
 use Rattle.field_place.specs.Posted.{sends_by}

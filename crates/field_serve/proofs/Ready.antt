@@ -8,7 +8,7 @@ use Rattle.base.specs.Loop.{After, refused_by}
 use Rattle.plan.specs.Links.{Plan}
 use Rattle.field.specs.State.{State}
 use Rattle.field.specs.Step.{wake, hand, serve, step}
-use Rattle.field_laws.specs.Keeps.{Sound, step_keeps}
+use Rattle.field_laws.proofs.Keeps.{Sound, step_keeps}
 use Rattle.field_words.specs.Laid.{Laid}
 use Rattle.field_words.specs.Hands.{lent_state, Hands}
 use Rattle.field_check.specs.Ready.{Ready}

@@ -13,9 +13,9 @@ use Rattle.node_response.specs.declared.Packet.{Packet}
 use Rattle.node_response.specs.declared.Response.{Response}
 use Rattle.node_response.specs.Response.{packet_for, packet_msg, packet_sends, work_of, Formed, copies_of}
 use Rattle.field.specs.Edges.{own_of, limit_of}
-use Rattle.field_laws.specs.Lists.{SendOk}
-use Rattle.field_laws.specs.Sends.{Packs}
-use Rattle.field_laws.specs.Fits.{sends-pack}
+use Rattle.field_laws.proofs.Lists.{SendOk}
+use Rattle.field_laws.proofs.Sends.{Packs}
+use Rattle.field_laws.proofs.Fits.{sends-pack}
 use Rattle.field_place.specs.Posted.{PacketOk}
 use Rattle.field_place.proofs.Parts.{packet-some}
 

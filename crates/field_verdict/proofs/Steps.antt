@@ -33,8 +33,8 @@ use Rattle.field.specs.State.{State, node_in, node_at, mark_at, msg_in}
 use Rattle.field.specs.Step.{in_queue, without, carry_out, back_of, wake_work, wake, serve_work, serve}
 use Rattle.field.specs.Valid.{link_or_none, word_fits}
 use Rattle.field_calls.specs.Trail.{served_word}
-use Rattle.field_laws.specs.Lists.{WorkOk}
-use Rattle.field_laws.specs.Keeps.{Sound, not_back, wake-ok, served-own, serve-ok}
+use Rattle.field_laws.proofs.Lists.{WorkOk}
+use Rattle.field_laws.proofs.Keeps.{Sound, not_back, wake-ok, served-own, serve-ok}
 use Rattle.field_words.proofs.Laid.{without-past}
 use Rattle.field_check.specs.Checked.{state_in}
 use Rattle.field_verdict.specs.declared.Verdict.{Verdict}

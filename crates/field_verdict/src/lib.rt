@@ -11,7 +11,7 @@ ghost use Rattle.field.specs.Edges.{ceiling_of};
 ghost use Rattle.field.specs.State.{node_in};
 ghost use Rattle.field.specs.Step.{wake_work, wake, serve_work, serve};
 ghost use Rattle.field_calls.specs.Trail.{served_word};
-ghost use Rattle.field_laws.specs.Keeps.{Sound};
+ghost use Rattle.field_laws.proofs.Keeps.{Sound};
 ghost use Rattle.field_check.specs.Checked.{state_in};
 ghost use Rattle.field_verdict.specs.Verdict.{Decided};
 ghost use Rattle.field_verdict.specs.Judged.{packet_in, Responds, Judged};

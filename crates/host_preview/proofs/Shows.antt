@@ -10,7 +10,7 @@ use lib.Seq.{sets-eq}
 use Rattle.plan.specs.Links.{Plan}
 use Rattle.field.specs.State.{posted}
 use Rattle.field.specs.Held.{held_from}
-use Rattle.field_laws.specs.Sends.{length-posted}
+use Rattle.field_laws.proofs.Sends.{length-posted}
 use Rattle.field_place.specs.Posted.{sends_by, Posted}
 use Rattle.field_verdict.specs.declared.Verdict.{Verdict}
 use Rattle.preview.specs.declared.Previewed.{Previewed}

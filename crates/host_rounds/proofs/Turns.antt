@@ -16,8 +16,8 @@ use Rattle.field.specs.State.{State}
 use Rattle.field.specs.Step.{in_air, in_queue, hand, serve}
 use Rattle.base.specs.Keep.{many}
 use Rattle.field_calls.specs.Rounds.{hand_turn, hand_phase, serve_turn, serve_phase, round}
-use Rattle.field_laws.specs.Keeps.{Sound, step_keeps}
-use Rattle.field_laws.specs.Trace.{hand-turn-tells}
+use Rattle.field_laws.proofs.Keeps.{Sound, step_keeps}
+use Rattle.field_laws.proofs.Trace.{hand-turn-tells}
 use Rattle.field_words.specs.Laid.{Laid}
 
 -- a turn is its loop, over the count that the code has read; so is the phase, over the number of links that the code has

@@ -14,8 +14,8 @@ use Rattle.plan.proofs.laws.Ceiling.{ceiling-small}
 use Rattle.plan.proofs.laws.Accepted.{accepted}
 use Rattle.field.specs.Valid.{all_of, waiting_in}
 use Rattle.field.specs.Held.{Held, state_of, valid}
-use Rattle.field_laws.specs.Fits.{FieldFits, fits-facts}
-use Rattle.field_laws.specs.Laid.{valid-parts}
+use Rattle.field_laws.proofs.Fits.{FieldFits, fits-facts}
+use Rattle.field_laws.proofs.Laid.{valid-parts}
 use Rattle.store.specs.Records.{records_in, joined, stored}
 use Rattle.store.specs.Names.{is_letter, longest_name, name_fits, is_named, without_first}
 use Rattle.store.specs.Layout.{record_bytes, record_size}

@@ -20,13 +20,13 @@ use Rattle.field.specs.declared.Field.{Field}
 use Rattle.field.specs.Edges.{ceiling_of}
 use Rattle.field.specs.Valid.{all_of, waiting_in, fits}
 use Rattle.field.specs.Held.{layout, held_from, valid}
-use Rattle.field_laws.specs.Laid.{waited-back, waiting-nonzero, laid-length, layout-zeros}
+use Rattle.field_laws.proofs.Laid.{waited-back, waiting-nonzero, laid-length, layout-zeros}
 use Rattle.field_check.specs.Checked.{state_in}
 use Rattle.field_check.proofs.Outcomes.{valid-fits}
 use Rattle.field_check.proofs.Words.{take-waiting, front}
 use Rattle.store.specs.Names.{name_fits, name_in}
 use Rattle.store.specs.Reading.{plan_bytes, plan_in, behind_plan, numbers_size, words_part, held_in, filled_up, record_fits}
-use Rattle.store_laws.specs.ReadBack.{record-ok}
+use Rattle.store_laws.proofs.ReadBack.{record-ok}
 use Rattle.store_field.specs.Parts.{cut_mark}
 use Rattle.store_field.proofs.laws.Cut.{fits_cut}
 use Rattle.store_check.specs.Seen.{PlanRead, WordsThere}

@@ -19,7 +19,7 @@ use Rattle.field.specs.Edges.{ceiling_of}
 use Rattle.store.specs.Names.{body_in}
 use Rattle.store.specs.Layout.{field_numbers}
 use Rattle.store.specs.Reading.{plan_bytes, plan_in, behind_plan, numbers_size, words_part, words_in, field_in, held_in, record_fits}
-use Rattle.store_laws.specs.ReadBack.{record-ok}
+use Rattle.store_laws.proofs.ReadBack.{record-ok}
 use Rattle.store_records.proofs.Bytes.{tail_all}
 use Rattle.store_check.specs.Seen.{plan_size_in, PlanRead, NumbersThere}
 

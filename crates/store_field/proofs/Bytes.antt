@@ -11,7 +11,7 @@ use Rattle.base.proofs.laws.Table.{length-tabulate, tabulate-next}
 use Rattle.base.proofs.laws.Sets.{sets-append}
 use Rattle.format_wide.specs.Wide.{bytes64, put64}
 use Rattle.store.specs.Layout.{word_bytes}
-use Rattle.store_laws.specs.Words.{length-words}
+use Rattle.store_laws.proofs.Words.{length-words}
 
 pub sets-on : (s t : List ℕ) (a b : ℕ) (xs ys : List ℕ) → b ≡ a + length xs → t ≡ sets s a xs → sets t b ys ≡ sets s a (xs ++ ys)
 sets-on s t a b xs ys e h = ap₂ (λ (n : ℕ) l. sets l n ys) e h ∙ sets-append s a xs ys

@@ -16,7 +16,7 @@ use Rattle.plan_file.proofs.laws.Lengths.{bytes_of-append, length-bytes_of}
 use Rattle.field.specs.State.{WIDTH, cell_of}
 use Rattle.field.specs.Held.{field_from}
 use Rattle.store.specs.Layout.{entry_at, mark_place, value_places, mark_places, module_places, places}
-use Rattle.store_laws.specs.FieldBytes.{entry-cell, entry-mark}
+use Rattle.store_laws.proofs.FieldBytes.{entry-cell, entry-mark}
 use Rattle.store_field.specs.Ends.{own_ends, entry}
 use Rattle.store_field.specs.Parts.{parts_at}
 use Rattle.store_field.proofs.Ends.{places-ends}

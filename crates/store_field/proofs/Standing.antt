@@ -18,11 +18,11 @@ use Rattle.plan.specs.Links.{Plan, modules_of, links_of, lower_of, higher_of}
 use Rattle.plan.proofs.laws.Accepted.{Accepted}
 use Rattle.field.specs.Edges.{is_own, end_of, link_of, from}
 use Rattle.field.specs.State.{WIDTH, cell_of}
-use Rattle.field_laws.specs.Places.{from-own, over-from, from-below}
+use Rattle.field_laws.proofs.Places.{from-own, over-from, from-below}
 use Rattle.store.specs.Layout.{mark_place, value_places, mark_places, module_places, places_below, places}
 use Rattle.store.specs.Reading.{poured}
-use Rattle.store_laws.specs.Places.{link-bits}
-use Rattle.store_laws.specs.Pour.{poured-keeps}
+use Rattle.store_laws.proofs.Places.{link-bits}
+use Rattle.store_laws.proofs.Pour.{poured-keeps}
 use Rattle.store_field.specs.Ends.{ends_below}
 
 -- i is the one behind j others

@@ -18,9 +18,9 @@ use Rattle.plan.specs.Links.{Plan, modules_of, links_of}
 use Rattle.plan.proofs.laws.Accepted.{Accepted}
 use Rattle.field.specs.Edges.{from}
 use Rattle.field.specs.State.{WIDTH, cell_of}
-use Rattle.field_laws.specs.Places.{from-below}
+use Rattle.field_laws.proofs.Places.{from-below}
 use Rattle.store.specs.Layout.{value_places, mark_places, module_places, places_below, field_numbers}
-use Rattle.store_laws.specs.Places.{places-length}
+use Rattle.store_laws.proofs.Places.{places-length}
 use Rattle.store_field.specs.Ends.{ends_below, values_from, cell_number, mark_number, laid_starts, entry}
 use Rattle.store_field.proofs.Ends.{below_next, below-within}
 use Rattle.store_field.proofs.Standing.{stands-below, cell-stands, mark-stands, marks-ends, ends_on}

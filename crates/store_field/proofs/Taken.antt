@@ -19,8 +19,8 @@ use Rattle.field.specs.Held.{fresh_cells}
 use Rattle.field.proofs.laws.Held.{fresh-length}
 use Rattle.store.specs.Layout.{places, places_below}
 use Rattle.store.specs.Reading.{number_in, fresh_entries, entries_in, field_in}
-use Rattle.store_laws.specs.Places.{places-apart, places-inside}
-use Rattle.store_laws.specs.Pour.{poured-keeps, poured-length}
+use Rattle.store_laws.proofs.Places.{places-apart, places-inside}
+use Rattle.store_laws.proofs.Pour.{poured-keeps, poured-length}
 use Rattle.store_field.specs.Ends.{ends_below, cell_number, mark_number, entry}
 use Rattle.store_field.specs.Parts.{cut_mark}
 use Rattle.store_field.proofs.laws.Cut.{entry-cut}

@@ -9,7 +9,7 @@ use Rattle.base.specs.Pool.{All, nil, con}
 use Rattle.base.proofs.laws.Pool.{All-app, All-one}
 use Rattle.base.proofs.laws.Cond.{bool_cases}
 use Rattle.field.specs.Valid.{all_of}
-use Rattle.field_laws.specs.Laid.{all-zeros, zeros-all}
+use Rattle.field_laws.proofs.Laid.{all-zeros, zeros-all}
 use Rattle.store.specs.Records.{records_in, joined, stored}
 use Rattle.store.specs.Names.{name_in, is_named, without_first, held_among, holds, shown_part}
 use Rattle.store.specs.Reading.{record_fits}

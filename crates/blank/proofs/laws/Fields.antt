@@ -27,8 +27,8 @@ use Rattle.field_calls.specs.Schedule.{schedule_refusal, steps_in, kind_of, numb
 use Rattle.field_calls.specs.Rounds.{round, at_rest}
 use Rattle.field_calls.specs.Call.{Call, one, run, rounds, refused_run, run_bytes, run_rounds, does, after}
 use Rattle.field_calls.specs.Trail.{if_taken, round_steps, steps_of, trail}
-use Rattle.field_laws.specs.Fits.{FieldFits, fits-facts, facts-fits}
-use Rattle.field_laws.specs.Laid.{waiting-zeros, zeros-all, layout-back, valid-parts, held_same}
+use Rattle.field_laws.proofs.Fits.{FieldFits, fits-facts, facts-fits}
+use Rattle.field_laws.proofs.Laid.{waiting-zeros, zeros-all, layout-back, valid-parts, held_same}
 use Rattle.preview.specs.Preview.{preview, not_shown}
 use Rattle.preview.proofs.laws.Outcomes.{preview-refused}
 use Rattle.cue.specs.declared.Cue.{Cue}

@@ -4,7 +4,7 @@ use native.Mathlib.Omega.{arith}
 use mathlib.Core.Path.{◌≡◌, ◌∙◌}
 use borrow.Author.Tests.{eq-eqb, ne_eqb}
 use Rattle.field.specs.Edges.{dest}
-use Rattle.field_laws.specs.Places.{dest-below}
+use Rattle.field_laws.proofs.Places.{dest-below}
 use Rattle.cue_check.proofs.far_end.Goals as goal
 
 pub returns-then-d-eq1 : goal.returns-then-d-eq1

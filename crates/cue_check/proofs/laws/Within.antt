@@ -10,7 +10,7 @@ use Rattle.plan.specs.Links.{Plan, modules_of, links_of, lower_of}
 use Rattle.plan.proofs.laws.Accepted.{Accepted}
 use Rattle.field.specs.Edges.{is_own, end_of, from, dest}
 use Rattle.field.proofs.laws.Edges.{end-lower, end-higher}
-use Rattle.field_laws.specs.Places.{over_below, from-below, dest-below}
+use Rattle.field_laws.proofs.Places.{over_below, from-below, dest-below}
 use Rattle.cue.specs.declared.Cue.{Cue}
 use Rattle.cue.specs.Record.{record_of}
 use Rattle.cue.specs.Copies.{sent_over, arrived_over, waits_on}

@@ -10,9 +10,9 @@ use Rattle.field.specs.Edges.{link_of, from}
 use Rattle.cue.specs.declared.Cue.{Cue}
 use Rattle.cue.specs.declared.Delivery.TheVariants.{Heard}
 use Rattle.cue.specs.Record.{record_of, heard_record}
-use Rattle.cue_laws.specs.NetOf.{net_of}
-use Rattle.cue_laws.specs.HopsBelow.{hops-below}
-use Rattle.field_laws.specs.Places.{from-below}
+use Rattle.cue_laws.proofs.NetOf.{net_of}
+use Rattle.cue_laws.proofs.HopsBelow.{hops-below}
+use Rattle.field_laws.proofs.Places.{from-below}
 use Rattle.cue_check.proofs.laws.Right.{record-read}
 use Rattle.cue_verdict.proofs.laws.Verdict.{by_copy, by-none}
 use Rattle.cue_verdict.proofs.arriving.Statement.{statement}

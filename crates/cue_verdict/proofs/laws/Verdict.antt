@@ -20,7 +20,7 @@ use Rattle.cue.specs.Copies.{waits_on}
 use Rattle.cue.specs.Calls.{start_refusal, start_cue, delivery_refusal, Delivered, deliver_cue}
 use Rattle.cue.proofs.laws.Refusals.{valid-accepted, ready-accepted, start-facts, delivery-facts}
 use Rattle.cue.proofs.laws.Calls.{delivery-keeps, delivery-heard, delivery-idle}
-use Rattle.field_laws.specs.Places.{from-below}
+use Rattle.field_laws.proofs.Places.{from-below}
 use Rattle.cue_check.proofs.laws.Within.{left-agrees, waits-agrees}
 use Rattle.cue_verdict.specs.declared.Opening.{Opening}
 use Rattle.cue_verdict.specs.declared.Hearing.{Hearing}

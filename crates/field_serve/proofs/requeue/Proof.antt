@@ -1,7 +1,7 @@
 -- field_serve::requeue: not put back by `not_back`; else one word more, by `is-back` and `holds-one`.
 use borrow.Author.Rules.{rules}
 use Rattle.field_serve.proofs.Holds.{holds_same, holds-one}
-use Rattle.field_laws.specs.Keeps.{not_back, is-back}
+use Rattle.field_laws.proofs.Keeps.{not_back, is-back}
 use Rattle.field_serve.proofs.requeue.Statement.{statement}
 use Rattle.field_serve.proofs.requeue.Tie as tie
 

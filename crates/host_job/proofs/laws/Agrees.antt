@@ -30,9 +30,9 @@ use Rattle.field_calls.proofs.laws.Schedule.{run-list}
 use Rattle.field_calls.specs.Call.{Call, run, rounds, after, answers, does, laid_back, run_bytes, run_rounds}
 use Rattle.field_calls.specs.Trail.{Taken, trail, steps_of, if_taken, messages_sent, woken_in, wakes_one}
 use Rattle.field_calls.specs.Demand.{BothSay, InPart, Agreed, Allowed, ComesToRest, Claim}
-use Rattle.field_laws.specs.After.{started, trimmed-ceiling, begun-live, fresh-node}
-use Rattle.field_laws.specs.Laid.{Live}
-use Rattle.field_roundlaws.specs.Awake.{woken-app, all-member}
+use Rattle.field_laws.proofs.After.{started, trimmed-ceiling, begun-live, fresh-node}
+use Rattle.field_laws.proofs.Laid.{Live}
+use Rattle.field_roundlaws.proofs.Awake.{woken-app, all-member}
 use Rattle.demand.proofs.Demand.{demand3}
 use Rattle.plan_tree.specs.Tree.{central_tree}
 use Rattle.plan_tree.proofs.laws.Theorems.{written-tree, tree-written}

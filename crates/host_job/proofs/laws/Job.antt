@@ -15,7 +15,7 @@ use Rattle.plan.proofs.laws.Same.{same-sym, same_taken}
 use Rattle.plan.proofs.laws.Trimmed.{trimmed-same}
 use Rattle.field.specs.Held.{Held, set_up}
 use Rattle.field_calls.specs.Call.{refused_run, run_bytes, run_rounds}
-use Rattle.field_laws.specs.After.{started}
+use Rattle.field_laws.proofs.After.{started}
 use Rattle.host_job.specs.Job.{wake_steps, job_wakes, max_rounds, job_run}
 
 -- of plans with no module; with one; with two in one part; with two and no link; of the two banks; of five modules in the parts 0 3, 1 and 2 4

@@ -31,8 +31,8 @@ use Rattle.field.specs.Step.{carry_out, wake_work, wake, WAKE, step}
 use Rattle.field_calls.specs.declared.Step.{Step}
 use Rattle.field_calls.specs.Schedule.{schedule_refusal, steps_in, kind_of, number_of, kind_listed, step_at, never, step_of, steps_from, schedule_steps, list_run}
 use Rattle.field_calls.specs.Trail.{Taken, step_taken, if_taken}
-use Rattle.field_laws.specs.Cases.{Woke, StepOutcome, took, kept, wake-outcome}
-use Rattle.field_laws.specs.Places.{node-other}
+use Rattle.field_laws.proofs.Cases.{Woke, StepOutcome, took, kept, wake-outcome}
+use Rattle.field_laws.proofs.Places.{node-other}
 use Rattle.host_job.specs.Job.{wake_steps, wakes_of}
 
 -- a wake of module v, as a step

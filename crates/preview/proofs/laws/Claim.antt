@@ -12,9 +12,9 @@ use Rattle.field.specs.Step.{serve_work, back_of, HAND}
 use Rattle.field.specs.Valid.{waiting_in}
 use Rattle.field.specs.Held.{Held, state_of, step_alone}
 use Rattle.field_calls.specs.Trail.{sends_at, step_taken}
-use Rattle.field_laws.specs.Cases.{FieldStep, wake-step, hand-step, serve-step}
-use Rattle.field_laws.specs.Sends.{length-posted}
-use Rattle.field_laws.specs.Laid.{alone-took, alone-left, step_back}
+use Rattle.field_laws.proofs.Cases.{FieldStep, wake-step, hand-step, serve-step}
+use Rattle.field_laws.proofs.Sends.{length-posted}
+use Rattle.field_laws.proofs.Laid.{alone-took, alone-left, step_back}
 use Rattle.preview.specs.Preview.{would_send, shown, preview}
 use Rattle.preview.specs.Claim.{remaining, goes_last, Foretells, PreviewClaim}
 use Rattle.preview.proofs.laws.Outcomes.{preview-refused, preview-short, preview-shown}

@@ -14,10 +14,10 @@ use Rattle.field.specs.Edges.{own_of, limit_of}
 use Rattle.field.specs.State.{State}
 use Rattle.field.specs.Held.{Held, state_of, step_alone}
 use Rattle.field_calls.specs.Trail.{sends_at, step_taken}
-use Rattle.field_laws.specs.Cases.{FieldStep, wake-step, hand-step, serve-step}
-use Rattle.field_laws.specs.Degree.{degree-below}
-use Rattle.field_laws.specs.Laid.{alone-took, alone-plan}
-use Rattle.field_laws.specs.Sends.{length-posted}
+use Rattle.field_laws.proofs.Cases.{FieldStep, wake-step, hand-step, serve-step}
+use Rattle.field_laws.proofs.Degree.{degree-below}
+use Rattle.field_laws.proofs.Laid.{alone-took, alone-plan}
+use Rattle.field_laws.proofs.Sends.{length-posted}
 use Rattle.preview.specs.Preview.{Preview, would_send, preview}
 use Rattle.preview.proofs.laws.Outcomes.{preview-refused, preview-shown}
 

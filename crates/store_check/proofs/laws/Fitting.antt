@@ -6,10 +6,10 @@ use Rattle.plan.specs.Links.{Plan}
 use Rattle.field.specs.declared.Field.{Field}
 use Rattle.field.specs.Edges.{ceiling_of}
 use Rattle.field.specs.Held.{state_of}
-use Rattle.field_laws.specs.Fits.{FieldFits, fits-facts}
-use Rattle.field_laws.specs.Laid.{waited-back, valid-parts}
+use Rattle.field_laws.proofs.Fits.{FieldFits, fits-facts}
+use Rattle.field_laws.proofs.Laid.{waited-back, valid-parts}
 use Rattle.store.specs.Reading.{held_in, filled_up, record_fits}
-use Rattle.store_laws.specs.ReadBack.{record-ok, record-tidy}
+use Rattle.store_laws.proofs.ReadBack.{record-ok, record-tidy}
 use Rattle.store_field.specs.Parts.{cut_mark}
 use Rattle.store_field.proofs.laws.Cut.{cut-tidy}
 use Rattle.store_check.specs.Seen.{NumbersThere}

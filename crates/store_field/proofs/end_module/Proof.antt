@@ -4,7 +4,7 @@ use mathlib.Core.Path.{◌≡◌, ◌∙◌}
 use borrow.Author.Rules.{rules}
 use borrow.Author.Tests.{eq-eqb, ne_eqb}
 use Rattle.field.specs.Edges.{from}
-use Rattle.field_laws.specs.Places.{from-below}
+use Rattle.field_laws.proofs.Places.{from-below}
 use Rattle.store_field.proofs.end_module.Statement.{statement}
 use Rattle.store_field.proofs.end_module.Tie as tie
 

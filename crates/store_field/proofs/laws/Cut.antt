@@ -16,8 +16,8 @@ use Rattle.plan.specs.Links.{Plan, links_of}
 use Rattle.node.specs.Work.{REJECTED}
 use Rattle.field.specs.Valid.{fits}
 use Rattle.field.specs.Held.{Held, state_of, valid}
-use Rattle.field_laws.specs.Laid.{valid-parts}
-use Rattle.field_laws.specs.Fits.{fits-facts}
+use Rattle.field_laws.proofs.Laid.{valid-parts}
+use Rattle.field_laws.proofs.Fits.{fits-facts}
 use Rattle.store.specs.Tidied.{tidied}
 use Rattle.store_field.specs.Ends.{entry}
 use Rattle.store_field.specs.Parts.{cut_mark}

@@ -10,8 +10,8 @@ use Rattle.field.specs.declared.Field.{Field}
 use Rattle.field.specs.Valid.{waiting_in}
 use Rattle.field.specs.Held.{Held}
 use Rattle.store.specs.Layout.{entry_at, places, field_numbers, field_bytes, word_bytes, record_bytes, record_with, number_bytes, record_size}
-use Rattle.store_laws.specs.Places.{places-length}
-use Rattle.store_laws.specs.Words.{length-words}
+use Rattle.store_laws.proofs.Places.{places-length}
+use Rattle.store_laws.proofs.Words.{length-words}
 
 -- by its numbers; for an accepted plan by its counts
 pub field-bytes : (f : Field) → length (field_bytes f) ≡ 7 + 8 * links_of f.plan + 2 * field_numbers f.plan

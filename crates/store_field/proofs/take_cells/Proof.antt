@@ -9,7 +9,7 @@ use Rattle.base.proofs.laws.Table.{fill_start, fill-turn}
 use Rattle.plan.specs.Links.{modules_of}
 use Rattle.field.specs.State.{WIDTH, CELLS}
 use Rattle.store.specs.Reading.{number_in}
-use Rattle.store_laws.specs.Places.{places-length}
+use Rattle.store_laws.proofs.Places.{places-length}
 use Rattle.store_field.specs.Ends.{cell_number, entry}
 use Rattle.store_field.proofs.Starts.{cell-inside, cell-reached}
 use borrow.Author.Rules.{rules}

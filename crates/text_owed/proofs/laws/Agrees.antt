@@ -23,8 +23,8 @@ use Rattle.field.specs.Edges.{ceiling_of}
 use Rattle.field.specs.Held.{Held, state_of, set_up}
 use Rattle.field_calls.specs.Call.{does, after}
 use Rattle.field_calls.specs.Demand.{InPart, Agreed}
-use Rattle.field_laws.specs.Laid.{Live}
-use Rattle.field_laws.specs.After.{started, begun-live, after-plan}
+use Rattle.field_laws.proofs.Laid.{Live}
+use Rattle.field_laws.proofs.After.{started, begun-live, after-plan}
 use Rattle.host_job.specs.Job.{job_run}
 use Rattle.host_job.proofs.laws.Agrees.{calls, job_is, job-outcome}
 use Rattle.text_report.specs.Text.{sizes_text, core_text, tail_text, report_text}

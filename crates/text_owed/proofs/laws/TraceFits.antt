@@ -19,8 +19,8 @@ use Rattle.field.specs.Edges.{ceiling_of}
 use Rattle.field.specs.Valid.{waiting_in}
 use Rattle.field.specs.Held.{Held, fresh}
 use Rattle.field_calls.specs.Call.{run, run_bytes, does}
-use Rattle.field_laws.specs.Laid.{Live, live-sound, does-live, plan-of-does}
-use Rattle.field_laws.specs.After.{trimmed-ceiling, begun-live}
+use Rattle.field_laws.proofs.Laid.{Live, live-sound, does-live, plan-of-does}
+use Rattle.field_laws.proofs.After.{trimmed-ceiling, begun-live}
 use Rattle.text_trace.proofs.laws.Fits.{trace-length}
 use Rattle.text_owed.specs.Traced.{fresh_held, plan_part, ran_text, traced}
 

@@ -12,7 +12,7 @@ use Rattle.graph.proofs.laws.Ways.{joins-lt}
 use Rattle.plan.specs.Links.{Plan, modules_of, links_of}
 use Rattle.field.specs.State.{State, node_at}
 use Rattle.field_calls.specs.Trail.{Taken}
-use Rattle.field_laws.specs.Ends.{end-leads}
+use Rattle.field_laws.proofs.Ends.{end-leads}
 use Rattle.waking.specs.Claim.{Follows, ends, on, Chain, chain_from}
 use Rattle.waking.proofs.laws.Follow.{TracedBack}
 

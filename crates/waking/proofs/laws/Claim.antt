@@ -20,9 +20,9 @@ use Rattle.field.specs.State.{State, node_at}
 use Rattle.field.specs.Held.{Held, fresh, state_of}
 use Rattle.field_calls.specs.Call.{Call, after}
 use Rattle.field_calls.specs.Trail.{Taken, trail, wakes_one, Awake, woken_in}
-use Rattle.field_laws.specs.After.{fresh-node, started, begun-live, list_tells}
-use Rattle.field_laws.specs.Laid.{waiting-zeros, live-sound}
-use Rattle.field_roundlaws.specs.Awake.{all-member}
+use Rattle.field_laws.proofs.After.{fresh-node, started, begun-live, list_tells}
+use Rattle.field_laws.proofs.Laid.{waiting-zeros, live-sound}
+use Rattle.field_roundlaws.proofs.Awake.{all-member}
 use Rattle.waking.specs.Claim.{waking_link, waking_in, WakingClaim, WhoWokeWhom}
 use Rattle.waking.proofs.laws.Chain.{chain-found}
 use Rattle.waking.proofs.laws.Step.{WokenAsTold, WokenBy, step-waking}

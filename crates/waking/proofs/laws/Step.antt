@@ -27,16 +27,16 @@ use Rattle.field.specs.State.{State, node_at, mark_at, msg_in, posted}
 use Rattle.field.specs.Step.{WAKE, HAND, SERVE, serve_work, step}
 use Rattle.field.specs.Valid.{word_fits}
 use Rattle.field_calls.specs.Trail.{Taken, step_taken, if_taken, wakes_one, Awake, woken_in}
-use Rattle.field_laws.specs.Cases.{Woke, Served, HandedOver, refusal-not-0, StepOutcome, took, kept, FieldStep, wake-step, hand-step, serve-step, step-outcome}
-use Rattle.field_laws.specs.Chan.{queue-parts}
-use Rattle.field_laws.specs.Fits.{send-packs, word-link, word-shaped}
-use Rattle.field_laws.specs.Keeps.{Sound, wake-ok, serve-ok, back-all, step-sound}
-use Rattle.field_laws.specs.Lists.{SendOk}
-use Rattle.field_laws.specs.Places.{from-over}
-use Rattle.field_laws.specs.Ends.{directed-joins}
-use Rattle.field_laws.specs.Sends.{word-parts}
-use Rattle.field_roundlaws.specs.Awake.{awake-as, Responded, node-woken, awake-stays, awake-before, woke-responds, served-responds, serve-wakes, woken-app}
-use Rattle.field_roundlaws.specs.Progress.{node-after}
+use Rattle.field_laws.proofs.Cases.{Woke, Served, HandedOver, refusal-not-0, StepOutcome, took, kept, FieldStep, wake-step, hand-step, serve-step, step-outcome}
+use Rattle.field_laws.proofs.Chan.{queue-parts}
+use Rattle.field_laws.proofs.Fits.{send-packs, word-link, word-shaped}
+use Rattle.field_laws.proofs.Keeps.{Sound, wake-ok, serve-ok, back-all, step-sound}
+use Rattle.field_laws.proofs.Lists.{SendOk}
+use Rattle.field_laws.proofs.Places.{from-over}
+use Rattle.field_laws.proofs.Ends.{directed-joins}
+use Rattle.field_laws.proofs.Sends.{word-parts}
+use Rattle.field_roundlaws.proofs.Awake.{awake-as, Responded, node-woken, awake-stays, awake-before, woke-responds, served-responds, serve-wakes, woken-app}
+use Rattle.field_roundlaws.proofs.Progress.{node-after}
 use Rattle.waking.specs.Claim.{waking_link, by_wake_steps, Before}
 use Rattle.waking.proofs.laws.Follow.{before-app, TracedBack, Grown, traced-on, traced-more, traced-root}
 

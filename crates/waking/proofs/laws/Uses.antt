@@ -16,7 +16,7 @@ use Rattle.field.specs.State.{State, node_at}
 use Rattle.field.specs.Held.{Held, state_of, set_up}
 use Rattle.field_calls.specs.Call.{Call, after}
 use Rattle.field_calls.specs.Trail.{Taken, trail, wakes_one, Awake, woken_in}
-use Rattle.field_roundlaws.specs.Awake.{all-member}
+use Rattle.field_roundlaws.proofs.Awake.{all-member}
 use Rattle.waking.specs.Claim.{waking_in, by_wake_steps, Before, here, later, Follows, ends, on, Chain, chain_from, WakingClaim}
 use Rattle.waking.proofs.laws.Claim.{who-woke-whom}
 use Rattle.base.specs.Log as base3
