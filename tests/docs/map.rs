@@ -34,13 +34,15 @@ fn first_sentence(head: &str) -> String {
 }
 
 /// The crates in the order of crates.txt, each with the first sentence of src/lib.rt or src/main.rt, or of specs/Lib.antt where the source is
-/// empty.
+/// empty, or of proofs/Lib.antt where there are no specs either.
 fn crates(tree: &Tree) -> Vec<Pair> {
     let head = |of: &str, path: &str| {
         let path = format!("crates/{of}/{path}");
         tree.files.iter().find(|f| f.path == path && !f.head.is_empty()).map(|f| first_sentence(&f.head))
     };
-    let says = |of: &str| ["src/lib.rt", "src/main.rt", "specs/Lib.antt"].iter().find_map(|path| head(of, path));
+    let says = |of: &str| {
+        ["src/lib.rt", "src/main.rt", "specs/Lib.antt", "proofs/Lib.antt"].iter().find_map(|path| head(of, path))
+    };
     tree.listed.iter().map(|(_, of, _)| (of.clone(), says(of).unwrap_or_default())).collect()
 }
 

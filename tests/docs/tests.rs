@@ -120,7 +120,9 @@ fn the_map_is_compared() {
 #[test]
 fn the_crates_are_compared() {
     let made = Made::new(&[
-        ("crates.txt", "b: a\na:\n"),
+        ("crates.txt", "b: a\na:\nc: a\n"),
+        ("crates/c/src/lib.rt", "#![tactic(auto)]\n"),
+        ("crates/c/proofs/Lib.antt", "-- Theorems. Others.\npub mod F\n"),
         ("crates/a/src/lib.rt", ""),
         ("crates/a/specs/Lib.antt", "-- Laws of x.y,\n-- and more. Others.\npub mod F\n"),
         ("crates/b/src/lib.rt", "// Code.\nfn f() {\n}\n"),
@@ -128,7 +130,10 @@ fn the_crates_are_compared() {
     ]);
     let tree = Tree::load(made.top());
     let page = map::crates_table(&tree);
-    assert_eq!(page, "| Crate | What it holds |\n|---|---|\n| b | Code. |\n| a | Laws of x.y, and more. |\n");
+    assert_eq!(
+        page,
+        "| Crate | What it holds |\n|---|---|\n| b | Code. |\n| a | Laws of x.y, and more. |\n| c | Theorems. |\n"
+    );
     let faults = |page: &str| {
         let mut found = Found::default();
         map::compare_crates(&rows("TOUR", page), &tree, &mut found);

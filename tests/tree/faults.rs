@@ -168,13 +168,19 @@ fn misled(tree: &Tree, file: &File) -> Option<String> {
 }
 
 /// Files that do not begin with a comment, and proofs whose comment is about something else. Spared: laws.antt and Lib.antt, which are
-/// lists of files, but not where the crate's source is empty, since specs/Lib.antt then says what the crate holds; that source; and of the
-/// two files of one proof the one whose other has the head.
+/// lists of files, but not where the crate's source is empty, since specs/Lib.antt, or proofs/Lib.antt where there are no specs, then says
+/// what the crate holds; that source; and of the two files of one proof the one whose other has the head.
 pub fn heads(tree: &Tree) -> Vec<Fault> {
     let coded: BTreeSet<&str> =
         tree.files.iter().filter(|f| f.path.ends_with(".rt") && !f.head.is_empty()).map(|f| f.of.as_str()).collect();
-    let list = |f: &File| f.path.ends_with("/laws.antt") || f.path.ends_with("/proofs/Lib.antt");
-    let said = |f: &File| f.path.ends_with("/specs/Lib.antt") && coded.contains(f.of.as_str());
+    let specified: BTreeSet<&str> =
+        tree.files.iter().filter(|f| f.path.ends_with("/specs/Lib.antt")).map(|f| f.of.as_str()).collect();
+    let list = |f: &File| f.path.ends_with("/laws.antt");
+    let said = |f: &File| {
+        let (specs, proofs) = (f.path.ends_with("/specs/Lib.antt"), f.path.ends_with("/proofs/Lib.antt"));
+        let elsewhere = coded.contains(f.of.as_str()) || (proofs && specified.contains(f.of.as_str()));
+        (specs || proofs) && elsewhere
+    };
     let empty = |f: &File| f.path.ends_with("/src/lib.rt") && f.uses.is_empty() && f.items.is_empty();
     let other = |f: &File| proved(f).is_some() && proof_of(tree, f).iter().any(|g| !g.head.is_empty());
     let bare = tree.files.iter().filter(|f| f.head.is_empty() && !list(f) && !said(f) && !empty(f) && !other(f));

@@ -130,7 +130,17 @@ fn a_file_without_a_head() {
     assert_eq!(only(beside(&mends, &without).top(), 5), [format!("{path}:1: no head"), format!("{other}:1: no head")]);
     let other = PROOF.replace("b::g:", "b::h:");
     assert_eq!(only(with(path, &other).top(), 5), [format!("{path}:1: the head does not begin with b::g:")]);
-    for list in ["crates/a/specs/laws.antt", "crates/b/specs/Lib.antt", "crates/b/proofs/Lib.antt"] {
+    let theorems = with("crates/a/proofs/Lib.antt", "pub mod C\n");
+    assert!(found(theorems.top()).iter().all(Vec::is_empty));
+    std::fs::remove_file(theorems.top().join("crates/a/specs/Lib.antt")).unwrap();
+    assert_eq!(only(theorems.top(), 5), ["crates/a/proofs/Lib.antt:1: no head"]);
+    let lists = [
+        "crates/a/specs/laws.antt",
+        "crates/a/proofs/laws.antt",
+        "crates/b/specs/Lib.antt",
+        "crates/b/proofs/Lib.antt",
+    ];
+    for list in lists {
         assert!(found(with(list, "pub mod C\n").top()).iter().all(Vec::is_empty), "{list}");
     }
 }
