@@ -1,7 +1,7 @@
 //! What the pages name is there. docs/PROOF.md: each definition, theorem, function and test of a row; the table of must-fail edits by crate
 //! has the edits of the tree, no more and no fewer, and the tables with a column "Must-fail edits" name some of them. docs/PROTOCOL.md and
 //! docs/TOUR.md: in every table with a column "Theorem" and a column "File" each name of the one is defined in a file of the other. In the text of the
-//! pages each name that has its file in brackets is defined there. README.md: the map is the
+//! pages each name that has its file in brackets is defined there, and each whole path of a file below crates/ is that of one. README.md: the map is the
 //! groups of crates.txt; docs/TOUR.md: the crates, each with what its head says. docs/TRUST.md is the page that the tree gives.
 //! `docs trust`, `docs edits`, `docs map` and `docs crates` print what is compared.
 use scan::Tree;
@@ -45,7 +45,9 @@ fn check(tree: &Tree, made: &str) -> bool {
     let requests = fs::read_dir("docs/requests").into_iter().flatten().flatten();
     let requests = requests.map(|entry| entry.path().display().to_string());
     for page in pages.map(String::from).into_iter().chain(requests) {
-        tables::mentions(&page, &fs::read_to_string(&page).unwrap_or_default(), &by, &mut found);
+        let text = fs::read_to_string(&page).unwrap_or_default();
+        tables::mentions(&page, &text, &by, &mut found);
+        tables::paths(&page, &text, |path| Path::new(path).exists(), &mut found);
     }
     for row in ["docs/PROTOCOL.md", "docs/TOUR.md"].into_iter().flat_map(tables::page_rows) {
         tables::theorems(&row, &by, &mut found);

@@ -160,6 +160,23 @@ pub fn mentions(page: &str, text: &str, by: &Names, found: &mut Found) {
     }
 }
 
+/// Each file below crates/ that a page names by its whole path is there. Paths with `CRATE` or `crate` in them say how such names are read.
+pub fn paths(page: &str, text: &str, there: impl Fn(&str) -> bool, found: &mut Found) {
+    let words = text.split(|c: char| c.is_whitespace() || "`,;:()|".contains(c)).map(|word| word.trim_end_matches('.'));
+    let wanted = |word: &&str| {
+        let file = [".antt", ".rt", ".edit"].iter().any(|end| word.ends_with(end));
+        file && word.starts_with("crates/")
+            && !word.contains('*')
+            && !["/CRATE/", "/crate/"].iter().any(|w| word.contains(w))
+    };
+    for path in words.filter(wanted) {
+        found.names += 1;
+        if !there(path) {
+            found.faults.push(format!("{page}: there is no {path}"));
+        }
+    }
+}
+
 fn mentioned(page: &str, names: &[&str], places: &[(String, String)], by: &Names, found: &mut Found) {
     if places.is_empty() || !places.iter().all(|place| by.contains_key(place)) {
         return;

@@ -1,7 +1,7 @@
 use crate::difference;
 use crate::edits::{lost, whole};
 use crate::map;
-use crate::tables::{claims, defined, functions, mentions, numbers, rows, theorems, Found};
+use crate::tables::{claims, defined, functions, mentions, numbers, paths, rows, theorems, Found};
 use crate::trust::{closure, unlisted};
 use scan::Tree;
 
@@ -96,6 +96,18 @@ fn names_with_their_file_are_looked_up() {
     );
     assert_eq!(check("By `n-law` (b/F) and (`other`,\na/F)."), (2, 2));
     assert_eq!(check("The crate `a` (a/F), `gone` (a/G), `gone` here (a/F); a file (a/F)."), (0, 0));
+}
+
+#[test]
+fn whole_paths_are_looked_up() {
+    let check = |text: &str| {
+        let mut found = Found::default();
+        paths("PAGE", text, |path| path == "crates/a/proofs/F.antt", &mut found);
+        (found.names, found.faults)
+    };
+    let (names, faults) =
+        check("In crates/a/proofs/F.antt, `crates/CRATE/specs/FILE.antt`; crates/a, (`f`,\ncrates/a/specs/F.antt).");
+    assert_eq!((names, faults), (2, vec!["PAGE: there is no crates/a/specs/F.antt".to_string()]));
 }
 
 #[test]
