@@ -50,7 +50,7 @@ pub fn step(f: Field, words: &mut [u64], kind: u8, number: u16) -> Stepped
     ensures { record { refusal = result.refusal; state = record { field = result.field; words = words.new } }
         ≡ step_alone kind number (record { field = f; words = words.old }) }
 {
-    let c = field_check::admit(f, words);
+    let c = field_check::admit_parts(&f.plan, &f.cells, &f.marks, f.sent, words);
     if !c.ok {
         return after_step(31, f);
     }
@@ -67,7 +67,7 @@ pub fn run(f: Field, words: &mut [u64], bytes: &[u8]) -> ScheduleRan
     ensures { record { done = result.steps; refusal = result.refusal; state = record { field = result.field; words = words.new } }
         ≡ run_bytes bytes.now (record { field = f; words = words.old }) }
 {
-    let c = field_check::admit(f, words);
+    let c = field_check::admit_parts(&f.plan, &f.cells, &f.marks, f.sent, words);
     if !c.ok {
         return after(0, 31, f);
     }
