@@ -34,7 +34,7 @@ pub fn run(f: Field, words: &mut [u64], limit: u16) -> Rounds
     ensures { record { done = result.rounds; refusal = result.refusal; state = record { field = result.field; words = words.new } }
         ≡ run_rounds limit (record { field = f; words = words.old }) }
 {
-    let c = field_check::admit(f, words);
+    let c = field_check::admit_parts(&f.plan, &f.cells, &f.marks, f.sent, words);
     if !c.ok {
         return after(0, 31, f);
     }
