@@ -1,5 +1,4 @@
-// Cues for a host: a cue is started, a copy is delivered. The records are lent as a slice, so both are proved by hand; each asks the verdict and
-// writes what it says.
+// Cues for a host: a cue is started, a copy is delivered. Each asks the verdict and writes what it says.
 #![tactic(auto)]
 
 ghost use Rattle.std.specs.Prelude.{◌≡◌};
