@@ -2,7 +2,7 @@
 #![tactic(auto)]
 
 ghost use Rattle.std.specs.Prelude.{◌≡◌, cond, length};
-ghost use Rattle.field.specs.Held.{valid, step_alone, field_from, held_from};
+ghost use Rattle.field.specs.Held.{valid, step_alone, held_from};
 ghost use Rattle.field.specs.Valid.{waiting_in};
 ghost use Rattle.field_calls.specs.Call.{run_bytes, run_rounds};
 ghost use Rattle.library_field.specs.Lent.{set_up_into};

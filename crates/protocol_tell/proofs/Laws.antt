@@ -3,8 +3,8 @@ use Rattle.protocol.proofs.Prelude.{ℕ, arith, ◌≡◌, refl, sym, ap, subst,
 use Rattle.protocol.proofs.Prelude.{Graph, Joins, arg1, arg2, arg3, Bool, true, false, ◌≢◌}
 use Rattle.protocol.proofs.Prelude.{◌⊎◌, [], ◌∷◌, ◌++◌, fan, fan-elim, fill_edges, fill-elim}
 
-pub ends_at : {g : Graph} {j v w y : ℕ} → v ≡ w → Joins g j w y → Joins g j v y
-ends_at {g} {j} {y} e h = subst (λ n. Joins g j n y) (sym e) h
+pub ends-at : {g : Graph} {j v w y : ℕ} → v ≡ w → Joins g j w y → Joins g j v y
+ends-at {g} {j} {y} e h = subst (λ n. Joins g j n y) (sym e) h
 
 pub init-eq : {a b f c x d : ℕ} → a ≡ b → f ≡ c → x ≡ d → initiate a f x ≡ initiate b c d
 init-eq {a} {b} {f} {c} {x} {d} p q r = ap (λ n. initiate n f x) p ∙ ap (λ n. initiate b n x) q ∙ ap (λ n. initiate b c n) r

@@ -4,7 +4,7 @@ use Rattle.protocol.proofs.Prelude.{upd_other, by-eq, All, All-app, con, nil, Ms
 use Rattle.protocol.proofs.Prelude.{Place, initiated, pop, is_c, is_t, is_a, is_r, is_k, arg1, top, top-app, Fits, fits-initiate, In, in-nil, at2, else_same}
 use Rattle.protocol.proofs.Prelude.{pop-in, in-pop, pop-bef, pop-all, fan-elim, in-fan, fan-new, fan-bef, fan-else, GL, GC, Inf, Jn, Inv, mark-awake, no-root}
 use Rattle.protocol.specs.Traffic.{Hush, Tokens, Connects, InitOk, Initiates, Telling, Testing, Answers, Ordered}
-use Rattle.protocol_tell.proofs.Laws.{ends_at, three, initiate-at, init-eq, fan-here}
+use Rattle.protocol_tell.proofs.Laws.{ends-at, three, initiate-at, init-eq, fan-here}
 use Rattle.protocol_tell.proofs.Heard.{Tells}
 use Rattle.protocol_tell.proofs.Heard as F
 use Rattle.protocol_tell.proofs.TellTables as T
@@ -30,7 +30,7 @@ module _ {p : Network} {s : ProtocolState} (i : Inv p s) {u v k l f x a b d e : 
       silent w j h = by-eq u w (λ y. by-eq k j (λ z. absurd (in-nil (subst (λ t. In m t) (at2 s.ch y z ∙ h) (F.initiate-in i act)))) (λ z. inr z)) (λ y. inl y)
 
       kid-mark : (j w y : ℕ) → Edge p j w y → v ≡ w → kid j ≡ true → s.mark y j ≡ 1
-      kid-mark j w y g z o = let t = F.kid-yes i act j o in (F.kid-joined i act j y (ends_at z g) t.0 t.1).1
+      kid-mark j w y g z o = let t = F.kid-yes i act j o in (F.kid-joined i act j y (ends-at z g) t.0 t.1).1
 
   tokens' : Tokens p S'
   tokens' = record {
@@ -55,7 +55,7 @@ module _ {p : Network} {s : ProtocolState} (i : Inv p s) {u v k l f x a b d e : 
   }
     where
       found : (j y z : ℕ) → Edge p j y z → GC s y ≡ j → v ≡ y → a ≡ 1
-      found j y z g c w = (F.find-of i act (λ t. omega (arith, t, F.core-find i act j z (ends_at w g) (ap (λ n. GC s n) w ∙ c)))).0
+      found j y z g c w = (F.find-of i act (λ t. omega (arith, t, F.core-find i act j z (ends-at w g) (ap (λ n. GC s n) w ∙ c)))).0
 
   connects' : Connects p S'
   connects' = record {
@@ -70,7 +70,7 @@ module _ {p : Network} {s : ProtocolState} (i : Inv p s) {u v k l f x a b d e : 
       no_call : (j w y n : ℕ) → Edge p j w y → In (connect n) (S'.ch w j) → s.mark y j ≡ 1 → v ≡ y → GC s w ≡ j → ⊥
       no_call j w y n g h o z c =
           let fr = i.markings.m3 j w y g (i.connects.c1m j w y n g (old is_c refl (omega arith) w j h), o) in
-          let t = F.core-k i act j w (ends_at z (flip g)) (ap (λ n. GC s n) z ∙ ap s.gc (sym fr) ∙ c) in
+          let t = F.core-k i act j w (ends-at z (flip g)) (ap (λ n. GC s n) z ∙ ap s.gc (sym fr) ∙ c) in
           F.behind-tell i act (connect n) (subst (λ t. In (connect n) t) (sym (at2 S'.ch t.1 t.0)) h)
 
   -- ---- Initiates: the copies, those left to v, those to others
@@ -81,7 +81,7 @@ module _ {p : Network} {s : ProtocolState} (i : Inv p s) {u v k l f x a b d e : 
         (λ t. let q = pop-in s.ch u k act.q w j t in
         again j w y n c h g q (by-eq v y (λ z. left j w y n c h g z q o) (λ z. omega (arith, (i.initiates.i1 j w y n c h g q).i1l, F.lev-else i act y z))))
         (λ t. initiate-at (λ j w y n c h. InitOk p S'.lev s.fr s.gl s.gc s.ub s.due s.mark j w y n c h) refl t.0 refl t.2
-        (let q = F.kid-yes i act j t.1 in fresh j y (ends_at t.0 g) q.0 q.1))
+        (let q = F.kid-yes i act j t.1 in fresh j y (ends-at t.0 g) q.0 q.1))
         (F.was i act w j o);
   }
     where
@@ -136,7 +136,7 @@ module _ {p : Network} {s : ProtocolState} (i : Inv p s) {u v k l f x a b d e : 
         (λ z q. let y : k ≢ j = λ y. n (ap S'.ib (sym z) ∙ F.ib-v-tell i act ∙ y) in
         let o : s.mark v j ≡ 1 = ap (λ n. s.mark n j) z ∙ h.0 in
         initiate-at (λ j w y a f x. In (initiate a f x) (S'.ch w j)) {u = c} refl z refl
-        (init-eq (ap (λ n. GL s n) (sym z) ∙ sym q) (ap (λ n. GC s n) (sym z) ∙ sym (ok.i1c q)) (sym (F.kid-due i act j c (ends_at z g) y o) ∙ sym (ok.i1d q)))
+        (init-eq (ap (λ n. GL s n) (sym z) ∙ sym q) (ap (λ n. GC s n) (sym z) ∙ sym (ok.i1c q)) (sym (F.kid-due i act j c (ends-at z g) y o) ∙ sym (ok.i1d q)))
         (fan-new c₁ v kid m j (F.kid-on i act j y o)))
         (λ z q. let y = i.telling.t2i j w c g h q (λ e. n (F.ib-else i act w z ∙ e)) (F.was-low i act c t) in
         by-eq v c
@@ -144,15 +144,15 @@ module _ {p : Network} {s : ProtocolState} (i : Inv p s) {u v k l f x a b d e : 
         (λ z. omega (arith, ap arg1 z, t, ap S'.lev e, F.lev-v i act, ap s.gl (i.markings.m3 j w c g h))) y))
         (λ e. F.hold i act j w c g e y));
     t4 = λ j y z g h c. by-eq v y
-        (λ w. inr (inr (subst (λ n. Inf S' n) w (F.inf-v-tell i act (F.core-full i act j z (ends_at w g) (ap (λ n. GC s n) w ∙ c))))))
+        (λ w. inr (inr (subst (λ n. Inf S' n) w (F.inf-v-tell i act (F.core-full i act j z (ends-at w g) (ap (λ n. GC s n) w ∙ c))))))
         (λ w. ⊎_elim (λ t. inl (omega (arith, same is_c refl y j)))
         (⊎_elim (λ t. inr (inl (F.hold i act j z y (flip g) w t))) (λ t. inr (inr (F.inf-stay i act y t)))) (i.telling.t4 j y z g h c));
     t4n = λ j y z g h c n.
         let t = i.telling.t4n j y z g h c (omega (arith, same is_c refl y j)) in (
-          F.is-low i act y (λ w. t.1 (moved j y z (ends_at w g) w (ap (λ n. GC s n) w ∙ c))) t.0,
+          F.is-low i act y (λ w. t.1 (moved j y z (ends-at w g) w (ap (λ n. GC s n) w ∙ c))) t.0,
           λ o. ⊎_elim (λ q. t.1 (pop-in s.ch u k act.q z j q))
               (λ q. let w = F.kid-yes i act j q.1 in
-              let e = ends_at q.0 (flip g) in
+              let e = ends-at q.0 (flip g) in
               F.kid-core i act j y e w.0 w.1 (ap s.gc (F.kid-fr i act j y e w.0 w.1) ∙ c)) (F.was i act z j o),
         );
   }
@@ -212,7 +212,7 @@ module _ {p : Network} {s : ProtocolState} (i : Inv p s) {u v k l f x a b d e : 
     q1 = λ j w y n o g h. ⊎_elim (λ t. i.ordered.q1 j w y n o g (pop-bef s.ch u k act.q w j t))
         (λ t. subst (λ z. Fits n z) (sym t.2) (fits-initiate l f x n (λ c d e z.
         let q = F.kid-yes i act j t.1 in
-        F.kid-inits i act j y (ends_at t.0 g) q.0 q.1 c d e
+        F.kid-inits i act j y (ends-at t.0 g) q.0 q.1 c d e
         (subst (λ a. In (initiate c d e) (s.ch a j)) (sym t.0) (subst (λ a. In a (s.ch w j)) z (pop-in s.ch u k act.q w j t.3))))))
         (fan-bef c₁ v kid m w j h);
   }

@@ -4,7 +4,7 @@ use Rattle.protocol.proofs.Prelude.{sum_l, Msg, connect, initiate, report, Netwo
 use Rattle.protocol.proofs.Prelude.{fill-else, is_ci, is_r, kinds, no-calls, some-report, In, next, Bef, tails, pop-bef, fan-bef, GL, GC, Inf, Jn, Outst, Covered}
 use Rattle.protocol.proofs.Prelude.{CoreEnds, Spent, Inv}
 use Rattle.protocol.specs.Traffic.{Reports, Owing, Bests}
-use Rattle.protocol_tell.proofs.Laws.{ends_at, three, fill_here}
+use Rattle.protocol_tell.proofs.Laws.{ends-at, three, fill_here}
 use Rattle.protocol_tell.proofs.Heard.{Tells}
 use Rattle.protocol_tell.proofs.Heard as F
 
@@ -68,7 +68,7 @@ module _ {p : Network} {s : ProtocolState} (i : Inv p s) {u v k l f x a b d e : 
     r1 = λ j w y n g h. let o = old is_r refl (omega arith) w j h in
         by-eq v y (λ z. inr (inl (to-v j w y n g z o)))
         (λ z. by-eq v w
-        (λ t. inr (inr (spent j w y n z (subst (λ c. Spent p s c y j n) t (F.report-from i act j y n (ends_at t g) (subst (λ c. In (report n) (s.ch c j)) (sym t) o)).0))))
+        (λ t. inr (inr (spent j w y n z (subst (λ c. Spent p s c y j n) t (F.report-from i act j y n (ends-at t g) (subst (λ c. In (report n) (s.ch c j)) (sym t) o)).0))))
         (λ t. let q = F.off-tell i act j w y g t z in
         ⊎_elim
         (λ c. inl (
@@ -86,7 +86,7 @@ module _ {p : Network} {s : ProtocolState} (i : Inv p s) {u v k l f x a b d e : 
     r1c = λ j w y n g h c q t. let o = old is_r refl (omega arith) w j h in
         F.inf-tell i act y c (λ z e. to-v j w y n g z o)
         (λ z e. by-eq v w
-        (λ d. absurd ((F.report-from i act j y n (ends_at d g) (subst (λ c. In (report n) (s.ch c j)) (sym d) o)).1 e))
+        (λ d. absurd ((F.report-from i act j y n (ends-at d g) (subst (λ c. In (report n) (s.ch c j)) (sym d) o)).1 e))
         (λ d. core-else j w y n d z (F.off-tell i act j w y g d z) (i.reports.r1c j w y n g o e q t)));
   }
 
@@ -108,7 +108,7 @@ module _ {p : Network} {s : ProtocolState} (i : Inv p s) {u v k l f x a b d e : 
       (λ z o. subst (λ y. Outst s y j) z (⊎_elim
       (λ y. let n : x ≢ 0 = λ q. omega (arith, y, F.st-v i act, ap S'.st z, (F.found_of i act q).0) in inr (F.low i act, F.due-v i act n))
       (λ y. let q = some-report (s.ch c j) (omega (arith, same is_r refl c j)) in
-      absurd ((F.report-from i act j w q.0 (ends_at z (flip g)) (subst (λ y. In (report q.0) (s.ch y j)) (sym z) q.1)).1 h))
+      absurd ((F.report-from i act j w q.0 (ends-at z (flip g)) (subst (λ y. In (report q.0) (s.ch y j)) (sym z) q.1)).1 h))
       t.1))
       (λ z o. inl (o, ⊎_elim (λ y. inl (sym (F.st-else i act c z) ∙ y)) (λ y. inr (omega (arith, same is_r refl c j))) t.1))
 
@@ -116,7 +116,7 @@ module _ {p : Network} {s : ProtocolState} (i : Inv p s) {u v k l f x a b d e : 
   owing-tell = record {
     f4y = λ j w c g. fill-elim (λ y. y ≢ 0 → Inf S' w × Jn s j w c × (S'.ib w ≢ j) × Outst S' c j) s.owe v kid x w j
         (λ z h n. let q = F.kid-yes i act j h in
-        let o = ends_at z g in
+        let o = ends-at z g in
         subst (λ y. Inf S' y × Jn s j y c × (S'.ib y ≢ j) × Outst S' c j) z (
           F.inf-v-tell i act (F.full i act n),
           F.kid-joined i act j c o q.0 q.1,
@@ -127,7 +127,7 @@ module _ {p : Network} {s : ProtocolState} (i : Inv p s) {u v k l f x a b d e : 
     f4n = λ j w c g h o n t. F.inf-tell i act w h
         (λ z q. let y : k ≢ j = λ y. n (ap S'.ib (sym z) ∙ F.ib-v-tell i act ∙ y) in
         let e : s.mark v j ≡ 1 = ap (λ n. s.mark n j) z ∙ o.0 in
-        let a = ends_at z g in
+        let a = ends-at z g in
         ap (λ y. S'.owe y j) (sym z) ∙ fill_here v kid j (F.kid-on i act j y e) s.owe x ∙ ok.i1d q ∙ F.kid-due i act j c a y e
         ∙ ⊎_elim (λ d. F.inf-tell i act c d.0 (λ b f. absurd (ends-irr p a b)) (λ b f. absurd (omega (arith, f.1, F.kid-low i act j c a y e)))) (λ d. d.1) t)
         (λ z q. fill-else s.owe v kid x w j z ∙ i.owing.f4n j w c g q o (λ e. n (F.ib-else i act w z ∙ e)) (outst-old c j w g q t));

@@ -1,4 +1,4 @@
--- Integers and their bytes determine each other (`number_of`, `bytes-of`).
+-- Integers and their bytes determine each other (`number-of`, `bytes-of`).
 use Rattle.std.specs.Prelude.{ℕ, zero, suc, ◌+◌, ◌*◌, ◌/◌, ◌%◌, ◌<◌, ◌≡◌, refl, List, [], ◌∷◌, length, get_or}
 use Rattle.std.proofs.Common.{arith, not-suc-le-zero, ap, ◌∙◌}
 use Rattle.base.specs.Pool.{All, nil, con}
@@ -21,11 +21,11 @@ number-next b x y s i = ap (at16 (b ∷ x ∷ y ∷ s)) (let e : 1 + 2 * suc i �
     ∙ ap (λ n. get_or (y ∷ s) (1 + 2 * i) 0 * 256 + get_or (b ∷ x ∷ y ∷ s) n 0) (let e : suc (suc (1 + 2 * i)) + 1 ≡ suc (suc (1 + 2 * i + 1)) = omega arith in e)
 
 -- integers, from their bytes
-pub number_of : (b : ℕ) (xs : List ℕ) (i : ℕ) → i < length xs → number_at (b ∷ bytes_of xs) i ≡ get_or xs i 0
+pub number-of : (b : ℕ) (xs : List ℕ) (i : ℕ) → i < length xs → number_at (b ∷ bytes_of xs) i ≡ get_or xs i 0
 unfolding bytes_of
-number_of b [] i l = absurd (not-suc-le-zero l)
-number_of b (x ∷ xs) zero l = bytes-join x
-number_of b (x ∷ xs) (suc i) l = number-next b (x / 256) (x % 256) (bytes_of xs) i ∙ number_of (x % 256) xs i (omega arith)
+number-of b [] i l = absurd (not-suc-le-zero l)
+number-of b (x ∷ xs) zero l = bytes-join x
+number-of b (x ∷ xs) (suc i) l = number-next b (x / 256) (x % 256) (bytes_of xs) i ∙ number-of (x % 256) xs i (omega arith)
 
 -- bytes, from their integers
 pub bytes-numbers : (b : ℕ) (s : List ℕ) (n : ℕ) → length s ≡ 2 * n → AllBytes s → bytes_of (tabulate n (number_at (b ∷ s))) ≡ s

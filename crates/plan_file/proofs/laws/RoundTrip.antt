@@ -25,7 +25,7 @@ use Rattle.plan_file.proofs.laws.Lengths.{length-encode}
 use Rattle.plan_file.specs.Reading.{head_refusal, read_refusal, read_plan}
 use Rattle.plan_file.specs.Writing.{size, write_refusal, write_plan}
 use Rattle.plan_file.specs.laws.Head.{HeadOk, head_ok, ok-head}
-use Rattle.plan_file.proofs.laws.Numbers.{all-bytes, number_of, bytes-numbers, bytes-of, All-tabulate}
+use Rattle.plan_file.proofs.laws.Numbers.{all-bytes, number-of, bytes-numbers, bytes-of, All-tabulate}
 
 -- WRITTEN, THEN READ
 
@@ -35,7 +35,7 @@ module _ (p : Plan) where
 
   number-encode : (i : ℕ) → i < plan_numbers (links_of p) → number_at (encode p) (suc i) ≡ get_or p i 0
   unfolding encode
-  number-encode i l = number_of 1 ((4 + 8 * links_of p) ∷ own_numbers) (suc i) (omega (arith, length-tabulate (plan_numbers (links_of p)) (λ i. get_or p i 0)))
+  number-encode i l = number-of 1 ((4 + 8 * links_of p) ∷ own_numbers) (suc i) (omega (arith, length-tabulate (plan_numbers (links_of p)) (λ i. get_or p i 0)))
       ∙ get_d_tabulate (plan_numbers (links_of p)) (λ i. get_or p i 0) i l
 
   pub decode-encode : decode (encode p) ≡ trimmed p
@@ -47,7 +47,7 @@ module _ (p : Plan) where
   unfolding encode bytes_of
   encode-head a = record {
     version = refl;
-    len = number_of 1 ((4 + 8 * links_of p) ∷ own_numbers) 0 (omega arith) ∙ rw (number-encode 1 (omega arith));
+    len = number-of 1 ((4 + 8 * links_of p) ∷ own_numbers) 0 (omega arith) ∙ rw (number-encode 1 (omega arith));
     size = length-encode p ∙ rw (number-encode 1 (omega arith));
     counts = rw (number-encode 0 (omega arith), number-encode 1 (omega arith)) (record { modules_ok = a.modules_ok; links_ok = a.links_ok });
   }
