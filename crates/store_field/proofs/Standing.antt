@@ -13,7 +13,7 @@ use Rattle.base.specs.Cond.{bit}
 use Rattle.base.proofs.laws.Cond.{by-eq}
 use Rattle.base.specs.Table.{tabulate}
 use Rattle.base.proofs.laws.Table.{length-tabulate}
-use Rattle.base.specs.Twice.{NoTwice, another}
+use Rattle.base.specs.Twice.{NoTwice, nobody, another}
 use Rattle.plan.specs.Links.{Plan, modules_of, links_of, lower_of, higher_of}
 use Rattle.plan.proofs.laws.Accepted.{Accepted}
 use Rattle.field.specs.Edges.{is_own, end_of, link_of, from}
@@ -51,6 +51,7 @@ stands-below (behind m) = omega (arith, stands-below m)
 -- no place twice: what is put at a place stays
 pub stands-poured : (f : ℕ → ℕ) (q : ℕ) {i j : ℕ} {is : List ℕ} → NoTwice is → Standing i j is → (e : List ℕ) → i < length e → get_or (poured f q is e) i 0 ≡ f (q + j)
 unfolding poured
+stands-poured f q nobody x5 e b = elim x5 [ ]
 stands-poured f q (another {x} n t) front e b = poured-keeps f x (suc q) n (set e x (f q)) ∙ get_or-set_same e x (f q) 0 b ∙ ap f (sym (add-zero q))
 stands-poured f q (another {x} n t) (behind {j = j} m) e b =
     stands-poured f (suc q) t m (set e x (f q)) (omega (arith, length-set e x (f q))) ∙ ap f (let w : suc q + j ≡ q + suc j = omega arith in w)
