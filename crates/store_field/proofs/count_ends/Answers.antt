@@ -7,7 +7,7 @@ use Rattle.base.specs.Table.{tabulate}
 use Rattle.base.proofs.laws.Table.{length-tabulate, get_d_tabulate}
 use Rattle.plan.specs.Links.{links_of}
 use Rattle.field.specs.Edges.{from}
-use Rattle.field_laws.specs.Places.{from-below}
+use Rattle.field_laws.proofs.Places.{from-below}
 use Rattle.store_field.specs.Ends.{ends_below, entry}
 use Rattle.store_field.proofs.Starts.{none-counted, starts-on, ends_more, ends-small}
 use Rattle.store_field.proofs.count_ends.Goals as goal

@@ -3,7 +3,7 @@ use native.Mathlib.Omega.{arith}
 use mathlib.Core.Path.{◌≡◌, ◌∙◌}
 use borrow.Author.Tests.{eq-eqb, ne_eqb}
 use Rattle.field.specs.Edges.{from}
-use Rattle.field_laws.specs.Places.{from-below}
+use Rattle.field_laws.proofs.Places.{from-below}
 use Rattle.store_field.proofs.end_module.Goals as goal
 
 pub returns-then-d-eq0 : goal.returns-then-d-eq0

@@ -2,7 +2,7 @@
 use native.Mathlib.Omega.{arith}
 use mathlib.Core.Path.{refl}
 use Rattle.field.specs.Held.{field_from}
-use Rattle.store_laws.specs.Words.{length-words}
+use Rattle.store_laws.proofs.Words.{length-words}
 use Rattle.store_field.proofs.laws.Sizes.{number-bytes, field-size}
 use Rattle.store_field.proofs.Record.{part-size, record-run}
 use Rattle.store_field.proofs.put_record.Goals as goal

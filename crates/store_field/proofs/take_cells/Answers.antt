@@ -8,7 +8,7 @@ use Rattle.plan.proofs.laws.Accepted.{Accepted}
 use Rattle.store.specs.Layout.{field_numbers}
 use Rattle.field.specs.State.{WIDTH, CELLS}
 use Rattle.store.specs.Reading.{number_in}
-use Rattle.store_laws.specs.Places.{places-length}
+use Rattle.store_laws.proofs.Places.{places-length}
 use Rattle.store_field.specs.Ends.{cell_number, entry, laid_starts}
 use Rattle.store_field.proofs.Starts.{cell-inside, cell-reached}
 use mathlib.Core.List.{List}

@@ -10,9 +10,9 @@ use Rattle.field.specs.Edges.{from}
 use Rattle.plan.proofs.laws.Accepted.{Accepted}
 use Rattle.store.specs.Layout.{field_numbers}
 use Rattle.field.specs.State.{WIDTH}
-use Rattle.field_laws.specs.Places.{from-below}
+use Rattle.field_laws.proofs.Places.{from-below}
 use Rattle.store.specs.Reading.{number_in}
-use Rattle.store_laws.specs.Places.{places-length}
+use Rattle.store_laws.proofs.Places.{places-length}
 use Rattle.store_field.specs.Ends.{ends_below, values_from, mark_number, entry, laid_starts}
 use Rattle.store_field.specs.Parts.{cut_mark}
 use Rattle.store_field.proofs.Starts.{reached-none, starts-on, ends_more, mark-inside, mark-reached}
