@@ -12,8 +12,5 @@ returns-in-2 c = rw c.in-2.is
 pub returns-in-3 : goal.returns-in-3
 returns-in-3 c = rw c.in-3.is
 
-pub returns-in-0 : goal.returns-in-0
-returns-in-0 c = rw c.in-0.in-0-own.keys4
-
 pub returns-in-0-2 : goal.returns-in-0-2
-returns-in-0-2 c = let r = c.in-0.in-0-own.rest in unlisted c.args.kind (omega (arith, r.0.0.0.1, r.0.0.1, r.0.1, r.1))
+returns-in-0-2 c = unlisted c.args.kind (omega arith)
