@@ -1,5 +1,4 @@
-// Schedules from C: the check of any bytes, how many steps they have, the step at any place. The two functions that have a schedule
-// reader in a local are proved by hand.
+// Schedules from C: the check of any bytes, how many steps they have, the step at any place.
 #![tactic(auto)]
 
 ghost use Rattle.std.specs.Prelude.{◌≡◌};
