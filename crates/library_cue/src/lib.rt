@@ -1,4 +1,4 @@
-// Cues from C: a cue is started, a copy is delivered. The records are lent as a slice, so both exports are proved by hand.
+// Cues from C: a cue is started, a copy is delivered. The records are lent as a slice.
 #![tactic(auto)]
 
 ghost use Rattle.std.specs.Prelude.{◌≡◌};
