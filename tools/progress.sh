@@ -60,6 +60,22 @@ closure() {
         END { count = split(ENVIRON["WANTED"], want, " "); for (i = 1; i <= count; i++) visit(want[i]) }' crates.txt
 }
 
+# The same crates, each behind its level: 0 for one that needs no other, else one more than the highest that it needs.
+levels() {
+    WANTED="$*" awk '
+        { sub(/#.*/, ""); at = index($0, ":"); if (!at) next
+          name = substr($0, 1, at - 1); sub(/ .*/, "", name); gsub(/[ \t]/, "", name); needs[name] = substr($0, at + 1) }
+        function level(n,    list, i, count, most, of) {
+            if (n in seen) return seen[n]
+            most = 0
+            count = split(needs[n], list, " ")
+            for (i = 1; i <= count; i++) if (list[i] in needs) { of = level(list[i]) + 1; if (of > most) most = of }
+            print most, n
+            return seen[n] = most
+        }
+        END { count = split(ENVIRON["WANTED"], want, " "); for (i = 1; i <= count; i++) level(want[i]) }' crates.txt
+}
+
 # A new folder for rt's temporary files: in memory, unless TMPDIR names another place, there is less than 2 GB, or no program
 # could run there. For each crate and each edit the prover lays out what it loads, some 7,000 files of 210 MB, and removes
 # them again; the making and removing alone takes long on a disk (docs/BENCHMARKS.md).
