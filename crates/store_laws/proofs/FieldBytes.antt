@@ -20,7 +20,7 @@ use Rattle.plan.specs.Links.{Plan, modules_of, links_of}
 use Rattle.plan.proofs.laws.Accepted.{Accepted}
 use Rattle.plan.specs.Trimmed.{trimmed}
 use Rattle.plan_file.specs.Layout.{bytes_of, number_at}
-use Rattle.plan_file.proofs.laws.Numbers.{number_of, bytes-numbers}
+use Rattle.plan_file.proofs.laws.Numbers.{number-of, bytes-numbers}
 use Rattle.plan.proofs.laws.Trimmed.{trimmed-same}
 use Rattle.field.specs.declared.Field.{Field}
 use Rattle.field.specs.State.{WIDTH, CELLS}
@@ -36,7 +36,7 @@ use Rattle.store_laws.proofs.Alike.{alike-places}
 -- ---- 16-bit numbers and their bytes
 
 number-in : (xs : List ℕ) (q : ℕ) → q < length xs → number_in (bytes_of xs) q ≡ get_or xs q 0
-number-in xs q l = sym (at16-behind (0 ∷ []) (bytes_of xs) (2 * q)) ∙ number_of 0 xs q l
+number-in xs q l = sym (at16-behind (0 ∷ []) (bytes_of xs) (2 * q)) ∙ number-of 0 xs q l
 
 bytes-in : (s : List ℕ) (n : ℕ) → length s ≡ 2 * n → AllBytes s → bytes_of (tabulate n (number_in s)) ≡ s
 bytes-in s n e b = ap bytes_of (tabulate-ext n (number_in s) (number_at (0 ∷ s)) (λ q l. sym (at16-behind (0 ∷ []) s (2 * q)))) ∙ bytes-numbers 0 s n e b
