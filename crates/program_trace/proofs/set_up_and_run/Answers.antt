@@ -1,4 +1,4 @@
--- program_trace::set_up_and_run: an accepted plan with M words is set up, by `set-up`; then the run is `run_bytes`.
+-- program_trace::set_up_and_run: an accepted plan with M words is set up, by `fresh-taken`; then the run is `run_bytes`.
 use mathlib.Core.Path.{ap, ◌∙◌}
 use Rattle.base.specs.Loop.{After}
 use Rattle.field.specs.Held.{Held}
