@@ -1,7 +1,6 @@
 # shellcheck shell=sh
 # For tools/build and tools/test: `. tools/progress.sh` from the top of the repository. What rt prints becomes one line of
-# progress on standard error: rewritten in place on a terminal, a line each elsewhere. And where rt puts what it needs for
-# a while.
+# progress on standard error: rewritten in place on a terminal, a line each elsewhere.
 live=no
 if [ -t 2 ] && [ "${TERM:-dumb}" != dumb ]; then live=yes; fi
 
@@ -15,30 +14,24 @@ hush() { [ "$live" = no ] || printf '\r\033[K' >&2; }
 # A line that stays.
 say() { hush; printf '%s\n' "$1" >&2; }
 
-# The seconds that a line of rt ends with: "(15 s)", "(first at src/lib.rt:15:1; 4 s)".
-seconds() {
-    took=${1% s)}
-    printf '%s\n' "${took##*[!0-9]}"
-}
-
-# Reads what rt prints. CRATES and EDITS are how many there are. A crate that is unchanged is counted and not told; what rt
+# Reads what rt ci prints. CRATES and EDITS are how many there are. A crate that is kept is counted and not told; what rt
 # complains of stays, but for crates that only stand on one that is not proved.
 progress() { # CRATES EDITS
     crates=0 edits=0
     while IFS= read -r line; do
         case $line in
-        'rt: must-fail '*': refused, as it must be '*)
+        'rt: must-fail '*': refused, as it must be'*)
             edits=$((edits + 1)) name=${line#rt: must-fail }
-            tell "edit $edits of $2: ${name%%: *}, $(seconds "$line") s"
+            tell "edit $edits of $2: ${name%%: *}"
             ;;
-        'rt: '*' proved (unchanged since it was last proved)') crates=$((crates + 1)) ;;
-        'rt: '*' proved ('*' s)')
+        'rt: '*' is kept: '*) crates=$((crates + 1)) ;;
+        'rt: '*' NOT PROVED: its library '*) ;;
+        'rt: '*' NOT PROVED') say "${line#rt: }" ;;
+        'rt: '*' proved')
             crates=$((crates + 1)) name=${line#rt: }
-            tell "$crates of $1: ${name%% *}, $(seconds "$line") s"
+            tell "$crates of $1: ${name%% *}"
             ;;
-        'rt: ok, '* | 'rt: FAILED:'* | 'rt: '*" ran, and wrote what its file 'stdout' has "*) ;;
-        'rt: '*" ran as nobody, and wrote what its file 'stdout' has "*) ;;
-        'rt: '*' NOT PROVED: its dependency '*) ;;
+        'rt: ok'* | 'rt: FAILED'* | 'rt: '*': trying its must-fail edits '* | 'rt: '*" ran"*) ;;
         'rt: '*) say "${line#rt: }" ;;
         esac
     done
@@ -76,16 +69,8 @@ levels() {
         END { count = split(ENVIRON["WANTED"], want, " "); for (i = 1; i <= count; i++) level(want[i]) }' crates.txt
 }
 
-# A new folder for rt's temporary files: in memory, unless TMPDIR names another place, there is less than 2 GB, or no program
-# could run there. For each crate and each edit the prover lays out what it loads, some 7,000 files of 210 MB, and removes
-# them again; the making and removing alone takes long on a disk (docs/BENCHMARKS.md).
-scratch() {
-    where=${TMPDIR:-/tmp} room=$(df -Pk /dev/shm 2>/dev/null | awk 'END { print $4 }')
-    if [ -z "${TMPDIR:-}" ] && [ -w /dev/shm ] && [ "${room:-0}" -ge 2097152 ] &&
-        ! grep -q ' /dev/shm [^ ]* [^ ]*noexec' /proc/mounts; then where=/dev/shm; fi
-    # rt runs programs in it as nobody
-    folder=$(mktemp -d "$where/muruapy.XXXXXX") && chmod 711 "$folder" && printf '%s\n' "$folder"
-}
+# A new folder for what a script writes for a while.
+scratch() { mktemp -d "${TMPDIR:-/tmp}/muruapy.XXXXXX"; }
 
 # The first of these programs that is not there, if there is one.
 missing() {
