@@ -1,4 +1,4 @@
-// Laws of lists, tables, sums and loops (specs/), and the numbers that code of every layer names. specs/None.antt and specs/Limits.antt have these numbers for
+// Lists, tables, sums and loops as definitions (specs/) with their laws, and the numbers that code of every layer names. specs/None.antt and specs/Limits.antt have these numbers for
 // definitions.
 #![tactic(auto)]
 

@@ -22,7 +22,7 @@ const MAX_ROUNDS: u16 = 65535;
 // The bytes of the longest schedule: every module is a part of its own.
 const SCHEDULE: usize = 3 + 3 * MAX_MODULES as usize;
 
-// rounds: rounds completed. refusal: 14 to 18, 21 or 0; no other can occur (specs/laws/Agrees).
+// rounds: rounds completed. refusal: 14 to 18, 21 or 0; no other can occur (proofs/laws/Agrees).
 #[derive(Drop)]
 pub struct JobDone {
     pub rounds: u16,

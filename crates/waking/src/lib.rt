@@ -1,2 +1,2 @@
-// Who woke whom: what is claimed of the waking links (specs/Claim), and proved (specs/laws).
+// Who woke whom: what is claimed of the waking links (specs/Claim), and proved (proofs/laws).
 #![tactic(auto)]
