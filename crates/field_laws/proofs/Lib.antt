@@ -9,6 +9,7 @@ pub mod Fits
 pub mod Keeps
 pub mod Channels
 pub mod Trace
+pub mod Counted
 pub mod Counts
 pub mod Laid
 pub mod After
