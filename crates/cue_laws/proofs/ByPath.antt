@@ -1,6 +1,6 @@
 -- What follows from the claim when none waits: each record has the hops and the link of any path that the tree has from the sender (`hops-by-path`, `link-by-path`).
 -- So request 07 goes by the same lengths: its path has as many links as the record has hops (`hops-tree-path`, `hops-answered`), and its marks are of the modules that
--- have heard with at most h hops (`hops-marked`; of the two calls, `near-hops`).
+-- have heard with at most h hops (`hops-marked`; of the two calls, NearHops).
 use Rattle.std.specs.Prelude.{ℕ, ◌<◌, ◌≡◌, Bool, ◌&&◌, List, length, get_or, leb}
 use Rattle.std.proofs.Common.{sym, ap, ◌∙◌, true≢false}
 use Rattle.base.specs.Cond.{bit}
@@ -13,17 +13,13 @@ use Rattle.plan.specs.Links.{Plan, modules_of, graph_of}
 use Rattle.plan_tree.specs.Claim.{TreePath}
 use Rattle.plan_tree.proofs.laws.Paths.{tree-path}
 use Rattle.path.specs.Between.{tree_path, PathShown}
-use Rattle.path.specs.Near.{mark_near}
 use Rattle.path.specs.Claims.{PathHolds, NearHolds}
-use Rattle.path.proofs.laws.Claims.{near-claim}
 use Rattle.path.proofs.laws.Steps.{path-is}
 use Rattle.field.specs.Held.{Held}
 use Rattle.cue.specs.declared.Cue.{Cue}
 use Rattle.cue.specs.Record.{record_of, has_heard}
 use Rattle.cue.specs.Copies.{copies_waiting}
-use Rattle.cue.specs.Calls.{start_cue}
-use Rattle.cue.specs.Claims.{deliveries, TellsPath, CueHolds}
-use Rattle.cue_laws.proofs.Cue.{cue-claim}
+use Rattle.cue.specs.Claims.{TellsPath, CueHolds}
 
 module _ (h : Held) (p : Plan) (lent : List Cue) (sender cue : ℕ) (ds : List ℕ) (cues : List Cue) (c : CueHolds h p lent sender cue ds cues) (z : copies_waiting p cues ≡ 0) where
   -- a module that the tree joins to the sender is of its part, and has heard
@@ -53,14 +49,3 @@ module _ (h : Held) (p : Plan) (lent : List Cue) (sender cue : ℕ) (ds : List �
         (λ e. let t = c.path v l e in
         a.marks v l t.path ∙ ap (λ n. bit (leb n near)) (sym t.hops) ∙ ap (λ (b : Bool). bit (b && leb (record_of cues v).hops near)) (sym e))
         (λ e. a.apart v l (λ w. true≢false (sym (c.all z v l w) ∙ e)) ∙ rw e)
-
--- the marks that the call writes for the sender, on the field's plan, beside the records when none waits
-pub near-hops : (h : Held) (lent : List Cue) (sender cue : ℕ) → (start_cue h lent sender cue).refusal ≡ 0 → (ds : List ℕ)
-    → copies_waiting h.field.plan (deliveries h ds (start_cue h lent sender cue).state) ≡ 0
-    → (near : ℕ) (buffer : List ℕ) → (mark_near h.field.plan sender near buffer).refusal ≡ 0 → (v : ℕ) → v < modules_of h.field.plan
-    → let c = record_of (deliveries h ds (start_cue h lent sender cue).state) v in
-    get_or (mark_near h.field.plan sender near buffer).state v 0 ≡ bit (has_heard c && leb c.hops near)
-near-hops h lent sender cue taken ds z near buffer written v l =
-    let p = h.field.plan in
-    hops-marked h p lent sender cue ds (deliveries h ds (start_cue h lent sender cue).state) (cue-claim h lent sender cue taken ds) z v l
-    (near-claim p sender near buffer written)

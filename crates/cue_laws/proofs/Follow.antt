@@ -1,11 +1,11 @@
 -- Following copies one by one leaves the records that deliveries leave, and in each channel the copy that waits there by the records (`FollowsSame`): after a
 -- start (`same_start`), a delivery (`same-heard`, `same-idle`, `same-beyond`), a start that is taken and any list of deliveries (`same-followed`).
-use Rattle.std.specs.Prelude.{ℕ, ◌*◌, ◌≤◌, ◌<◌, ◌≡◌, refl, ◌≢◌, true, false, cond, List, [], ◌∷◌, ◌++◌, length, set}
-use Rattle.std.proofs.Common.{arith, sym, ap, ◌∙◌, true≢false}
+use Rattle.std.specs.Prelude.{ℕ, ◌*◌, ◌≤◌, ◌<◌, ◌≡◌, refl, ◌≢◌, true, false, List, [], ◌∷◌, ◌++◌, length, set}
+use Rattle.std.proofs.Common.{arith, sym, ap, ◌∙◌}
 use Rattle.std.proofs.Math.Path.{subst}
 use Rattle.base.specs.None.{none}
 use Rattle.base.specs.Cond.{upd}
-use Rattle.base.proofs.laws.Cond.{bool_cases, by-eq, upd-elim, upd_other}
+use Rattle.base.proofs.laws.Cond.{by-eq, upd-elim, upd_other}
 use Rattle.graph.specs.Graph.{Joins}
 use Rattle.graph.proofs.laws.Ways.{flip, joins-lt}
 use Rattle.plan.specs.Links.{Plan, modules_of, links_of, graph_of}
@@ -18,7 +18,7 @@ use Rattle.cue.specs.Calls.{start_cue}
 use Rattle.cue.specs.Claims.{deliveries}
 use Rattle.cue.specs.Follow.{Followed, passes_on, follow_start, arrives, follow}
 use Rattle.cue.proofs.laws.Record.{begun-sender, begun-other}
-use Rattle.cue.proofs.laws.Copies.{ArrivedOver, WaitsOn, waits-facts, facts-wait, sent-alike, arrived-alike}
+use Rattle.cue.proofs.laws.Copies.{ArrivedOver, WaitsOn, waits-facts, sent-alike, arrived-alike}
 use Rattle.cue.proofs.laws.Refusals.{FieldReady, ready-accepted}
 use Rattle.cue.proofs.laws.Calls.{start-taken, start-state}
 use Rattle.cue.proofs.laws.Follow.{Passes, passes-adds, passes-keeps}
@@ -28,28 +28,12 @@ use Rattle.cue_laws.proofs.Good.{GoodCues}
 use Rattle.cue_laws.proofs.Once.{hears-once, arrival-there, arrival-elsewhere, arrival-kept, arrival-good, begun-good}
 use Rattle.cue_laws.proofs.Deliveries.{ready_net, delivery-cases}
 use Rattle.cue_laws.proofs.Told.{told-by}
-
--- what directed link d's channel holds by the records: the copy that waits there, or none
-abbrev pub waiting : Plan → List Cue → ℕ → List Cue
-waiting p cues d = cond (waits_on p cues d) (record_of cues (from p d) ∷ []) []
+use Rattle.cue_laws.proofs.Waiting.{waiting, waiting-by, waiting-copy, waiting_none}
 
 pub record FollowsSame (p : Plan) (left : List Cue) (x : Followed) : Type 0 where
   pub cues : x.cues ≡ left
   pub channels : (d : ℕ) → d < 2 * links_of p → x.channel d ≡ waiting p left d
   pub beyond : (d : ℕ) → 2 * links_of p ≤ d → x.channel d ≡ []
-
--- the two cases
-waiting-by : (p : Plan) (cues : List Cue) (d : ℕ) {l : List Cue} → (WaitsOn p cues d → l ≡ record_of cues (from p d) ∷ []) → (¬ WaitsOn p cues d → l ≡ [])
-    → l ≡ waiting p cues d
-waiting-by p cues d y n = bool_cases (waits_on p cues d)
-    (λ t. y (waits-facts p cues d t) ∙ rw t)
-    (λ f. n (λ w. true≢false (sym (facts-wait p cues d w) ∙ f)) ∙ rw f)
-
-waiting-copy : (p : Plan) (cues : List Cue) (d : ℕ) → WaitsOn p cues d → waiting p cues d ≡ record_of cues (from p d) ∷ []
-waiting-copy p cues d w = rw (facts-wait p cues d w)
-
-waiting_none : (p : Plan) (cues : List Cue) (d : ℕ) → ¬ WaitsOn p cues d → waiting p cues d ≡ []
-waiting_none p cues d n = bool_cases (waits_on p cues d) (λ t. absurd (n (waits-facts p cues d t))) (λ f. rw f)
 
 -- A START
 

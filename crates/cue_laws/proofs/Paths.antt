@@ -16,21 +16,13 @@ use Rattle.graph.proofs.laws.Ways.{flip, way-append, way-reverse, wider}
 use Rattle.graph.proofs.laws.Path.{paths-same, edges-append, nodes-further, path-further, last-behind}
 use Rattle.plan.specs.Links.{Plan, modules_of, graph_of}
 use Rattle.plan_tree.specs.Tree.{tree_link}
-use Rattle.plan_tree.specs.Claim.{TreePath}
 use Rattle.cue.specs.declared.Cue.{Cue}
 use Rattle.cue.specs.Record.{unheard, record_of, has_heard, sender_record, heard_record}
 use Rattle.cue.specs.Claims.{TellsPath}
 use Rattle.cue_laws.proofs.Net.{Net}
 use Rattle.cue_laws.proofs.Good.{Right, silent, first, got, GoodCues}
 use Rattle.cue_laws.proofs.Rule.{sole-sender}
-
--- how a module that has heard came to it: a path on which no module has more hops
-record Route (p : Plan) (cues : List Cue) (good : GoodCues p cues) (v : ℕ) : Type 0 where
-  path : TreePath p good.sender v
-  under : All (λ y. (record_of cues y).hops ≤ (record_of cues v).hops) (nodes_of path.way)
-  hops : (record_of cues v).hops ≡ length (edges_of path.way)
-  link : (record_of cues v).link ≡ last_or none (edges_of path.way)
-  cue : (record_of cues v).cue ≡ good.cue
+use Rattle.cue_laws.proofs.Route.{Route}
 
 module _ (p : Plan) (net : Net p) (cues : List Cue) (good : GoodCues p cues) where
   -- the sender's

@@ -1,5 +1,5 @@
 -- Liveness: from good records some order of arrivals, one for each module of the sender's part that has not heard, brings the cue to all of it (`spread`).
-use Rattle.std.specs.Prelude.{ℕ, zero, suc, ◌+◌, ◌≤◌, ◌<◌, ◌≡◌, ◌⊎◌, true, false, not, ◌&&◌, List, [], ◌∷◌, length}
+use Rattle.std.specs.Prelude.{ℕ, zero, suc, ◌+◌, ◌≤◌, ◌<◌, ◌≡◌, ◌⊎◌, true, false, not, ◌&&◌, List, [], ◌∷◌}
 use Rattle.std.proofs.Common.{arith, ap, ◌∙◌, inl, inr, eqb-true}
 use Rattle.std.proofs.Math.Bool.{and-eq-true_iff}
 use Rattle.std.proofs.lemmas.Bool.{not-true}
@@ -22,15 +22,8 @@ use Rattle.cue_laws.proofs.Once.{arrival-kept, arrival-good}
 use Rattle.cue_laws.proofs.AllHeard.{hearers, edge-waits}
 use Rattle.cue_laws.proofs.Counts.{heads, arrival-heads}
 use Rattle.cue_laws.proofs.Part.{deaf-fewer}
-use Rattle.cue_laws.proofs.Trail.{Trail, rests, goes-on}
-
--- at most m arrivals that bring the cue to all of the sender's part
-pub record Spread (p : Plan) (sender : ℕ) (cues : List Cue) (m : ℕ) : Type 0 where
-  pub order : List ℕ
-  pub end : List Cue
-  pub trail : Trail p cues order end
-  pub few : length order ≤ m
-  pub all : AllHeard p sender end
+use Rattle.cue_laws.proofs.Trail.{rests, goes-on}
+use Rattle.cue_laws.proofs.Order.{Spread}
 
 module _ (p : Plan) (sender : ℕ) (cues : List Cue) where
   -- of the part, and has not heard
