@@ -1,72 +1,36 @@
 -- What a good state says of the tree: always (`branch-tree`), and at rest of each part with a module awake (`agreed`).
-use Rattle.std.specs.Prelude.{ℕ, ◌<◌, ◌≡◌, refl, []}
-use Rattle.std.proofs.Common.{arith, sym, ap, subst, ◌∙◌, ⊎_elim}
-use Rattle.graph.specs.Graph.{up, stop, go}
-use Rattle.graph.proofs.laws.Ways.{way-append}
+use Rattle.std.specs.Prelude.{ℕ, ◌≡◌, []}
+use Rattle.std.proofs.Common.{arith, sym, subst, ◌∙◌, ⊎_elim}
+use Rattle.graph.specs.Graph.{stop}
 use Rattle.plan.proofs.laws.Accepted.{Accepted}
-use Rattle.plan.specs.Links.{Plan, modules_of, links_of, lower_of, higher_of}
+use Rattle.plan.specs.Links.{Plan, lower_of, higher_of}
 use Rattle.node.specs.Work.{BRANCH, REJECTED}
 use Rattle.field.specs.State.{State, node_at, mark_at}
-use Rattle.field_calls.specs.Demand.{TreeLink, BothSay, InPart, Core, Agreed}
+use Rattle.field_calls.specs.Demand.{TreeLink, InPart, Agreed}
 use Rattle.field_calls.specs.Trail.{Awake}
-use Rattle.protocol.specs.Network.{Edge}
-use Rattle.protocol_stuck.proofs.Parts.{PartCore, PartFinished}
-use Rattle.protocol_bridge.proofs.Fin.{st-is, halt-is}
-use Rattle.demand_view.proofs.Net.{net}
-use Rattle.demand.proofs.Good.{Good, node-shown, good-mark}
-use Rattle.demand.proofs.Rest.{at-rest}
+use Rattle.demand.proofs.Good.{Good}
+use Rattle.demand.proofs.Core.{mark_of, halt-of, part-finished, link-ends, says, low-in, high-in, core}
 
 module _ (p : Plan) (a : Accepted p) (s : State) (g : Good p a s) where
-  mark_of : (v k : ℕ) → g.at.mark v k ≡ mark_at p s v k
-  mark_of v k = ap (λ f. f k) (good-mark p a s g v)
-
-  halt-of : (v : ℕ) → v < modules_of p → g.at.halt v ≡ (node_at s v).halted
-  halt-of v l = halt-is (node-shown p a s g v l)
-
   -- EVERY BRANCH IS A TREE LINK (m5)
   pub branch-tree : (v k : ℕ) → mark_at p s v k ≡ BRANCH → TreeLink p k
   branch-tree v k m =
-      let q : g.at.mark v k ≡ 1 = mark_of v k ∙ m in
+      let q : g.at.mark v k ≡ 1 = mark_of p a s g v k ∙ m in
       let e = g.reach.inv.markings.own v k (λ z. omega arith) in
       g.reach.inv.markings.m5 k v e.0 e.1 q
 
-  -- at rest, with module w awake: its part is finished
+  -- at rest, with module w awake
   module _ (w : ℕ) (k : Awake p s w) (z : s.words ≡ []) where
-    pub part-finished : PartFinished (net p a) (g.at) w
-    part-finished = (at-rest p a s g z).awake w w stop (λ e. k.awake (sym (st-is (node-shown p a s g w k.within)) ∙ e))
-
-    link-ends : (k : ℕ) → k < links_of p → Edge (net p a) k (lower_of p k) (higher_of p k)
-    link-ends k l = up l refl refl
-
-    says : (c k : ℕ) → (g.at.mark (lower_of p k) k ≡ c) × (g.at.mark (higher_of p k) k ≡ c) → BothSay p s c k
-    says c k h = record { lower = sym (mark_of (lower_of p k) k) ∙ h.0; higher = sym (mark_of (higher_of p k) k) ∙ h.1 }
-
-    module _ (c : PartCore (net p a) (g.at) w) where
-      low-in : InPart p w (lower_of p c.edge)
-      low-in = (omega (arith, (a.each c.edge c.within).ordered, (a.each c.edge c.within).inside), c.inside)
-
-      high-in : InPart p w (higher_of p c.edge)
-      high-in = ((a.each c.edge c.within).inside, way-append c.inside (go c.edge (link-ends c.edge c.within) tt stop))
-
-      core : Core p s (InPart p w)
-      core = record {
-        link = c.edge;
-        within = c.within;
-        tree = c.tree;
-        inside = low-in;
-        across = high-in;
-        apart = c.apart;
-        halted = λ v i. let h = c.halted v i.1 in (λ q. h.0 (halt-of v i.0 ∙ q), λ q. sym (halt-of v i.0) ∙ h.1 q);
-      }
-
     -- W'S PART AGREES
     pub agreed : Agreed p s (InPart p w)
-    agreed = record {
-      tree = λ k l i h. says BRANCH k (part-finished.tree k (lower_of p k) (higher_of p k) (link-ends k l) i.1 h);
-      others = λ k l i h. says REJECTED k (part-finished.others k (lower_of p k) (higher_of p k) (link-ends k l) i.1 h);
-      alone = λ v i only. ⊎_elim
-          (λ c. absurd (c.apart (only (lower_of p c.edge) (low-in c) ∙ sym (only (higher_of p c.edge) (high-in c)))))
-          (λ o. subst (λ u. (node_at s u).halted ≡ 1) (only w (k.within, stop)) (sym (halt-of w k.within) ∙ o.halted))
-          part-finished.halted;
-      core = λ u v i j d. ⊎_elim core (λ o. absurd (d (o.only u i.1 ∙ sym (o.only v j.1)))) part-finished.halted;
-    }
+    agreed =
+        let finished = part-finished p a s g w k z in
+        record {
+          tree = λ j l i h. says p a s g w k z BRANCH j (finished.tree j (lower_of p j) (higher_of p j) (link-ends p a s g w k z j l) i.1 h);
+          others = λ j l i h. says p a s g w k z REJECTED j (finished.others j (lower_of p j) (higher_of p j) (link-ends p a s g w k z j l) i.1 h);
+          alone = λ v i only. ⊎_elim
+              (λ c. absurd (c.apart (only (lower_of p c.edge) (low-in p a s g w k z c) ∙ sym (only (higher_of p c.edge) (high-in p a s g w k z c)))))
+              (λ o. subst (λ u. (node_at s u).halted ≡ 1) (only w (k.within, stop)) (sym (halt-of p a s g w k.within) ∙ o.halted))
+              finished.halted;
+          core = λ u v i j d. ⊎_elim (core p a s g w k z) (λ o. absurd (d (o.only u i.1 ∙ sym (o.only v j.1)))) finished.halted;
+        }

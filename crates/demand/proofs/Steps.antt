@@ -5,7 +5,7 @@ use Rattle.std.proofs.Math.Path.{refl}
 use Rattle.std.proofs.Math.ListN.{length}
 use borrow.Author.Tests.{leb-false, eq-eqb, ne_eqb, le-ltb}
 use Rattle.base.proofs.laws.Cond.{bool_cases, eqb-cases, by-eq, eqb-diff}
-use Rattle.base.specs.Loop.{After, taken_to, refused_by}
+use Rattle.base.specs.Loop.{taken_to, refused_by}
 use Rattle.base.proofs.laws.Pool.{All-here}
 use Rattle.base.specs.Keep.{place}
 use Rattle.base.proofs.laws.Keep.{FirstThat, first_out, first_passes, place-first}
@@ -34,12 +34,7 @@ use Rattle.demand_view.proofs.View.{view, tables, nodes, chans}
 use Rattle.demand_view.proofs.Chans.{chans-hand, chans-head, handed_part, unhanded_part}
 use Rattle.demand_view.proofs.Placed.{view-woken, view-taken, view-back, rest-cut}
 use Rattle.demand.proofs.Good.{Good, node-shown, rule-is, no-mark, good-after}
-
--- what a step has to leave
-pub record Fine (p : Plan) (a : Accepted p) (r : After State) : Type 0 where
-  pub good : Good p a r.state
-  pub no32 : r.refusal ≢ 32
-  pub no33 : r.refusal ≢ 33
+use Rattle.demand.proofs.Fine.{Fine}
 
 module _ (p : Plan) (a : Accepted p) (s : State) (i : Sound p s) (g : Good p a s) where
   -- refused by another number
