@@ -4,9 +4,10 @@ use Rattle.protocol.proofs.Prelude.{List, ◌∷◌, upd2, by-eq, sum_l}
 use Rattle.protocol.proofs.Prelude.{Msg, test, accept}
 use Rattle.protocol.proofs.Prelude.{Network, Edge, flip, ends_same, other-end, ProtocolState, Idle, set-ch, send_over, pop}
 use Rattle.protocol.proofs.Prelude.{is_t, is_a, is_r, fits-accept, In, in_sum, pop-head, pop-in, pop-sum, pop-le, none_in}
-use Rattle.protocol.proofs.Prelude.{snoc, snoc-in, snoc_old, kinds, snoc-sum, Inf, Waits, Inv, inf-awake}
+use Rattle.protocol.proofs.Prelude.{snoc, snoc-in, snoc_old, kinds, snoc-sum, Waits, Inv, inf-awake}
 use Rattle.protocol.proofs.Prelude.{plain-test, plain-accept, post-before, bests-same, flow, inv-passing, flow-take, flow-post}
 use Rattle.protocol.specs.Traffic.{AcceptOk, Testing, Answers}
+pub use Rattle.protocol_search.proofs.Tester.{tester-inf, tester-apart}
 use Rattle.protocol_search.proofs.Answer.{even, crossed}
 
 module _ {p : Network} {s : ProtocolState} (i : Inv p s) {u v k l f : ℕ} {r : List Msg} (idle : Idle s) (ends : Edge p k u v) (awake : s.st v ≢ 0) (q : s.ch u k ≡ test l f ∷ r)
@@ -26,24 +27,17 @@ module _ {p : Network} {s : ProtocolState} (i : Inv p s) {u v k l f : ℕ} {r : 
   head : In (test l f) (s.ch u k)
   head = pop-head s.ch u k q
 
-  pub tester-inf : Inf s u
-  tester-inf = (i.testing.e1 k u v l f ends head).2
-
-  -- of another fragment: else v would be informed, with the same identity
-  pub tester-apart : s.fr u ≢ s.fr v
-  tester-apart z =
-      let t = i.testing.e1 k u v l f ends head in
-      let h : Inf s v = (omega (arith, tester-inf.0, ap s.gl z), omega (arith, i.levels.g2 v, tester-inf.1, t.0, ap s.gl z)) in
-      differ (i.levels.g2i v h ∙ ap s.gc (sym z) ∙ sym (i.levels.g2i u tester-inf) ∙ t.1)
+  apart : s.fr u ≢ s.fr v
+  apart = tester-apart i idle ends awake q low differ
 
   pub waits-accept : Waits s u k
-  waits-accept = ⊎_elim (λ t. t.0) (λ t. absurd (tester-apart t.3)) (i.testing.e1w k u v l f ends head)
+  waits-accept = ⊎_elim (λ t. t.0) (λ t. absurd (apart t.3)) (i.testing.e1w k u v l f ends head)
 
   basic : s.mark u k ≡ 0
   basic = ⊎_elim
       (λ t. by-eq (s.mark u k) 0 (λ z. z)
-      (λ n. let o : s.mark u k ≡ 1 = omega (arith, i.ranges.mark-le u k, t.1) in absurd (tester-apart (i.markings.m3 k u v ends (o, t.2 o)))))
-      (λ t. absurd (tester-apart t.3)) (i.testing.e1w k u v l f ends head)
+      (λ n. let o : s.mark u k ≡ 1 = omega (arith, i.ranges.mark-le u k, t.1) in absurd (apart (i.markings.m3 k u v ends (o, t.2 o)))))
+      (λ t. absurd (apart t.3)) (i.testing.e1w k u v l f ends head)
 
   -- of u's Test, an answer to it and a Test of v that crossed it just one is under way (e2c): this Test
   one : 1 ≤ sum_l is_t (s.ch u k)
@@ -83,10 +77,10 @@ module _ {p : Network} {s : ProtocolState} (i : Inv p s) {u v k l f : ℕ} {r : 
   }
     where
       fresh : AcceptOk s.te s.fr s.lev s.mark s.ot k v u
-      fresh = record { a1w = waits-accept; a1m = basic; a1f = λ z. tester-apart (sym z); a1l = omega (arith, (i.testing.e1 k u v l f ends head).0) }
+      fresh = record { a1w = waits-accept; a1m = basic; a1f = λ z. apart (sym z); a1l = omega (arith, (i.testing.e1 k u v l f ends head).0) }
 
   pub inv-accept-test : Inv p S'
   inv-accept-test = inv-passing i c'
-      (flow-post p s₁ v k plain-accept awake (λ x e z. absurd (inf-awake i u tester-inf (ap s.st (ends_same (flip ends) e) ∙ z))) (λ h. tt)
+      (flow-post p s₁ v k plain-accept awake (λ x e z. absurd (inf-awake i u (tester-inf i idle ends awake q low differ) (ap s.st (ends_same (flip ends) e) ∙ z))) (λ h. tt)
       (λ x h. fits-accept x (none_in is_a unanswered (pop-in s.ch u k q v k h))) (flow-take p s u k q (plain-test l f) (flow i)))
       testing' answers' (bests-same p s c' (λ w j. snoc-sum c₁ v k accept is_r refl w j ∙ pop-sum s.ch u k q is_r refl w j) i.bests)

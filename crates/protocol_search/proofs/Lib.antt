@@ -6,6 +6,7 @@ pub mod ReportLater
 pub mod TestNext
 pub mod Accepted
 pub mod WakeLone
+pub mod Tester
 pub mod AcceptTest
 pub mod Strike
 pub mod Again
