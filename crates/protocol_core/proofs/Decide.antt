@@ -1,24 +1,19 @@
 -- Report w from u at v over v's in-branch k, v not Find, w later than v's best: v is to execute procedure change-root (`inv-decide`).
 use Rattle.protocol.proofs.Prelude.{ℕ, ◌<◌, arith, ◌≡◌, sym, ap, subst, ◌≢◌, inl, ⊎_elim}
-use Rattle.protocol.proofs.Prelude.{List, ◌∷◌, upd2, Msg, none, report}
-use Rattle.protocol.proofs.Prelude.{Network, Edge, key, key-none, ProtocolState, Idle, pop, rooted, In, pop-in}
+use Rattle.protocol.proofs.Prelude.{List, ◌∷◌, upd2, Msg, report}
+use Rattle.protocol.proofs.Prelude.{Network, Edge, key, ProtocolState, Idle, pop, rooted, In, pop-in}
 use Rattle.protocol.proofs.Prelude.{Bounds, CoreEnds, Spent, Inv}
 use Rattle.protocol_core.proofs.Late.{late-report}
 use Rattle.protocol_core.proofs.Core as C
+use Rattle.protocol_core.proofs.CoreLater as L
 use Rattle.protocol_core.proofs.Rooted.{RootReady, inv-rooted}
 
 module _ {p : Network} {s : ProtocolState} (i : Inv p s) {u v k w : ℕ} {r : List Msg} (idle : Idle s) (ends : Edge p k u v) (q : s.ch u k ≡ report w ∷ r)
     (ib : s.ib v ≡ k) (found : s.st v ≢ 1) (later : key p (s.bw v) < key p w) where
-  -- it is a core end's: a spent one is earlier than v's best
-  core : CoreEnds s u v k w
-  core = ⊎_elim (λ t. t)
-      (λ t. absurd (⊎_elim (λ l. omega arith) (λ l. omega (arith, ap (key p) l.0, ap (key p) l.1)) t.5))
-      (C.core-or-spent i ends q found)
+  abbrev core : CoreEnds s u v k w
+  core = L.core i idle ends q ib found later
 
-  -- v's best weight is an edge, and bounds what is Basic in the fragment
-  some : s.bw v ≢ none
-  some z = omega (arith, C.weight-le i ends q, ap (key p) z, key-none p)
-
+  -- v's best weight bounds what is Basic in the fragment
   bounds : Bounds p s (key p (s.bw v)) v
   bounds a j b f e m =
       let t = C.basic-bound i ends q idle found core a j b f e m in
@@ -45,7 +40,7 @@ module _ {p : Network} {s : ProtocolState} (i : Inv p s) {u v k w : ℕ} {r : Li
     ib = ib;
     ub-v = C.ub-v i ends q idle found core;
     ub-u = C.ub-u i ends q idle found core;
-    some = some;
+    some = L.some i idle ends q ib found later;
     bounds = bounds;
     fresh = λ z. omega (arith, C.core-undecided i ends q idle found core);
     unfinished = λ z. omega (arith, C.core-undecided i ends q idle found core);

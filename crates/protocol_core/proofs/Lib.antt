@@ -4,8 +4,11 @@ pub mod Late
 pub mod Core
 pub mod CoreNothing
 pub mod ChildReport
+pub mod Ruling
 pub mod Rule
+pub mod Ready
 pub mod Rooted
+pub mod CoreLater
 pub mod Decide
 pub mod ChangeRoot
 pub mod CoreHalt

@@ -1,48 +1,17 @@
 -- A Report or a Change-root, the head of the channel from u over k, makes v's fragment take a decision of kind d:
 -- 1, v is to execute procedure change-root; 4, the fragment is finished. What differs between the two is in `Ruling`; the whole is `inv-rule`.
 use Rattle.protocol.proofs.Prelude.{ℕ, ◌≤◌, arith, ◌≡◌, sym, ap, subst, ◌∙◌, ◌≢◌, ◌⊎◌, inl, inr, ⊎_elim, by-eq}
-use Rattle.protocol.proofs.Prelude.{List, ◌∷◌, upd, upd-elim, upd_same, upd_other, upd2, sum_l, Msg, none, connect, report, change}
-use Rattle.protocol.proofs.Prelude.{Network, Edge, flip, ProtocolState, pop, set-ch, set-halt, set-dk, set-dn, set-oo}
+use Rattle.protocol.proofs.Prelude.{List, ◌∷◌, upd-elim, upd_same, upd_other, upd2, sum_l, Msg, none, connect, report, change}
+use Rattle.protocol.proofs.Prelude.{Network, Edge, flip, ProtocolState, set-ch}
 use Rattle.protocol.proofs.Prelude.{is_r, All, Only, le-sum, joins-lt, In, else_same, pop-in, pop-le}
-use Rattle.protocol.proofs.Prelude.{Decision, GL, GC, DK, Inf, Outst, Counting, Root, Child, CoreEnds, Spent, Inv, fc-find, outst-ch, counting-ch, last-case, reports-same, take-alike}
+use Rattle.protocol.proofs.Prelude.{Decision, GL, GC, DK, Outst, Counting, Child, CoreEnds, Spent, Inv, fc-find, outst-ch, counting-ch, last-case, reports-same, take-alike}
 use Rattle.protocol.specs.Fragments.{Ranges, Sleepers}
-use Rattle.protocol.specs.Decisions.{Halves, ChangeRoots, Rootings, Finishes}
+use Rattle.protocol.specs.Decisions.{Halves, ChangeRoots, Finishes}
 use Rattle.protocol.specs.Search.{Parents, Finds}
 use Rattle.protocol.specs.Traffic.{Tokens, Reports, Owing, Bests}
 use Rattle.protocol_core.proofs.Late.{Late, Kept, late-kept}
-
--- the state afterwards
-abbrev pub ruled : ProtocolState → ℕ → ℕ → ℕ → List Msg → ℕ → (ℕ → ℕ) → (ℕ → ℕ) → ℕ → ProtocolState
-ruled s u v k r d dn halt oo = set-oo (set-halt (set-dn (set-dk (pop s u k r) (upd s.dk (s.fr v) d)) dn) halt) oo
-
--- v's fragment is finished; c' are the channels
-pub record FragmentDone (p : Network) (s : ProtocolState) (v : ℕ) (halt : ℕ → ℕ) (c' : ℕ → ℕ → List Msg) : Type 0 where
-  -- nothing is Basic in it, its core ends found nothing
-  pub tight : (j x y : ℕ) → Edge p j x y → s.fr x ≡ s.fr v → s.mark x j ≢ 0
-  pub nothing : (j x y : ℕ) → Edge p j x y → s.fr x ≡ s.fr v → GC s x ≡ j → Inf s x × (s.bw x ≡ none)
-  -- who has halted is a core end; a core end has halted, or its partner's Report waits, and not both
-  pub halted : (j x y : ℕ) → Edge p j x y → s.fr x ≡ s.fr v → halt x ≢ 0 → (z : ℕ) × Edge p (GC s x) x z
-  pub halt-no : (j x y : ℕ) → Edge p j x y → s.fr x ≡ s.fr v → GC s x ≡ j → halt x ≢ 0 → ¬ In (report none) (c' y j)
-  pub halt-yes : (j x y : ℕ) → Edge p j x y → s.fr x ≡ s.fr v → GC s x ≡ j → halt x ≡ 0 → In (report none) (c' y j)
-
-pub record Ruling (p : Network) (s : ProtocolState) (u v k : ℕ) (r : List Msg) (d : ℕ) (dn halt : ℕ → ℕ) (oo : ℕ) : Type 0 where
-  pub inside : s.fr u ≡ s.fr v
-  pub level : 1 ≤ GL s v
-  pub fresh : DK s v ≢ 3
-  -- nobody in the fragment is Find or due
-  pub no-find : (x : ℕ) → s.fr x ≡ s.fr v → s.st x ≢ 1
-  pub no_due : (x : ℕ) → s.fr x ≡ s.fr v → s.due x ≡ 0
-  -- other fragments keep their decisions and who has halted
-  pub dn-off : (x : ℕ) → s.fr v ≢ s.fr x → dn (s.fr x) ≡ s.dn (s.fr x)
-  pub halt-off : (x : ℕ) → s.fr v ≢ s.fr x → halt x ≡ s.halt x
-  pub halt-le : (x : ℕ) → halt x ≤ 1
-  -- the new decision
-  pub verdict : ((d ≡ 1) × ((x : ℕ) → s.fr x ≡ s.fr v → halt x ≡ 0)) ⊎ ((d ≡ 4) × FragmentDone p s v halt (upd2 s.ch u k r))
-  pub rootings : Rootings p (upd s.dk (s.fr v) d) dn s.fr s.gl s.lev s.ib s.ub s.bw s.mark oo
-  pub no-report : (j x y : ℕ) → Edge p j x y → Root (ruled s u v k r d dn halt oo) x → s.ib x ≡ j → sum_l is_r (upd2 s.ch u k r y j) ≡ 0
-  -- no Change-root is left in it, and every Report in it is spent
-  pub no-token : (j x y : ℕ) → Edge p j x y → s.fr x ≡ s.fr v → ¬ In change (upd2 s.ch u k r x j)
-  pub spent : (j a b n : ℕ) → Edge p j a b → s.fr a ≡ s.fr v → In (report n) (upd2 s.ch u k r a j) → Spent p (ruled s u v k r d dn halt oo) a b j n
+use Rattle.protocol_core.proofs.Ruling.{ruled}
+pub use Rattle.protocol_core.proofs.Ruling.{FragmentDone, Ruling}
 
 module _ {p : Network} {s : ProtocolState} (i : Inv p s) {u v k d : ℕ} {m : Msg} {r : List Msg} {dn halt : ℕ → ℕ} {oo : ℕ} (q : s.ch u k ≡ m ∷ r) (late : Late m)
     (h : Ruling p s u v k r d dn halt oo) where
