@@ -12,6 +12,7 @@ use Rattle.protocol.specs.Fragments.{Ranges, Sleepers}
 use Rattle.protocol.specs.Decisions.{Finishes}
 use Rattle.protocol.specs.Search.{Kids, Finds, Pending}
 use Rattle.protocol.specs.Traffic.{Hush, Tokens, Connects, Initiates, Telling, Testing, Answers, Reports, Owing, Bests, Ordered}
+use Rattle.protocol_report.proofs.Settled.{no-owe}
 
 module _ {p : Network} {s : ProtocolState} (i : Inv p s) {v k u : ℕ} (ot : s.ot ≡ 0) (op : s.op ≡ suc v) (oo : s.oo ≡ 0) (ends : Edge p k v u)
     (ib : s.ib v ≡ k) (fc : s.fc v ≡ 0) (te : s.te v ≡ none) where
@@ -62,15 +63,11 @@ module _ {p : Network} {s : ProtocolState} (i : Inv p s) {v k u : ℕ} (ot : s.o
           (λ l. (i.kids.t4u k u v (flip ends) joined_back (sym (ap s.gc fr-same) ∙ g) l).t4i b)
           (λ z. omega (arith, ap s.gl fr-same, inf.0))
 
-  -- a node that owes v its Report would be counted
-  pub no-owe : (j : ℕ) → j < p.g.L → s.owe v j ≡ 0
-  no-owe j l = omega (arith, le-sum p.g.L j (s.owe v) l, i.find_counts.f4 v)
-
   pub no-child : (j a w : ℕ) → Edge p j a v → In (report w) (s.ch a j) → ¬ Child s a v j w
   no-child j a w e h t =
       let b = up-other i j a v e t.0 t.1 t.2 in
       let r = i.reports.r1j j a v w e h in
-      omega (arith, no-owe j (joins-lt e), i.owing.f4n j v a (flip e) t.5 (r.1, r.0) b (inl (t.0, inr (in_sum is_r h))))
+      omega (arith, no-owe i ot op oo ends ib fc te j (joins-lt e), i.owing.f4n j v a (flip e) t.5 (r.1, r.0) b (inl (t.0, inr (in_sum is_r h))))
 
   -- v's parent searches
   pub parent-finds : GC s v ≢ k → s.st u ≡ 1
