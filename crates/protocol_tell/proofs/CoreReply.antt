@@ -11,6 +11,7 @@ use Rattle.protocol.specs.Search.{LowOk}
 use Rattle.protocol.specs.Traffic.{InitOk, Tokens, Initiates, Telling, Reports}
 use Rattle.protocol_tell.proofs.Laws.{initiate-at, init-eq}
 use Rattle.protocol_tell.proofs.Reply as Y
+use Rattle.protocol_tell.proofs.CoreMarks as M
 
 module _ {p : Network} {s : ProtocolState} (i : Inv p s) {u v k l : ℕ} {r : List Msg} (idle : Idle s) (ends : Edge p k u v) (awake : s.st v ≢ 0) (q : s.ch u k ≡ connect l ∷ r)
     (low : s.lev v ≤ l) (taken : s.mark v k ≢ 0) where
@@ -25,11 +26,11 @@ module _ {p : Network} {s : ProtocolState} (i : Inv p s) {u v k l : ℕ} {r : Li
 
   -- ---- the edge is the core, its ends are not informed yet
 
-  pub mark-u : s.mark u k ≡ 1
-  mark-u = i.connects.c1m k u v l ends head
+  abbrev mark-u : s.mark u k ≡ 1
+  mark-u = M.mark-u i idle ends awake q low taken
 
-  mark-v : s.mark v k ≡ 1
-  mark-v = by-eq (s.mark v k) 1 (λ e. e) (λ n. absurd ((i.markings.m1 k v u (flip ends) (omega (arith, i.ranges.mark-le v k))).1 mark-u))
+  abbrev mark-v : s.mark v k ≡ 1
+  mark-v = M.mark-v i idle ends awake q low taken
 
   joined : Jn s k u v
   joined = (mark-u, mark-v)

@@ -1,23 +1,15 @@
 -- v absorbs the fragment D of u over k, answering the Connect (l) of u, l below its own level: what holds before (`half`, `level-absorb`, `rise`) and after
 -- (`inf-out-absorb`, `inf-old-absorb`, `inf-new-absorb`, `bounds-absorb`).
 use Rattle.protocol.proofs.Prelude.{ℕ, ◌≤◌, ◌<◌, arith, ◌≡◌, refl, sym, ap, subst, ◌∙◌, ◌≢◌, ◌⊎◌, inl, inr, ⊎_elim}
-use Rattle.protocol.proofs.Prelude.{List, ◌∷◌, upd2-elim, by-eq}
+use Rattle.protocol.proofs.Prelude.{List, upd2-elim, by-eq}
 use Rattle.protocol.proofs.Prelude.{Msg, connect, initiate}
-use Rattle.protocol.proofs.Prelude.{Network, Edge, flip, same-edge, ProtocolState, Idle, Flag, absorbed, pop}
+use Rattle.protocol.proofs.Prelude.{Network, Edge, flip, same-edge, ProtocolState, absorbed, pop}
 use Rattle.protocol.proofs.Prelude.{bulk-elim, bulk-in, bulk-out, relabel-keep, relabel-cases}
 use Rattle.protocol.proofs.Prelude.{In, at2, here-new, else_same, all_in, pop-head}
 use Rattle.protocol.proofs.Prelude.{Bounding, Decision, GL, GC, DK, Inf, Jn, Half, Changing, Inv}
 use Rattle.protocol.proofs.Prelude.{half_at, no-root, no-connect-decided}
 use Rattle.protocol.specs.Decisions.{HalfOk}
-
--- the guards of the step
-pub record Absorbs (p : Network) (s : ProtocolState) (u v k l x : ℕ) (r : List Msg) : Type 0 where
-  pub idle : Idle s
-  pub ends : Edge p k u v
-  pub awake : s.st v ≢ 0
-  pub q : s.ch u k ≡ connect l ∷ r
-  pub lower : l < s.lev v
-  pub flag : Flag s v x
+pub use Rattle.protocol_tell.proofs.AbsorbGuards.{Absorbs}
 
 module _ {p : Network} {s : ProtocolState} (i : Inv p s) {u v k l x : ℕ} {r : List Msg} (act : Absorbs p s u v k l x r) where
   abbrev S' : ProtocolState
