@@ -1,13 +1,8 @@
--- A stuck state (`Stuck`): no response is under way, and every message would be put back by an awake receiver. Then every node has its fragment's level
--- (`stuck-level`).
+-- In a stuck state every node has its fragment's level (`stuck-level`).
 use Rattle.protocol.proofs.Prelude.{ℕ, ◌≤◌, ◌<◌, arith, ◌≡◌, refl, sym, ap, ◌∙◌, ◌≢◌, ⊎_elim, by-eq, sum_l}
-use Rattle.protocol.proofs.Prelude.{Msg, connect, initiate, accept, reject, change, Network, Edge, Way, stop, go, up, flip, ProtocolState, Idle, Blocked}
+use Rattle.protocol.proofs.Prelude.{connect, initiate, accept, reject, change, Network, Edge, Way, stop, go, up, flip, ProtocolState}
 use Rattle.protocol.proofs.Prelude.{In, some-connect, is_a, no-answers, joined-both, GL, GC, DK, Inf, Jn, JoinedEdge, Inv, inf-cases, changing-of, no-root}
-
--- every message has an awake receiver that would put it back
-pub record Stuck (p : Network) (s : ProtocolState) : Type 0 where
-  pub idle : Idle s
-  pub back : (k u v : ℕ) (m : Msg) → Edge p k u v → In m (s.ch u k) → (s.st v ≢ 0) × Blocked s v k m
+pub use Rattle.protocol_stuck.proofs.Stuck.{Stuck}
 
 module _ {p : Network} {s : ProtocolState} (i : Inv p s) (t : Stuck p s) where
   no-initiate : (k u v l f x : ℕ) → Edge p k u v → ¬ In (initiate l f x) (s.ch u k)

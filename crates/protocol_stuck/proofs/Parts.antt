@@ -1,61 +1,15 @@
 -- STUCK MEANS FINISHED (`stuck-finished`), and so does rest (`rest-finished`): what such a state says of each part of the graph. A part with nobody awake is
 -- as at setup in every state with the invariant (`part-asleep`).
-use Rattle.protocol.proofs.Prelude.{ℕ, ◌≤◌, ◌<◌, arith, ◌≡◌, refl, sym, ap, subst, ◌≢◌, ◌⊎◌, inl, inr, ⊎_elim, by-eq, List, [], ◌∷◌}
-use Rattle.protocol.proofs.Prelude.{Network, Edge, Tree, up, down, flip, wider, ProtocolState, setup_state, Idle, GL, GC, In, first, in-nil, Inv}
+use Rattle.protocol.proofs.Prelude.{ℕ, ◌≤◌, arith, ◌≡◌, refl, sym, ap, subst, ◌≢◌, ◌⊎◌, inl, inr, ⊎_elim, by-eq, List, [], ◌∷◌}
+use Rattle.protocol.proofs.Prelude.{Network, Edge, up, down, flip, wider, ProtocolState, Idle, GL, GC, In, first, in-nil, Inv}
 use Rattle.protocol.proofs.Prelude.{sleep-lev, sleep-id, sleep-te, sleep-fc, sleep-halt, sleep-ib}
-use Rattle.std.specs.Prelude.{◌↔◌}
 use Rattle.graph.specs.Parts.{SamePart}
 use Rattle.graph.proofs.laws.Ways.{way-reverse}
 use Rattle.protocol_stuck.proofs.Informed.{Stuck}
+use Rattle.protocol_stuck.proofs.Outcome.{PartOfOne, NodeAsleep}
+pub use Rattle.protocol_stuck.proofs.Outcome.{PartCore, PartFinished, PartAsleep, AllFinished}
 use Rattle.protocol_stuck.proofs.Finished.{edge?, part, part-awake, nothing}
 use Rattle.protocol_stuck.proofs.Rest.{leaves, tree-branch, other-rejected, level-pos, core-tree, core-halted, halted-core, lone-halted}
-
--- ---- what is said of a part
-
--- exactly two of v's part have halted, the ends of one of its tree edges
-pub record PartCore (p : Network) (s : ProtocolState) (v : ℕ) : Type 0 where
-  pub edge : ℕ
-  pub within : edge < p.g.L
-  pub tree : Tree p edge
-  pub inside : SamePart p.g v (p.g.lo edge)
-  pub apart : p.g.lo edge ≢ p.g.hi edge
-  pub halted : (u : ℕ) → SamePart p.g v u → (s.halt u ≡ 1) ↔ ((u ≡ p.g.lo edge) ⊎ (u ≡ p.g.hi edge))
-
--- v is a part by itself, has no edge, and has halted
-pub record PartOfOne (p : Network) (s : ProtocolState) (v : ℕ) : Type 0 where
-  pub only : (u : ℕ) → SamePart p.g v u → u ≡ v
-  pub edgeless : (k u : ℕ) → ¬ Edge p k v u
-  pub halted : s.halt v ≡ 1
-
--- v's part is finished: both ends of each of its tree edges Branch, of its other edges Rejected, and who has halted
-pub record PartFinished (p : Network) (s : ProtocolState) (v : ℕ) : Type 0 where
-  pub tree : (k a b : ℕ) → Edge p k a b → SamePart p.g v a → Tree p k → (s.mark a k ≡ 1) × (s.mark b k ≡ 1)
-  pub others : (k a b : ℕ) → Edge p k a b → SamePart p.g v a → ¬ Tree p k → (s.mark a k ≡ 2) × (s.mark b k ≡ 2)
-  pub halted : PartCore p s v ⊎ PartOfOne p s v
-
--- v's values in the tables, and its marks, are as at setup
-pub record NodeAsleep (s : ProtocolState) (v : ℕ) : Type 0 where
-  pub status : s.st v ≡ setup_state.st v
-  pub level : s.lev v ≡ setup_state.lev v
-  pub identity : s.id v ≡ setup_state.id v
-  pub weight : s.bw v ≡ setup_state.bw v
-  pub best : s.be v ≡ setup_state.be v
-  pub test : s.te v ≡ setup_state.te v
-  pub branch : s.ib v ≡ setup_state.ib v
-  pub count : s.fc v ≡ setup_state.fc v
-  pub halted : s.halt v ≡ setup_state.halt v
-  pub markings : (k : ℕ) → s.mark v k ≡ setup_state.mark v k
-
--- v's part is as at setup, its channels with it
-pub record PartAsleep (p : Network) (s : ProtocolState) (v : ℕ) : Type 0 where
-  pub nodes : (u : ℕ) → SamePart p.g v u → NodeAsleep s u
-  pub channels : (k a b : ℕ) → Edge p k a b → SamePart p.g v a → s.ch a k ≡ setup_state.ch a k
-
--- no message is on any channel; each part with an awake node, u, is finished; each part with none is asleep
-pub record AllFinished (p : Network) (s : ProtocolState) : Type 0 where
-  pub silent : (k a b : ℕ) → Edge p k a b → s.ch a k ≡ []
-  pub awake : (v u : ℕ) → SamePart p.g v u → s.st u ≢ 0 → PartFinished p s v
-  pub asleep : (v : ℕ) → ((u : ℕ) → SamePart p.g v u → s.st u ≡ 0) → PartAsleep p s v
 
 -- ---- a part in which nobody is awake, in any state with the invariant
 
