@@ -7,8 +7,10 @@ pub mod Copies
 pub mod Fin
 pub mod Finish
 pub mod Wake
+pub mod ConnectCases
 pub mod Connect
 pub mod Initiate
+pub mod TestCases
 pub mod Test
 pub mod Report
 pub mod Bridge
