@@ -2,6 +2,7 @@
 -- claims alone tell.
 pub mod OneLayout
 pub mod Saves
+pub mod Needed
 pub mod Sequence
 pub mod Outcomes
 pub mod Back

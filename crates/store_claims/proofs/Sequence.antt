@@ -1,18 +1,16 @@
 -- Any sequence of saves leaves a whole store, and a save fits exactly if the records that stay and the new one fit (`stays-whole`).
-use Rattle.std.specs.Prelude.{ℕ, ◌+◌, ◌≤◌, ◌≡◌, ◌↔◌, true, List, [], ◌∷◌, ◌++◌}
-use Rattle.std.proofs.Common.{arith, ◌∙◌, append-nil}
+use Rattle.std.specs.Prelude.{ℕ, ◌+◌, ◌≤◌, ◌≡◌, ◌↔◌, true, List, [], ◌∷◌}
+use Rattle.std.proofs.Common.{arith, ◌∙◌}
 use Rattle.std.proofs.Math.Path.{ap}
-use Rattle.std.proofs.Math.ListN.{length, length-append}
+use Rattle.std.proofs.Math.ListN.{length}
 use Rattle.base.proofs.laws.Cond.{by-eq}
 use Rattle.field.specs.Held.{Held, valid}
 use Rattle.store.specs.Records.{records_in, joined}
 use Rattle.store.specs.Names.{name_fits, is_named, without_first}
-use Rattle.store.specs.Layout.{record_bytes}
-use Rattle.store.specs.Calls.{store_fits, saved, save_refusal, save_point}
+use Rattle.store.specs.Calls.{store_fits, save_refusal, save_point}
 use Rattle.store.specs.Claims.{record_length, Save, all_saved, StaysWhole}
-use Rattle.store_records.specs.Walk.{joined-append}
-use Rattle.store_claims.proofs.OneLayout.{reads-back}
 use Rattle.store_claims.proofs.Saves.{save-passed, passed-save, save-refused, taken-saves}
+use Rattle.store_claims.proofs.Needed.{needed}
 
 module _ (name : List ℕ) (h : Held) (s : List ℕ) where
   save-whole : store_fits s ≡ true → store_fits (save_point name h s).state ≡ true
@@ -20,17 +18,9 @@ module _ (name : List ℕ) (h : Held) (s : List ℕ) where
   save-whole e = by-eq (save_refusal name h s) 0 (λ z. (taken-saves name h s z).fits) (λ d. ap store_fits (save-refused name h s d) ∙ e)
 
   module _ (v : valid h ≡ true) (e : store_fits s ≡ true) (n : name_fits name ≡ true) where
-    needed : length (joined (saved name h s)) ≡ length (joined (without_first (is_named name) (records_in s))) + record_length name h
-    unfolding saved joined
-    needed =
-        let others = without_first (is_named name) (records_in s) in
-        let r = record_bytes name h in
-        ap length (joined-append others (r ∷ []) ∙ ap (λ t. joined others ++ t) (append-nil r)) ∙ length-append (joined others) r
-        ∙ ap (λ k. length (joined others) + k) (reads-back name h n v).size
-
     save-exact : ((save_point name h s).refusal ≡ 0) ↔ (length (joined (without_first (is_named name) (records_in s))) + record_length name h ≤ length s)
     unfolding save_point
-    save-exact = (λ z. omega (arith, (save-passed name h s z).room, needed), λ l. passed-save name h s (record { valid = v; whole = e; good = n; room = omega (arith, needed) }))
+    save-exact = (λ z. omega (arith, (save-passed name h s z).room, needed name h s v e n), λ l. passed-save name h s (record { valid = v; whole = e; good = n; room = omega (arith, needed name h s v e n) }))
 
 all_whole : (s : List ℕ) → store_fits s ≡ true → (l : List Save) → store_fits (all_saved l s) ≡ true
 unfolding all_saved
