@@ -21,5 +21,5 @@ module _ {p : Network} (keeps : Keeps p) {s : ProtocolState} {r : Real} {u v k l
 
   pub connect-fin : Fin p r v 0 (length w.sends) (on_connect o limit l k w) s ⊎ ((on_connect o limit l k w ≡ put_back w) × Blocked s v k (connect l))
   connect-fin = by_cases (dec_le (s.lev v) l)
-      (λ le. by-eq (s.mark v k) 0 (λ b. inr (C.waits keeps sv le b, (le, b))) (λ b. inl (C.core-fin keeps sv le b)))
+      (λ le. by-eq (s.mark v k) 0 (λ b. inr (C.waits-connect keeps sv le b, (le, b))) (λ b. inl (C.core-fin keeps sv le b)))
       (λ n. inl (C.absorb-fin keeps sv (omega arith)))

@@ -1,4 +1,4 @@
--- (3) The cases of the response to Connect of an awake node: taken as a small step (`absorb-fin`, `core-fin`), or put back (`waits`).
+-- (3) The cases of the response to Connect of an awake node: taken as a small step (`absorb-fin`, `core-fin`), or put back (`waits-connect`).
 use Rattle.std.specs.Prelude.{ℕ, ◌+◌, ◌≤◌, ◌<◌, ◌≡◌, refl, ◌≢◌, List, length}
 use Rattle.std.proofs.Common.{arith, sym, ap, ap₂, subst, ◌∙◌, inl, inr}
 use Rattle.base.proofs.laws.Cond.{by-eq, upd_same}
@@ -57,5 +57,5 @@ module _ {p : Network} (keeps : Keeps p) {s : ProtocolState} {r : Real} {u v k l
       (fin-last (core-reply sv.idle sv.ends sv.awake sv.head le b) (one_more w k m) sv.idle sv.fresh (at-send sv.at k m))
 
   -- Basic: put back
-  pub waits : s.lev v ≤ l → s.mark v k ≡ 0 → on_connect o limit l k w ≡ put_back w
-  waits le b = connect-waits o limit l k w (omega (arith, lev-is sv.at)) (sym (mark-at sv.at k) ∙ b)
+  pub waits-connect : s.lev v ≤ l → s.mark v k ≡ 0 → on_connect o limit l k w ≡ put_back w
+  waits-connect le b = connect-waits o limit l k w (omega (arith, lev-is sv.at)) (sym (mark-at sv.at k) ∙ b)

@@ -31,4 +31,4 @@ module _ {p : Network} (keeps : Keeps p) {s : ProtocolState} {r : Real} {u v k l
 
   pub asked-fin : Fin p r v 0 (length w.sends) (on_test o l f k w) s ⊎ ((on_test o l f k w ≡ put_back w) × Blocked s v k (test l f))
   asked-fin = by_cases (dec_le l (s.lev v)) (λ le. inl (answered-fin le))
-      (λ n. let b : s.lev v < l = omega arith in inr (T.waits keeps sv b, b))
+      (λ n. let b : s.lev v < l = omega arith in inr (T.waits-test keeps sv b, b))

@@ -1,5 +1,5 @@
--- (6) The cases of the response to Test of an awake node: answered by small steps (`other-fin`, `crossed-fin`, `own-fin`), or put back (`waits`). And what a
--- crossed Test and a Reject do alike (`strikes`, `struck-fin`).
+-- (6) The cases of the response to Test of an awake node: answered by small steps (`other-fin`, `crossed-fin`, `own-fin`), or put back (`waits-test`).
+-- What a crossed Test and a Reject do alike: `strikes`, `struck-fin`.
 use Rattle.std.specs.Prelude.{ℕ, suc, ◌≤◌, ◌<◌, ◌≡◌, refl, ◌≢◌, cond, List, length, eqb}
 use Rattle.std.proofs.Common.{arith, sym, ◌∙◌, inl, inr}
 use Rattle.base.proofs.laws.Cond.{eqb-cases}
@@ -49,5 +49,5 @@ module _ {p : Network} (keeps : Keeps p) {s : ProtocolState} {r : Real} {u v k l
         (fin-last (reject-test sv.idle sv.ends sv.awake sv.head le e n (strikes sv)) (one_more w k reject) sv.idle sv.fresh (at-send (at_mark sv.at k (struck w k)) k reject))
 
   -- from above: put back
-  pub waits : s.lev v < l → on_test o l f k w ≡ put_back w
-  waits b = test-waits o l f k w (omega (arith, lev-is sv.at))
+  pub waits-test : s.lev v < l → on_test o l f k w ≡ put_back w
+  waits-test b = test-waits o l f k w (omega (arith, lev-is sv.at))

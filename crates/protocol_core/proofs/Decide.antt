@@ -11,7 +11,7 @@ use Rattle.protocol_core.proofs.Rooted.{RootReady, inv-rooted}
 module _ {p : Network} {s : ProtocolState} (i : Inv p s) {u v k w : ℕ} {r : List Msg} (idle : Idle s) (ends : Edge p k u v) (q : s.ch u k ≡ report w ∷ r)
     (ib : s.ib v ≡ k) (found : s.st v ≢ 1) (later : key p (s.bw v) < key p w) where
   abbrev core : CoreEnds s u v k w
-  core = L.core i idle ends q ib found later
+  core = L.core-later i idle ends q ib found later
 
   -- v's best weight bounds what is Basic in the fragment
   bounds : Bounds p s (key p (s.bw v)) v
@@ -40,7 +40,7 @@ module _ {p : Network} {s : ProtocolState} (i : Inv p s) {u v k w : ℕ} {r : Li
     ib = ib;
     ub-v = C.ub-v i ends q idle found core;
     ub-u = C.ub-u i ends q idle found core;
-    some = L.some i idle ends q ib found later;
+    some = L.some-later i idle ends q ib found later;
     bounds = bounds;
     fresh = λ z. omega (arith, C.core-undecided i ends q idle found core);
     unfinished = λ z. omega (arith, C.core-undecided i ends q idle found core);
