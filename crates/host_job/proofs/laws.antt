@@ -1,4 +1,5 @@
 pub mod Wakes
 pub mod Job
 pub mod Held
+pub mod Outcome
 pub mod Agrees

@@ -1,87 +1,34 @@
 -- What the whole job leaves, by demand 3: not refused, the lowest module of each part woken, at rest within M + N rounds (`job-outcome`), and every module marks
 -- exactly the tree that the central builder writes (`same-tree`, `same-others`).
-use Rattle.std.specs.Prelude.{ℕ, ◌+◌, ◌≤◌, ◌<◌, ◌≡◌, true, cond, length, get_or}
-use Rattle.std.proofs.Common.{arith, sym, ap₂, subst, ◌∙◌, inl, inr, take_all}
+use Rattle.std.specs.Prelude.{ℕ, ◌<◌, ◌≡◌, length, get_or}
+use Rattle.std.proofs.Common.{arith, sym, ap₂, subst, ◌∙◌}
 use Rattle.std.proofs.Math.Path.{refl, ap}
 use mathlib.Core.List.Memᴰ
-use mathlib.Core.List.{List, [], ◌∷◌, ◌++◌, append-nil, map, head-eq_of_cons-eq, tail-eq_of_cons-eq, Memᴰ}
-use Rattle.base.specs.Limits.{max_modules}
-use Rattle.base.specs.Loop.{Ran, runs_trace}
-use Rattle.base.specs.Pool.{All, con}
-use Rattle.base.proofs.laws.Pool.{All-map}
+use mathlib.Core.List.{List, [], ◌∷◌, ◌++◌, map, head-eq_of_cons-eq, tail-eq_of_cons-eq, Memᴰ}
 use Rattle.graph.specs.Graph.{stop}
-use Rattle.graph.specs.Parts.{lowests}
-use Rattle.graph.proofs.laws.Parts.{lowest-of, lowests-are, in-lowests}
+use Rattle.graph.proofs.laws.Parts.{lowest-of, in-lowests}
 use Rattle.graph.proofs.laws.Ways.{way-append, way-reverse}
 use Rattle.plan.specs.Links.{Plan, modules_of, links_of, lower_of, graph_of}
 use Rattle.plan.specs.Trimmed.{trimmed}
-use Rattle.plan.specs.Same.{Same}
 use Rattle.plan.proofs.laws.Accepted.{accepted}
 use Rattle.plan.proofs.laws.Same.{same-sym, same_way}
 use Rattle.plan.proofs.laws.Trimmed.{trimmed-same}
-use Rattle.plan.proofs.laws.Ceiling.{ceiling-small}
-use Rattle.node.specs.Work.{ASLEEP, BRANCH, REJECTED}
-use Rattle.field.specs.Edges.{ceiling_of}
-use Rattle.field.specs.State.{State, node_at}
-use Rattle.field.specs.Held.{Held, state_of, valid, set_up}
+use Rattle.node.specs.Work.{BRANCH, REJECTED}
+use Rattle.field.specs.Held.{state_of, set_up}
 use Rattle.field_calls.specs.declared.Step.{Step}
-use Rattle.field_calls.specs.Schedule.{steps_in, kind_of, number_of, step_at, never, schedule_run, list_run}
-use Rattle.field_calls.proofs.laws.Schedule.{run-list}
-use Rattle.field_calls.specs.Call.{Call, run, rounds, after, answers, does, laid_back, run_bytes, run_rounds}
-use Rattle.field_calls.specs.Trail.{Taken, trail, steps_of, if_taken, messages_sent, woken_in, wakes_one}
-use Rattle.field_calls.specs.Demand.{BothSay, InPart, Agreed, Allowed, ComesToRest, Claim}
-use Rattle.field_laws.proofs.After.{started, trimmed-ceiling, begun-live, fresh-node}
-use Rattle.field_laws.proofs.Laid.{Live}
+use Rattle.field_calls.specs.Call.{run, rounds, after, does}
+use Rattle.field_calls.specs.Trail.{Taken, trail, woken_in, wakes_one}
+use Rattle.field_calls.specs.Demand.{BothSay, InPart, Agreed}
+use Rattle.field_laws.proofs.After.{trimmed-ceiling}
 use Rattle.field_roundlaws.proofs.Awake.{woken-app, all-member}
-use Rattle.demand.proofs.Demand.{demand3}
 use Rattle.plan_tree.specs.Tree.{central_tree}
 use Rattle.plan_tree.proofs.laws.Theorems.{written-tree, tree-written}
-use Rattle.host_job.specs.Job.{wakes_of, job_wakes, max_rounds, job_run}
-use Rattle.host_job.proofs.laws.Wakes.{wake_of, step_in, wakes-many, wakes-fit, wakes-steps, wakes-taken, CarriedAs, Sleeper, sleepers-carried, lowests-once}
+use Rattle.host_job.specs.Job.{job_wakes, max_rounds, job_run}
+use Rattle.host_job.proofs.laws.Wakes.{wake_of, step_in}
 use Rattle.host_job.proofs.laws.Job.{set-taken}
 use Rattle.host_job.proofs.laws.Held.{same-agreed}
-
--- the calls that it makes
-abbrev pub calls : Plan → List Call
-calls p = run (job_wakes p) ∷ rounds max_rounds ∷ []
-
--- of 0, 32 and 33 demand 3 leaves 0
-unrefused : (r : ℕ) (bytes : List ℕ) → CarriedAs r → Allowed (run bytes) r → r ≡ 0
-unrefused r b (inl e) a = e
-unrefused r b (inr (inl e)) (inl z) = z
-unrefused r b (inr (inl e)) (inr (inl h)) = omega (arith, h.0)
-unrefused r b (inr (inl e)) (inr (inr h)) = omega (arith, h.0)
-unrefused r b (inr (inr e)) (inl z) = z
-unrefused r b (inr (inr e)) (inr (inl h)) = omega (arith, h.0)
-unrefused r b (inr (inr e)) (inr (inr h)) = omega (arith, h.0)
-
-head : {A : Type 0} {P : A → Type 0} {x : A} {l : List A} → All P (x ∷ l) → P x
-head (con h t) = h
-
--- a run of wakes in a field that 31 does not refuse: how it ends, and what it takes
-module _ (l : List ℕ) (h : Held) (live : valid h ≡ true) where
-  abbrev wakes_run : Ran State
-  wakes_run = schedule_run h.field.plan (wakes_of l) (state_of h)
-
-  wakes-run : run_bytes (wakes_of l) h ≡ laid_back h wakes_run
-  unfolding run_bytes
-  wakes-run = rw (live, wakes-fit l) refl
-
-  -- if none is refused, the steps taken are the wakes
-  wakes-trail : wakes_run.refusal ≡ 0 → map step_in (trail (run (wakes_of l) ∷ []) h) ≡ map wake_of l
-  unfolding trail steps_of
-  wakes-trail z =
-      let q = h.field.plan in
-      let b = wakes_of l in
-      let n = steps_in b in
-      let told = runs_trace never n (step_at q b) (λ i. if_taken q (kind_of b i) (number_of b i)) (state_of h) in
-      rw (live, wakes-fit l, append-nil told)
-      (wakes-taken q l (state_of h) n (omega (arith, wakes-many l)) z ∙ ap (map wake_of) (take_all n l (omega (arith, wakes-many l))))
-
-  -- what more calls take comes behind
-  trail-on : (cs : List Call) → trail (run (wakes_of l) ∷ cs) h ≡ trail (run (wakes_of l) ∷ []) h ++ trail cs (does (run (wakes_of l)) h).state
-  unfolding trail
-  trail-on cs = ap (λ t. t ++ trail cs (does (run (wakes_of l)) h).state) (sym (append-nil (cond (valid h) (steps_of h.field.plan (run (wakes_of l)) (state_of h)) [])))
+use Rattle.host_job.proofs.laws.Outcome.{trail-on, start, live, first, whole, low, room, JobOutcome, waking}
+pub use Rattle.host_job.proofs.laws.Outcome.{calls, job_is}
 
 -- steps that are wakes wake these modules
 woken-these : (q : Plan) (t : List Taken) (l : List ℕ) → map step_in t ≡ map wake_of l → woken_in q t ≡ l
@@ -94,101 +41,44 @@ woken-these q (x ∷ t) (v ∷ l) e =
     rw (ap (λ (y : Step). y.kind) s) (ap₂ ◌∷◌ (ap (λ (y : Step). y.number) s) (woken-these q t l (tail-eq_of_cons-eq e)))
 
 module _ (p : Plan) (lent : List ℕ) (ok : (set_up p lent).refusal ≡ 0) where
-  abbrev start : Held
-  start = (set_up p lent).state
-
-  -- the plan as the field holds it
-  abbrev held : Plan
-  held = trimmed p
-
-  same : Same p held
-  same = trimmed-same p
-
-  live : Live start
-  live = let q = started p lent ok in subst Live (sym q.is) (begun-live held lent q.plan q.room)
-
-  first : Claim held start (run (job_wakes p) ∷ [])
-  first = demand3 p lent ok (run (job_wakes p) ∷ [])
-
-  whole : Claim held start (calls p)
-  whole = demand3 p lent ok (calls p)
-
-  own : start.field.plan ≡ held
-  own = ap (λ (h : Held). h.field.plan) (started p lent ok).is
-
-  abbrev low : List ℕ
-  low = lowests (graph_of p) (modules_of p)
-
-  -- at the start all are asleep, so each wake is taken
-  taken : (wakes_run low start live.valid).refusal ≡ 0
-  unfolding answers does
-  taken =
-      let q = started p lent ok in
-      let few = (accepted held q.plan).modules_ok in
-      let asleep : (v : ℕ) → v < max_modules → (node_at (state_of start) v).status ≡ ASLEEP =
-      λ v l. ap (λ s. (node_at (state_of s) v).status) q.is ∙ ap (λ n. n.status) (fresh-node v l) in
-      let sleepers : All (Sleeper start.field.plan (state_of start)) low =
-      All-map (λ v h. (omega (arith, h.0, ap modules_of own, same.modules), asleep v (omega (arith, h.0, same.modules, few)))) (lowests-are (graph_of p) (modules_of p)) in
-      let carried = sleepers-carried start.field.plan 0 (state_of start) (lowests-once (graph_of p) (modules_of p)) sleepers in
-      let is = run-list start.field.plan (job_wakes p) (state_of start) ∙ ap (λ l. list_run start.field.plan 0 l (state_of start)) (wakes-steps low) in
-      unrefused _ (job_wakes p) (subst CarriedAs (sym (ap (λ (r : Ran State). r.refusal) is)) carried)
-      (subst (Allowed (run (job_wakes p))) (ap (λ (r : Ran Held). r.refusal) (wakes-run low start live.valid)) (head first.refusals))
-
-  wakes : (run_bytes (job_wakes p) start).refusal ≡ 0
-  wakes = ap (λ (r : Ran Held). r.refusal) (wakes-run low start live.valid) ∙ taken
-
-  -- M + N is below the limit
-  room : ceiling_of held + modules_of held ≤ max_rounds
-  room = let k = (started p lent ok).plan in omega (arith, ceiling-small held k, (accepted held k).modules_ok)
-
-  -- so the job is that list of calls
-  pub job_is : job_run p lent ≡ run_rounds max_rounds (run_bytes (job_wakes p) start).state
-  unfolding job_run
-  job_is = rw (ok, wakes) refl
-
-  -- AT THE END: "comes to rest unrefused within N more rounds than the ceiling"; the sent count is exact and within the ceiling; in each part all modules agree
-  -- on the tree, and exactly the ends of one tree link have halted, or the one module
-  pub record JobOutcome : Type 0 where
-    -- it runs the wakes, then rounds
-    pub is : job_run p lent ≡ run_rounds max_rounds (run_bytes (job_wakes p) start).state
-    -- "wakes the lowest module of each part" (request 08), all before the first round; nobody where there is nobody
-    pub wakes : map step_in (trail (run (job_wakes p) ∷ []) start) ≡ map wake_of (lowests (graph_of p) (modules_of p))
-    pub rests : ComesToRest p (job_run p lent)
-    -- (sends are those of the plan as the field holds it)
-    pub exact : (state_of (job_run p lent).state).sent ≡ messages_sent held (trail (calls p) start)
-    pub ceiling : (state_of (job_run p lent).state).sent ≤ ceiling_of p
-    pub agreed : (w : ℕ) → w < modules_of p → Agreed p (state_of (job_run p lent).state) (InPart p w)
-
-  waking : map step_in (trail (run (job_wakes p) ∷ []) start) ≡ map wake_of low
-  waking = wakes-trail low start live.valid taken
-
   -- the lowest modules are the first that are woken
-  woken : woken_in held (trail (calls p) start) ≡ low ++ woken_in held (trail (rounds max_rounds ∷ []) (does (run (job_wakes p)) start).state)
-  woken = ap (woken_in held) (trail-on low start live.valid (rounds max_rounds ∷ []))
-      ∙ woken-app held (trail (run (job_wakes p) ∷ []) start) _
-      ∙ ap (λ t. t ++ woken_in held (trail (rounds max_rounds ∷ []) (does (run (job_wakes p)) start).state)) (woken-these held _ low waking)
+  woken : let q = trimmed p in let s = start p lent ok in
+      woken_in q (trail (calls p) s) ≡ low p lent ok ++ woken_in q (trail (rounds max_rounds ∷ []) (does (run (job_wakes p)) s).state)
+  woken =
+      let q = trimmed p in
+      let s = start p lent ok in
+      let l = low p lent ok in
+      ap (woken_in q) (trail-on l s (live p lent ok).valid (rounds max_rounds ∷ []))
+      ∙ woken-app q (trail (run (job_wakes p) ∷ []) s) _
+      ∙ ap (λ t. t ++ woken_in q (trail (rounds max_rounds ∷ []) (does (run (job_wakes p)) s).state)) (woken-these q _ l (waking p lent ok))
 
   -- a module's part is that of its lowest module
-  part-agreed : (w : ℕ) → w < modules_of p → Agreed p (state_of (after (calls p) start)) (InPart p w)
+  part-agreed : (w : ℕ) → w < modules_of p → Agreed p (state_of (after (calls p) (start p lent ok))) (InPart p w)
   unfolding after does
   part-agreed w l =
       let m = lowest-of (graph_of p) w in
+      let same = trimmed-same p in
       same-agreed (same-sym same) _
       (λ v i. (omega (arith, i.0, same.modules), way-append (way-reverse m.joins) (same_way (same-sym same) (λ k h t. t) i.1)))
       (λ v i. (omega (arith, i.0, same.modules), same_way same (λ k h t. t) (way-append m.joins i.1)))
-      (all-member (whole.agreed (first.rests max_rounds room).rest)
+      (all-member ((whole p lent ok).agreed ((first p lent ok).rests max_rounds (room p lent ok)).rest)
       (subst (Memᴰ m.node) (sym woken) (Memᴰ.append_left _ (in-lowests (graph_of p) (modules_of p) m.node (omega (arith, m.low)) m.lowly))))
 
-  pub job-outcome : JobOutcome
+  pub job-outcome : JobOutcome p lent ok
   unfolding after does
-  job-outcome = record {
-    is = job_is;
-    wakes = waking;
-    rests = let r = first.rests max_rounds room in rw job_is (record { rest = r.rest; unrefused = r.unrefused; within = omega (arith, r.within, trimmed-ceiling p, same.modules) });
-    exact = rw job_is whole.exact;
-    ceiling = rw job_is (omega (arith, whole.ceiling, trimmed-ceiling p));
-    agreed = λ w l. rw job_is (part-agreed w l);
-  }
+  job-outcome =
+      let run_is = job_is p lent ok in
+      let claim = whole p lent ok in
+      record {
+        is = run_is;
+        wakes = waking p lent ok;
+        rests =
+            let r = (first p lent ok).rests max_rounds (room p lent ok) in
+            rw run_is (record { rest = r.rest; unrefused = r.unrefused; within = omega (arith, r.within, trimmed-ceiling p, (trimmed-same p).modules) });
+        exact = rw run_is claim.exact;
+        ceiling = rw run_is (omega (arith, claim.ceiling, trimmed-ceiling p));
+        agreed = λ w l. rw run_is (part-agreed w l);
+      }
 
   -- THE TREE OF THE CENTRAL BUILDER: both ends of a link say branch where its byte is 1, rejected where it is 0
   module _ (out : List ℕ) (built : (central_tree p out).refusal ≡ 0) (k : ℕ) (l : k < links_of p) where
