@@ -14,15 +14,6 @@ fn there() -> BTreeSet<String> {
             }
         }
     }
-    // those that PORTING-LEFT.md names, until they are back
-    for folder in fs::read_dir("docs/left").into_iter().flatten().flatten() {
-        for edit in fs::read_dir(folder.path()).into_iter().flatten().flatten() {
-            let (of, edit) = (folder.file_name(), edit.file_name());
-            if let Some(edit) = edit.to_string_lossy().strip_suffix(".edit") {
-                found.insert(format!("{}/{edit}", of.to_string_lossy()));
-            }
-        }
-    }
     found
 }
 
@@ -60,9 +51,7 @@ pub fn lost<'a>(text: &'a str, read: impl Fn(&str) -> String) -> Option<&'a str>
 }
 
 fn text(edit: &str) -> String {
-    fs::read_to_string(format!("crates/{}.edit", edit.replace('/', "/must-fail/")))
-        .or_else(|_| fs::read_to_string(format!("docs/left/{edit}.edit")))
-        .unwrap_or_default()
+    fs::read_to_string(format!("crates/{}.edit", edit.replace('/', "/must-fail/"))).unwrap_or_default()
 }
 
 /// The edits that a row names: those of one crate, or any.

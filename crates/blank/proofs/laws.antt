@@ -1,5 +1,10 @@
+pub mod Taken
 pub mod Plans
+pub mod Bytes
 pub mod Fields
+pub mod Rounds
+pub mod Calls
+pub mod Job
 pub mod Program
 pub mod Claim
 pub mod Samples

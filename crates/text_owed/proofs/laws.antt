@@ -1,4 +1,5 @@
 pub mod Reported
+pub mod Room
 pub mod ReportFits
 pub mod ReportLong
 pub mod Tree

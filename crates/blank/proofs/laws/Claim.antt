@@ -1,21 +1,40 @@
 -- REQUEST 04 HOLDS (`blank-claim`); so no list of calls from the blank plan's setup wakes a module (`nobody-woken`), and paths and marks meet 41,
 -- whatever is asked (`nobody-between`, `nobody-near`).
-use Rattle.std.specs.Prelude.{ℕ, ◌≡◌, List, []}
+use Rattle.std.specs.Prelude.{ℕ, ◌≡◌, List, [], true}
 use Rattle.std.proofs.Math.Path.{refl, ap}
 use Rattle.std.proofs.Common.{sym, subst, ◌∙◌}
 use Rattle.base.specs.Loop.{After}
 use Rattle.plan.specs.Links.{Plan}
 use Rattle.plan.specs.Trimmed.{trimmed}
 use Rattle.plan_file.proofs.laws.RoundTrip.{read-refusal}
-use Rattle.field.specs.Held.{Held, set_up}
+use Rattle.field.specs.Held.{Held, valid, set_up}
 use Rattle.field_calls.specs.Call.{Call}
 use Rattle.field_calls.specs.Trail.{trail, woken_in}
 use Rattle.path.specs.Between.{path_between}
 use Rattle.path.specs.Near.{mark_near}
-use Rattle.blank.specs.Claim.{Blank, BlankPlan, BlankClaim}
-use Rattle.blank.proofs.laws.Plans.{trimmed-blank, blank-taken, blank-ceiling, blank-limit, blank-written, blank-short, blank-tree, blank-tree-20, blank-paths, blank-near, read-blank, above-192, bytes-above-192, link-meets-16, bytes-meet-16, links-meet-15, bytes-meet-15}
-use Rattle.blank.proofs.laws.Fields.{blank-set, blank-valid, blank-field}
-use Rattle.blank.proofs.laws.Program.{blank_begun, blank-begun, blank-job, blank-prints, blank-traces}
+use Rattle.blank.specs.Claim.{Blank, OnBlankField, BlankPlan, BlankClaim}
+use Rattle.blank.proofs.laws.Taken.{blank-taken}
+use Rattle.blank.proofs.laws.Plans.{trimmed-blank, blank-ceiling, blank-limit, blank-written, blank-short, blank-tree, blank-tree-20, blank-paths, blank-near, read-blank, above-192, link-meets-16, links-meet-15}
+use Rattle.blank.proofs.laws.Bytes.{bytes-above-192, bytes-meet-16, bytes-meet-15}
+use Rattle.blank.proofs.laws.Fields.{blank-set, blank-valid, blank-step, blank-run, blank-rest, blank-start, blank-deliver}
+use Rattle.blank.proofs.laws.Rounds.{blank-rounds}
+use Rattle.blank.proofs.laws.Calls.{blank-preview, blank-trail, blank-after}
+use Rattle.blank.proofs.laws.Job.{blank_begun, blank-begun, blank-job}
+use Rattle.blank.proofs.laws.Program.{blank-prints, blank-traces}
+
+module _ (h : Held) (b : Blank h.field.plan) (v : valid h ≡ true) where
+  blank-field : OnBlankField h
+  blank-field = record {
+    steps = blank-step h b v;
+    previews = blank-preview h b v;
+    runs = blank-run h b v;
+    rest = blank-rest h b v;
+    rounds = blank-rounds h b v;
+    still = blank-trail h b v;
+    same = blank-after h b v;
+    start = blank-start h b v;
+    deliver = blank-deliver h b v;
+  }
 
 blank-plan : (p : Plan) → Blank p → BlankPlan p
 blank-plan p b = record {

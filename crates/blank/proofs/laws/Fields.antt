@@ -1,5 +1,5 @@
--- A field of a plan with nobody in it: what 31 asks of it (`blank-valid`); no step is taken, by no list of calls (`blank-step`, `blank-rounds`, `blank-trail`,
--- `blank-after`); no cue is started or delivered (`blank-start`, `blank-deliver`).
+-- A field of a plan with nobody in it: what setup leaves (`blank-set`), what 31 asks of it (`blank-valid`); no step is taken (`blank-step`, `blank-run`),
+-- it is at rest (`blank-rest`), and no cue is started or delivered (`blank-start`, `blank-deliver`).
 use Prim.Native.Nat.{ℕ, zero, suc, ◌-◌}
 use Rattle.std.proofs.Common.{arith, sym, ◌∙◌}
 use Rattle.std.specs.Prelude.{◌≡◌, ◌≢◌, ◌↔◌, Bool, false, cond, length, ltb}
@@ -36,7 +36,8 @@ use Rattle.cue.specs.declared.Delivery.TheVariants.{Refused}
 use Rattle.cue.specs.Record.{record_of}
 use Rattle.cue.specs.Calls.{branches_agree, is_sender, left_by_sending, start_refusal, start_cue, delivery_refusal, deliver_cue}
 use Rattle.blank.specs.Claim.{Blank, zero_words, blank_step, blank_run, OnBlankField}
-use Rattle.blank.proofs.laws.Plans.{blank-taken, blank-ceiling}
+use Rattle.blank.proofs.laws.Taken.{blank-taken}
+use Rattle.blank.proofs.laws.Plans.{blank-ceiling}
 
 -- SETUP
 
@@ -85,7 +86,7 @@ module _ (h : Held) (b : Blank h.field.plan) where
 
 -- STEPS
 
-some_number : (kind : ℕ) → blank_step kind ≢ 0
+pub some_number : (kind : ℕ) → blank_step kind ≢ 0
 some_number kind = bool_cases (eqb kind WAKE) (λ e. rw e (λ z. omega arith)) (λ e. rw e
     (bool_cases (eqb kind HAND) (λ f. rw f (λ z. omega arith)) (λ f. rw f
     (bool_cases (eqb kind SERVE) (λ g. rw g (λ z. omega arith)) (λ g. rw g (λ z. omega arith))))))
@@ -98,32 +99,17 @@ module _ (p : Plan) (b : Blank p) (s : State) where
       (bool_cases (eqb kind HAND) (λ f. rw f refl) (λ f. rw f
       (bool_cases (eqb kind SERVE) (λ g. rw g refl) (λ g. rw g refl))))))
 
-  none-taken : (kind number : ℕ) → if_taken p kind number s ≡ []
+  pub none-taken : (kind number : ℕ) → if_taken p kind number s ≡ []
   unfolding if_taken
   none-taken kind number = rw (step-refused kind number, ne_eqb _ 0 (some_number kind)) refl
 
-  round-still : round p s ≡ taken_to s
+  pub round-still : round p s ≡ taken_to s
   unfolding round then loop
   round-still = rw (b.nobody, b.unlinked) refl
 
-  round-none : round_steps p s ≡ []
+  pub round-none : round_steps p s ≡ []
   unfolding round_steps then loop loop_trace
   round-none = rw (b.nobody, b.unlinked) refl
-
--- turns that leave all as it was, and tell nothing
-module _ {S : Type 0} (rest : S → Bool) (g : ℕ → S → After S) (x : S) (keeps : (k : ℕ) → (g k x).state ≡ x) where
-  runs_same : (n : ℕ) → (runs rest n g x).state ≡ x
-  runs_same n = runs-keep (λ y. y ≡ x) rest n g x refl (λ k y l e. ap (λ z. (g k z).state) e ∙ keeps k)
-
-  runs-silent : {E : Type 0} (t : ℕ → S → List E) → ((k : ℕ) → t k x ≡ []) → (n : ℕ) → runs_trace rest n g t x ≡ []
-  unfolding runs_trace
-  runs-silent t q zero = refl
-  runs-silent t q (suc n) =
-      let r = runs rest n g x in
-      ap₂ ◌++◌ (runs-silent t q n)
-      (bool_cases (eqb r.refusal 0 && not (rest r.state))
-      (λ e. rw e (ap (t n) (runs_same n) ∙ q n))
-      (λ e. rw e refl))
 
 -- CALLS
 
@@ -131,11 +117,6 @@ module _ (h : Held) (b : Blank h.field.plan) (v : valid h ≡ true) where
   pub blank-step : (kind number : ℕ) → step_alone kind number h ≡ refused_by (blank_step kind) h
   unfolding step_alone
   blank-step kind number = rw (v, step-refused h.field.plan b (state_of h) kind number) (ap (refused_by (blank_step kind)) (held_same h v))
-
-  pub blank-preview : (kind number : ℕ) (buffer : List ℕ) → preview kind number h buffer ≡ not_shown (blank_step kind) buffer
-  blank-preview kind number buffer =
-      let r : (step_alone kind number h).refusal ≡ blank_step kind = ap (λ a. a.refusal) (blank-step kind number) in
-      preview-refused kind number h buffer (λ z. some_number kind (sym r ∙ z)) ∙ ap (λ n. not_shown n buffer) r
 
   -- the first step of a schedule ends it
   run-ends-at-once : (bytes : List ℕ) → schedule_run h.field.plan bytes (state_of h)
@@ -157,40 +138,6 @@ module _ (h : Held) (b : Blank h.field.plan) (v : valid h ≡ true) where
   pub blank-rest : at_rest (state_of h) ≡ true
   blank-rest = rw (nothing-waits h b v) refl
 
-  pub blank-rounds : (limit : ℕ) → run_rounds limit h ≡ record { done = 0; refusal = 0; state = h }
-  unfolding run_rounds runs
-  blank-rounds limit =
-      let p = h.field.plan in
-      rw (v, runs-rest at_rest (λ i. round p) 0 (state_of h) (state_of h) refl limit (omega arith) blank-rest) (ap (λ (k : Held). record { done = 0; refusal = 0; state = k }) (held_same h v))
-
-  call_same : (c : Call) → (does c h).state ≡ h
-  unfolding does
-  call_same (one kind number) = rw (blank-step kind number) refl
-  call_same (rounds limit) = rw (blank-rounds limit) refl
-  call_same (run bytes) = rw (blank-run bytes) refl
-
-  call_none : (c : Call) → steps_of h.field.plan c (state_of h) ≡ []
-  unfolding steps_of
-  call_none (one kind number) = none-taken h.field.plan b (state_of h) kind number
-  call_none (rounds limit) = runs-silent at_rest (λ i. round h.field.plan) (state_of h)
-      (λ i. ap (λ a. a.state) (round-still h.field.plan b (state_of h))) (λ i. round_steps h.field.plan) (λ i. round-none h.field.plan b (state_of h)) limit
-  call_none (run bytes) = bool_cases (eqb (schedule_refusal bytes) 0)
-      (λ e. rw e (runs-silent never (step_at h.field.plan bytes) (state_of h)
-      (λ i. ap (λ a. a.state) (step-refused h.field.plan b (state_of h) (kind_of bytes i) (number_of bytes i)))
-      (λ i. if_taken h.field.plan (kind_of bytes i) (number_of bytes i))
-      (λ i. none-taken h.field.plan b (state_of h) (kind_of bytes i) (number_of bytes i)) (steps_in bytes)))
-      (λ e. rw e refl)
-
-  pub blank-after : (calls : List Call) → after calls h ≡ h
-  unfolding after
-  blank-after [] = refl
-  blank-after (c ∷ cs) = ap (after cs) (call_same c) ∙ blank-after cs
-
-  pub blank-trail : (calls : List Call) → trail calls h ≡ []
-  unfolding trail
-  blank-trail [] = refl
-  blank-trail (c ∷ cs) = rw (v, call_none c) (ap (trail cs) (call_same c) ∙ blank-trail cs)
-
   -- CUES
 
   unlinked-agrees : branches_agree h.field.plan h.field.marks ≡ true
@@ -208,16 +155,3 @@ module _ (h : Held) (b : Blank h.field.plan) (v : valid h ≡ true) where
   pub blank-deliver : (cues : List Cue) (d : ℕ) → deliver_cue h cues d ≡ record { answer = Refused 73; cues = cues }
   unfolding deliver_cue delivery_refusal
   blank-deliver cues d = rw (v, unlinked-agrees, none-sent cues, or-true (ltb (length cues) (modules_of h.field.plan))) refl
-
-  pub blank-field : OnBlankField h
-  blank-field = record {
-    steps = blank-step;
-    previews = blank-preview;
-    runs = blank-run;
-    rest = blank-rest;
-    rounds = blank-rounds;
-    still = blank-trail;
-    same = blank-after;
-    start = blank-start;
-    deliver = blank-deliver;
-  }

@@ -1,6 +1,6 @@
--- A plan with nobody in it: taken, its ceiling, its bytes, its tree (`blank-taken`, `blank-ceiling`, `blank-written`, `blank-tree`), no path (`blank-paths`,
--- `blank-near`); only its own seven bytes mean it (`read-blank`). 14 is for more than 192 modules alone (`above-192`, `bytes-above-192`), and a link of nobody
--- meets 16 (`link-meets-16`, `bytes-meet-16`), or 15 before it (`links-meet-15`, `bytes-meet-15`).
+-- A plan with nobody in it: its ceiling, its bytes, its tree (`blank-ceiling`, `blank-written`, `blank-tree`), no path (`blank-paths`, `blank-near`);
+-- only its own seven bytes mean it (`read-blank`). 14 is for more than 192 modules alone (`above-192`), and a link of nobody meets 16
+-- (`link-meets-16`), or 15 before it (`links-meet-15`).
 use Prim.Native.Nat.{ℕ, zero, suc, ◌+◌, ◌*◌, ◌-◌, ◌≤◌, ◌<◌}
 use native.Mathlib.Omega.{arith}
 use Rattle.std.specs.Prelude.{◌≡◌, ◌≢◌, ◌↔◌, ◌⊎◌, Bool, false, not, cond, ◌||◌, List, [], ◌∷◌, ◌++◌, length, get_or, drop, eqb}
@@ -32,15 +32,9 @@ use Rattle.path.specs.Near.{mark_near}
 use Rattle.path.proofs.laws.Outcomes.{path-refused-from, near-refused-module}
 use Rattle.field.specs.Edges.{limit_of, ceiling_of}
 use Rattle.blank.specs.Claim.{Blank, blank_bytes, HeadTaken, links_length}
+use Rattle.blank.proofs.laws.Taken.{blank-taken}
 
 module _ (p : Plan) (b : Blank p) where
-  pub blank-taken : plan_refusal p ≡ 0
-  blank-taken = accepted-back p (record {
-    modules_ok = omega (arith, b.nobody);
-    links_ok = omega (arith, b.unlinked);
-    each = λ k l. absurd (omega (arith, b.unlinked));
-  })
-
   pub blank-ceiling : ceiling_of p ≡ 0
   unfolding log2 log2-to
   blank-ceiling = rw (b.nobody, b.unlinked) refl
@@ -55,25 +49,25 @@ module _ (p : Plan) (b : Blank p) where
 
   pub blank-written : (out : List ℕ) → 7 ≤ length out → write_plan p out ≡ taken_to (blank_bytes ++ drop 7 out)
   unfolding write_plan write_refusal
-  blank-written out l = rw (blank-taken, b.unlinked, le-ltb (length out) 7 l, blank-bytes) refl
+  blank-written out l = rw (blank-taken p b, b.unlinked, le-ltb (length out) 7 l, blank-bytes) refl
 
   pub blank-short : (out : List ℕ) → length out < 7 → write_plan p out ≡ refused_by 22 out
   unfolding write_plan write_refusal
-  blank-short out l = rw (blank-taken, b.unlinked, lt-ltb (length out) 7 l) refl
+  blank-short out l = rw (blank-taken p b, b.unlinked, lt-ltb (length out) 7 l) refl
 
   pub blank-tree : central_tree p [] ≡ taken_to []
   unfolding central_tree tree_refusal tree_bytes tabulate
-  blank-tree = rw (blank-taken, b.unlinked) refl
+  blank-tree = rw (blank-taken p b, b.unlinked) refl
 
   pub blank-tree-20 : (x : ℕ) (out : List ℕ) → central_tree p (x ∷ out) ≡ refused_by 20 (x ∷ out)
   unfolding central_tree tree_refusal
-  blank-tree-20 x out = rw (blank-taken, b.unlinked, ne_eqb (length (x ∷ out)) 0 (λ e. omega arith)) refl
+  blank-tree-20 x out = rw (blank-taken p b, b.unlinked, ne_eqb (length (x ∷ out)) 0 (λ e. omega arith)) refl
 
   pub blank-paths : (u v : ℕ) (out : List ℕ) → path_between p u v out ≡ no_path 41 out
-  blank-paths u v out = sym (path-refused-from p u v out blank-taken (omega (arith, b.nobody)))
+  blank-paths u v out = sym (path-refused-from p u v out (blank-taken p b) (omega (arith, b.nobody)))
 
   pub blank-near : (m h : ℕ) (out : List ℕ) → mark_near p m h out ≡ refused_by 41 out
-  blank-near m h out = sym (near-refused-module p m h out blank-taken (omega (arith, b.nobody)))
+  blank-near m h out = sym (near-refused-module p m h out (blank-taken p b) (omega (arith, b.nobody)))
 
 -- THE BYTES
 
@@ -104,17 +98,17 @@ read-blank s b = (
 -- 14 AND 16
 
 -- a number that no test has
-not-or_else : (b : Bool) (n : ℕ) {r m : ℕ} → n ≢ m → r ≢ m → or_else b n r ≢ m
+pub not-or_else : (b : Bool) (n : ℕ) {r m : ℕ} → n ≢ m → r ≢ m → or_else b n r ≢ m
 not-or_else true n a z = a
 not-or_else false n a z = z
 
-not_first : (r : ℕ) {s m : ℕ} → r ≢ m → s ≢ m → first_refusal r s ≢ m
+pub not_first : (r : ℕ) {s m : ℕ} → r ≢ m → s ≢ m → first_refusal r s ≢ m
 not_first r {s} {m} a z = eqb-cases r 0 (λ c. cond c s r ≢ m) (λ e. z) (λ d. a)
 
-nobody-15 : (n l : ℕ) (fits : Bool) → n ≡ 0 → (ltb max_links l || not fits) ≡ true → counts_refusal n l fits ≡ 15
+pub nobody-15 : (n l : ℕ) (fits : Bool) → n ≡ 0 → (ltb max_links l || not fits) ≡ true → counts_refusal n l fits ≡ 15
 nobody-15 n l fits z e = rw (z, e) refl
 
-counts-not : (n l : ℕ) (fits : Bool) → ltb max_modules n ≡ false → counts_refusal n l fits ≢ 14
+pub counts-not : (n l : ℕ) (fits : Bool) → ltb max_modules n ≡ false → counts_refusal n l fits ≢ 14
 counts-not n l fits f = rw f (not-or_else (ltb max_links l || not fits) 15 (λ e. omega arith) (λ e. omega arith))
 
 module _ (p : Plan) where
@@ -153,53 +147,3 @@ module _ (p : Plan) where
   pub links-meet-15 : modules_of p ≡ 0 → max_links < links_of p → plan_refusal p ≡ 15
   unfolding plan_refusal
   links-meet-15 z l = rw (nobody-15 (modules_of p) (links_of p) true z (ap (λ b. b || false) (lt-ltb max_links (links_of p) l))) refl
-
--- of bytes
-decode-modules : (s : List ℕ) → modules_of (decode s) ≡ number_at s 1
-decode-modules s = number-decode s 0 (omega arith)
-
-decode-links : (s : List ℕ) → links_of (decode s) ≡ number_at s 2
-decode-links s = number-decode s 1 (omega arith)
-
--- where none of 11 to 13 applies the counts decide
-head-counts : (size version len counts : ℕ) → head_verdict size version len 0 ≡ 0 → head_verdict size version len counts ≡ counts
-unfolding head_verdict
-head-counts size version len counts h =
-    let f11 = or_else-zero (ltb size 3) 10 h in
-    let f12 = or_else-zero (not (eqb version 1)) 11 f11.1 in
-    let f13 = or_else-zero (not (eqb len (size - 3)) || ltb len 4) 12 f12.1 in
-    rw (f11.0, f12.0, f13.0) refl
-
-pub bytes-meet-16 : (s : List ℕ) → HeadTaken s → number_at s 1 ≡ 0 → 0 < number_at s 2 → number_at s 2 ≤ max_links → number_at s 0 ≡ links_length (number_at s 2)
-    → (read_plan s).refusal ≡ 16
-unfolding read_refusal
-bytes-meet-16 s t z m l f =
-    let h : head_refusal s ≡ 0 = head-counts (length s) (get_or s 0 0) (number_at s 0) _ t
-    ∙ rw (eq-eqb (number_at s 0) (links_length (number_at s 2)) f) (counted_back (number_at s 1) (number_at s 2) (record { modules_ok = omega (arith, z); links_ok = l })) in
-    let e : plan_refusal (decode s) ≡ 16 = link-meets-16 (decode s) (decode-modules s ∙ z) (omega (arith, decode-links s)) (omega (arith, decode-links s)) in
-    read-refusal s ∙ rw (h, e) refl
-
-pub bytes-above-192 : (s : List ℕ) → (read_plan s).refusal ≡ 14 → max_modules < number_at s 1
-unfolding read_refusal head_verdict
-bytes-above-192 s e = bool_cases (ltb max_modules (number_at s 1)) (λ t. ltb-true _ _ t) (λ f. absurd (never f (sym (read-refusal s) ∙ e)))
-  where
-    never : ltb max_modules (number_at s 1) ≡ false → read_refusal s ≢ 14
-    never f = not_first (head_refusal s)
-        (not-or_else (ltb (length s) 3) 11 (λ e. omega arith)
-        (not-or_else (not (eqb (get_or s 0 0) 1)) 12 (λ e. omega arith)
-        (not-or_else (not (eqb (number_at s 0) (length s - 3)) || ltb (number_at s 0) 4) 13 (λ e. omega arith)
-        (counts-not (number_at s 1) (number_at s 2) (eqb (number_at s 0) (4 + 8 * number_at s 2)) f))))
-        (λ e. let l = (above-192 (decode s)).0 e in let k = ltb-false max_modules (number_at s 1) f in omega (arith, l, k, decode-modules s))
-
-pub bytes-meet-15 : (s : List ℕ) → HeadTaken s → number_at s 1 ≡ 0 → (max_links < number_at s 2) ⊎ (number_at s 0 ≢ links_length (number_at s 2))
-    → (read_plan s).refusal ≡ 15
-unfolding read_refusal
-bytes-meet-15 s h z t =
-    let fits = eqb (number_at s 0) (links_length (number_at s 2)) in
-    let c : counts_refusal (number_at s 1) (number_at s 2) fits ≡ 15 = nobody-15 (number_at s 1) (number_at s 2) fits z (unfit t) in
-    let e : head_refusal s ≡ 15 = head-counts (length s) (get_or s 0 0) (number_at s 0) _ h ∙ c in
-    read-refusal s ∙ rw e refl
-  where
-    unfit : (max_links < number_at s 2) ⊎ (number_at s 0 ≢ links_length (number_at s 2)) → (ltb max_links (number_at s 2) || not (eqb (number_at s 0) (links_length (number_at s 2)))) ≡ true
-    unfit (inl l) = rw (lt-ltb max_links (number_at s 2) l) refl
-    unfit (inr n) = rw (ne_eqb (number_at s 0) (links_length (number_at s 2)) n) (or-true (ltb max_links (number_at s 2)))

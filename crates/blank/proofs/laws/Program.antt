@@ -1,5 +1,4 @@
--- The whole job on a plan with nobody in it leaves what setup leaves (`blank-job`), and the program prints six lines (`blank-prints`); that
--- which traces tells that no step was done (`blank-traces`).
+-- On a plan with nobody in it the program prints six lines (`blank-prints`); that which traces tells that no step was done (`blank-traces`).
 use Rattle.std.specs.Prelude.{ℕ, ◌≡◌, true, List, [], ◌∷◌, ◌++◌, length, replicate}
 use Rattle.std.proofs.Common.{arith, sym, ap, ◌∙◌, append-nil}
 use Rattle.std.proofs.Math.Path.{refl}
@@ -25,36 +24,13 @@ use Rattle.text_owed.proofs.laws.Reported.{plan-taken}
 use Rattle.text_owed.specs.Traced.{fresh_held, plan_part, ran_text, traced}
 use Rattle.blank.specs.Claim.{Blank, blank_bytes, blank_report, blank_run, zero_words}
 use Rattle.blank.proofs.laws.Plans.{blank-read, trimmed-blank, zeros-trimmed, blank-ceiling}
-use Rattle.blank.proofs.laws.Fields.{blank-set, blank-valid, blank-run, blank-rounds, blank-after}
+use Rattle.blank.proofs.laws.Fields.{blank-valid, blank-run}
+use Rattle.blank.proofs.laws.Job.{blank_begun, held-blank, begun-is, blank-job}
 
 module _ (p : Plan) (b : Blank p) (lent : List ℕ) where
-  abbrev pub blank_begun : Held
-  blank_begun = record { field = fresh (trimmed p); words = zero_words (length lent) }
-
-  held-blank : Blank (trimmed p)
-  held-blank = trimmed-blank p b
-
-  pub blank-begun : valid blank_begun ≡ true
-  blank-begun = (blank-valid blank_begun held-blank).1 (refl, ap zero_words (sym (length-replicate {A = ℕ} (length lent) 0)))
-
-  begun-is : (set_up p lent).state ≡ blank_begun
-  begun-is = ap (λ (a : After Held). a.state) (blank-set p b lent)
-
-  woken-is : (run_bytes (job_wakes p) blank_begun).state ≡ blank_begun
-  unfolding after does
-  woken-is = blank-after blank_begun held-blank blank-begun (run (job_wakes p) ∷ [])
-
-  pub blank-job : job_run p lent ≡ record { done = 0; refusal = 0; state = (set_up p lent).state }
-  blank-job =
-      job_is p lent (ap (λ (a : After Held). a.refusal) (blank-set p b lent))
-      ∙ ap (λ h. run_rounds max_rounds (run_bytes (job_wakes p) h).state) begun-is
-      ∙ ap (run_rounds max_rounds) woken-is
-      ∙ blank-rounds blank_begun held-blank blank-begun max_rounds
-      ∙ ap (λ (h : Held). record { done = 0; refusal = 0; state = h }) (sym begun-is)
-
-  blank-text : job_text (record { done = 0; refusal = 0; state = blank_begun }) ≡ blank_report
+  blank-text : job_text (record { done = 0; refusal = 0; state = blank_begun p b lent }) ≡ blank_report
   unfolding job_text report_text branch_lines total core_text decimal log2 log2-to
-  blank-text = rw (held-blank.nobody, held-blank.unlinked) refl
+  blank-text = let held = held-blank p b lent in rw (held.nobody, held.unlinked) refl
 
 pub blank-prints : reported blank_bytes ≡ blank_report
 blank-prints =

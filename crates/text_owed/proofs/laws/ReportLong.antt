@@ -15,10 +15,7 @@ use Rattle.plan_file.specs.declared.Outcome.{Outcome}
 use Rattle.plan_file.specs.Layout.{number_at, blank}
 use Rattle.plan_file.specs.Reading.{head_verdict, head_refusal, read_refusal, read_plan}
 use Rattle.text_owed.specs.Reported.{plan_text, reported}
-
--- how many bytes are enough: all that a 16-bit length can tell of, and one more (in code PLANROOM too)
-abbrev pub PLANROOM : ℕ
-PLANROOM = 65539
+use Rattle.text_owed.proofs.laws.Room.{PLANROOM}
 
 -- "12 version; 13 length not the bytes that follow", by the first byte
 abbrev long_outcome : ℕ → Outcome

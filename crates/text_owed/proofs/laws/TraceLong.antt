@@ -24,10 +24,7 @@ use Rattle.field_calls.specs.Schedule.{schedule_refusal}
 use Rattle.field_calls.specs.Call.{refused_run, run_bytes}
 use Rattle.format_text.specs.Lines.{refused_text}
 use Rattle.text_owed.specs.Traced.{fresh_held, plan_part, ran_text, traced}
-
--- how many bytes are enough: the longest plan, the longest schedule, and one more (in code RUNROOM too)
-abbrev pub RUNROOM : ℕ
-RUNROOM = 70346
+use Rattle.text_owed.proofs.laws.Room.{RUNROOM}
 
 -- "52 version; 53 length wrong", by the first byte
 abbrev long_run : ℕ → Held → Ran Held
