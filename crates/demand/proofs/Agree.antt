@@ -9,7 +9,7 @@ use Rattle.field.specs.State.{State, node_at, mark_at}
 use Rattle.field_calls.specs.Demand.{TreeLink, InPart, Agreed}
 use Rattle.field_calls.specs.Trail.{Awake}
 use Rattle.demand.proofs.Good.{Good}
-use Rattle.demand.proofs.Core.{mark_of, halt-of, part-finished, link-ends, says, low-in, high-in, core}
+use Rattle.demand.proofs.Core.{mark_of, halt-of, part-finished, link-ends, says, core}
 
 module _ (p : Plan) (a : Accepted p) (s : State) (g : Good p a s) where
   -- EVERY BRANCH IS A TREE LINK (m5)
@@ -29,7 +29,7 @@ module _ (p : Plan) (a : Accepted p) (s : State) (g : Good p a s) where
           tree = λ j l i h. says p a s g w k z BRANCH j (finished.tree j (lower_of p j) (higher_of p j) (link-ends p a s g w k z j l) i.1 h);
           others = λ j l i h. says p a s g w k z REJECTED j (finished.others j (lower_of p j) (higher_of p j) (link-ends p a s g w k z j l) i.1 h);
           alone = λ v i only. ⊎_elim
-              (λ c. absurd (c.apart (only (lower_of p c.edge) (low-in p a s g w k z c) ∙ sym (only (higher_of p c.edge) (high-in p a s g w k z c)))))
+              (λ c. let o = core p a s g w k z c in absurd (o.apart (only (lower_of p o.link) o.inside ∙ sym (only (higher_of p o.link) o.across))))
               (λ o. subst (λ u. (node_at s u).halted ≡ 1) (only w (k.within, stop)) (sym (halt-of p a s g w k.within) ∙ o.halted))
               finished.halted;
           core = λ u v i j d. ⊎_elim (core p a s g w k z) (λ o. absurd (d (o.only u i.1 ∙ sym (o.only v j.1)))) finished.halted;

@@ -10,7 +10,7 @@ use Rattle.field_calls.specs.Trail.{Awake}
 use Rattle.field_laws.proofs.After.{fresh-node}
 use Rattle.field_laws.proofs.Keeps.{Sound}
 use Rattle.demand.proofs.Good.{Good}
-use Rattle.demand.proofs.Sleeping.{node-asleep, mark-asleep, silent, none-waits}
+use Rattle.demand.proofs.Sleeping.{node-asleep, mark-asleep, no-message, none-waits}
 
 module _ (p : Plan) (a : Accepted p) (s : State) (g : Good p a s) (i : Sound p s) (lent : List ℕ) (w : ℕ) (none-awake : (v : ℕ) → InPart p w v → ¬ Awake p s v) where
   abbrev begun : State
@@ -21,5 +21,5 @@ module _ (p : Plan) (a : Accepted p) (s : State) (g : Good p a s) (i : Sound p s
   as-at-setup = record {
     nodes = λ v y. node-asleep p a s g i lent w none-awake v y ∙ sym (fresh-node v (omega (arith, y.0, a.modules_ok)));
     marks = mark-asleep p a s g i lent w none-awake;
-    words = none-waits p a s g i lent w none-awake s.words i.fits.words (silent p a s g i lent w none-awake);
+    words = none-waits p a s g i lent w none-awake s.words i.fits.words (no-message p a s g i lent w none-awake);
   }

@@ -34,10 +34,10 @@ module _ (p : Plan) (a : Accepted p) (s : State) (g : Good p a s) where
     says c k h = record { lower = sym (mark_of (lower_of p k) k) ∙ h.0; higher = sym (mark_of (higher_of p k) k) ∙ h.1 }
 
     module _ (c : PartCore (net p a) (g.at) w) where
-      pub low-in : InPart p w (lower_of p c.edge)
+      low-in : InPart p w (lower_of p c.edge)
       low-in = (omega (arith, (a.each c.edge c.within).ordered, (a.each c.edge c.within).inside), c.inside)
 
-      pub high-in : InPart p w (higher_of p c.edge)
+      high-in : InPart p w (higher_of p c.edge)
       high-in = ((a.each c.edge c.within).inside, way-append c.inside (go c.edge (link-ends c.edge c.within) tt stop))
 
       pub core : Core p s (InPart p w)

@@ -1,4 +1,4 @@
--- A part with nobody awake, in every good state: its nodes are as at setup (`node-asleep`), and its marks (`mark-asleep`); its channels are empty (`silent`), so none
+-- A part with nobody awake, in every good state: its nodes are as at setup (`node-asleep`), and its marks (`mark-asleep`); its channels are empty (`no-message`), so none
 -- of its words waits (`none-waits`).
 use Rattle.std.specs.Prelude.{ℕ, ◌<◌, ◌≡◌, refl, Bool, true, List, [], ◌∷◌, length, replicate}
 use Rattle.std.proofs.Common.{arith, sym, ap, subst, ◌∙◌, ⊎_elim}
@@ -88,8 +88,8 @@ module _ (p : Plan) (a : Accepted p) (s : State) (g : Good p a s) (i : Sound p s
       ap (λ f. f k) (sym (good-mark p a s g v)) ∙ ((sleeps (is-module y)).nodes v y.1).markings k ∙ sym (ap (λ (r : Real). r.mark v k) (view-start p a lent))
 
   -- no message of the part is on a channel, so no word of it waits
-  pub silent : (k u v : ℕ) → Edge (net p a) k u v → InPart p w u → (m : Msg) → ¬ In m (chan (end_of p u k) s.words)
-  silent k u v e y m n = in-nil (subst (In m) (sym (chan-is p a s g e) ∙ (sleeps (is-module y)).channels k u v e y.1) n)
+  pub no-message : (k u v : ℕ) → Edge (net p a) k u v → InPart p w u → (m : Msg) → ¬ In m (chan (end_of p u k) s.words)
+  no-message k u v e y m n = in-nil (subst (In m) (sym (chan-is p a s g e) ∙ (sleeps (is-module y)).channels k u v e y.1) n)
 
   pub none-waits : (l : List ℕ) → All (λ x. word_fits p x ≡ true) l → ((k u v : ℕ) → Edge (net p a) k u v → InPart p w u → (m : Msg) → ¬ In m (chan (end_of p u k) l))
       → All (λ x. ¬ InPart p w (from p (link_in x))) l

@@ -1,5 +1,5 @@
 -- What is counted of steps, for the law (Counts): the sent count and the words that wait (`CountedSteps`), for none (`counted_none`), for some and then more
--- (`counted-more`), and for one (`counted-one`).
+-- (`counted-more`), and for one (`counted-step`).
 use Rattle.std.specs.Prelude.{ℕ, ◌+◌, ◌≡◌}
 use native.Mathlib.Omega.{arith}
 use Rattle.std.proofs.Math.Path.{refl, ap}
@@ -56,11 +56,11 @@ module _ (p : Plan) where
   }
 
   -- one step: it adds the words of its sends, and takes the word that it consumes
-  pub counted-one : (x y : State) (t : Taken) → y.sent ≡ x.sent + length (sends_at p t)
+  pub counted-step : (x y : State) (t : Taken) → y.sent ≡ x.sent + length (sends_at p t)
       → ((f : ℕ → ℕ) → ((w : ℕ) → f (hand_over w) ≡ f w) → sum_l f y.words + sum_l f (consumed_at p t) ≡ sum_l f x.words + sum_l f (posted_at p t))
       → CountedSteps p x (t ∷ []) y
   unfolding flat_map
-  counted-one x y t n h = record {
+  counted-step x y t n h = record {
     sent = omega (arith, n, length-append (map (sent_by p t.number) (sends_at p t)) [], length-map (sends_at p t) (sent_by p t.number));
     words = λ f k. omega (arith, h f k, sum_l-app f (consumed_at p t) [], sum_l-app f (posted_at p t) []);
   }

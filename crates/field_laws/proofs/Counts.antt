@@ -22,7 +22,7 @@ use Rattle.field_calls.specs.Call.{Call}
 use Rattle.field_calls.specs.Trail.{step_taken, if_taken, steps_of, sends_at, consumed_at}
 use Rattle.field_laws.proofs.Cases.{refusal-not-0, StepOutcome, took, kept, FieldStep, wake-step, hand-step, serve-step, step-outcome}
 use Rattle.field_laws.proofs.Trace.{on_state, call-tells}
-use Rattle.field_laws.proofs.Counted.{counted-one}
+use Rattle.field_laws.proofs.Counted.{counted-step}
 pub use Rattle.field_laws.proofs.Counted.{flat-app, sent_words, consumed_words, CountedSteps, counted_none, counted-more}
 
 module _ (p : Plan) where
@@ -36,9 +36,9 @@ module _ (p : Plan) where
   unfolding sends_at consumed_at
   took-counts s _ _ s' (wake-step {v} h) =
       let new = posted p v (wake_work p v s).sends in
-      rw h.responds.is (counted-one p s _ (step_taken 1 v s) refl (λ f k. omega (arith, sum_l-app f (s.words ++ new) [], sum_l-app f s.words new)))
+      rw h.responds.is (counted-step p s _ (step_taken 1 v s) refl (λ f k. omega (arith, sum_l-app f (s.words ++ new) [], sum_l-app f s.words new)))
   took-counts s _ _ s' (hand-step {d} h) = rw h.is
-      (counted-one p s _ (step_taken 2 d s) (omega arith)
+      (counted-step p s _ (step_taken 2 d s) (omega arith)
       (λ f k. omega (arith, sum_l-app f h.rest (hand_over h.word ∷ []), sum_l-out f (first_out h.first), k h.word)))
   took-counts s _ _ s' (serve-step {v} h) =
       let w = serve_work p v h.word s in
@@ -48,7 +48,7 @@ module _ (p : Plan) where
       let c : consumed_at p t ≡ cond (not (eqb w.answer BACK)) (h.word ∷ []) [] =
       ap (λ x. cond (not (eqb (serve_work p v x s).answer BACK)) (x ∷ []) []) (sym h.at) in
       subst (CountedSteps p s (t ∷ [])) (sym h.responds.is)
-      (counted-one p s _ t (ap (λ l. s.sent + length l) (sym q))
+      (counted-step p s _ t (ap (λ l. s.sent + length l) (sym q))
       (λ f k.
       omega (
         arith,
