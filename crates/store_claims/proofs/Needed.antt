@@ -1,4 +1,4 @@
--- The bytes that a save needs: those of the records that stay and of the new one (`needed`).
+-- The bytes that a save needs: those of the records that stay and of the new one (`bytes-needed`).
 use Rattle.std.specs.Prelude.{ℕ, ◌+◌, ◌≡◌, true, List, [], ◌∷◌, ◌++◌}
 use Rattle.std.proofs.Common.{◌∙◌, append-nil}
 use Rattle.std.proofs.Math.Path.{ap}
@@ -14,9 +14,9 @@ use Rattle.store_claims.proofs.OneLayout.{reads-back}
 
 module _ (name : List ℕ) (h : Held) (s : List ℕ) where
   module _ (v : valid h ≡ true) (e : store_fits s ≡ true) (n : name_fits name ≡ true) where
-    pub needed : length (joined (saved name h s)) ≡ length (joined (without_first (is_named name) (records_in s))) + record_length name h
+    pub bytes-needed : length (joined (saved name h s)) ≡ length (joined (without_first (is_named name) (records_in s))) + record_length name h
     unfolding saved joined
-    needed =
+    bytes-needed =
         let others = without_first (is_named name) (records_in s) in
         let r = record_bytes name h in
         ap length (joined-append others (r ∷ []) ∙ ap (λ t. joined others ++ t) (append-nil r)) ∙ length-append (joined others) r

@@ -10,7 +10,7 @@ use Rattle.store.specs.Names.{name_fits, is_named, without_first}
 use Rattle.store.specs.Calls.{store_fits, save_refusal, save_point}
 use Rattle.store.specs.Claims.{record_length, Save, all_saved, StaysWhole}
 use Rattle.store_claims.proofs.Saves.{save-passed, passed-save, save-refused, taken-saves}
-use Rattle.store_claims.proofs.Needed.{needed}
+use Rattle.store_claims.proofs.Needed.{bytes-needed}
 
 module _ (name : List ℕ) (h : Held) (s : List ℕ) where
   save-whole : store_fits s ≡ true → store_fits (save_point name h s).state ≡ true
@@ -20,7 +20,7 @@ module _ (name : List ℕ) (h : Held) (s : List ℕ) where
   module _ (v : valid h ≡ true) (e : store_fits s ≡ true) (n : name_fits name ≡ true) where
     save-exact : ((save_point name h s).refusal ≡ 0) ↔ (length (joined (without_first (is_named name) (records_in s))) + record_length name h ≤ length s)
     unfolding save_point
-    save-exact = (λ z. omega (arith, (save-passed name h s z).room, needed name h s v e n), λ l. passed-save name h s (record { valid = v; whole = e; good = n; room = omega (arith, needed name h s v e n) }))
+    save-exact = (λ z. omega (arith, (save-passed name h s z).room, bytes-needed name h s v e n), λ l. passed-save name h s (record { valid = v; whole = e; good = n; room = omega (arith, bytes-needed name h s v e n) }))
 
 all_whole : (s : List ℕ) → store_fits s ≡ true → (l : List Save) → store_fits (all_saved l s) ≡ true
 unfolding all_saved

@@ -1,5 +1,5 @@
--- What the whole job runs (`job_is`), whom that wakes (`waking`), and what it leaves (`JobOutcome`).
-use Rattle.std.specs.Prelude.{ℕ, ◌+◌, ◌≤◌, ◌<◌, ◌≡◌, true, cond}
+-- What the whole job runs (`job_is`), whom that wakes (`woken-lowest`), and what it leaves (`JobOutcome`).
+use Rattle.std.specs.Prelude.{ℕ, ◌≤◌, ◌<◌, ◌≡◌, true, cond}
 use Rattle.std.proofs.Common.{arith, sym, subst, ◌∙◌, inl, inr, take_all}
 use Rattle.std.proofs.Math.Path.{refl, ap}
 use mathlib.Core.List.{List, [], ◌∷◌, ◌++◌, append-nil, map}
@@ -14,7 +14,6 @@ use Rattle.plan.specs.Trimmed.{trimmed}
 use Rattle.plan.specs.Same.{Same}
 use Rattle.plan.proofs.laws.Accepted.{accepted}
 use Rattle.plan.proofs.laws.Trimmed.{trimmed-same}
-use Rattle.plan.proofs.laws.Ceiling.{ceiling-small}
 use Rattle.node.specs.Work.{ASLEEP}
 use Rattle.field.specs.Edges.{ceiling_of}
 use Rattle.field.specs.State.{State, node_at}
@@ -73,7 +72,7 @@ module _ (l : List ℕ) (h : Held) (live : valid h ≡ true) where
   trail-on cs = ap (λ t. t ++ trail cs (does (run (wakes_of l)) h).state) (sym (append-nil (cond (valid h) (steps_of h.field.plan (run (wakes_of l)) (state_of h)) [])))
 
 module _ (p : Plan) (lent : List ℕ) (ok : (set_up p lent).refusal ≡ 0) where
-  abbrev pub start : Held
+  abbrev start : Held
   start = (set_up p lent).state
 
   -- the plan as the field holds it
@@ -86,16 +85,13 @@ module _ (p : Plan) (lent : List ℕ) (ok : (set_up p lent).refusal ≡ 0) where
   pub live : Live start
   live = let q = started p lent ok in subst Live (sym q.is) (begun-live held lent q.plan q.room)
 
-  pub first : Claim held start (run (job_wakes p) ∷ [])
-  first = demand3 p lent ok (run (job_wakes p) ∷ [])
-
-  pub whole : Claim held start (calls p)
-  whole = demand3 p lent ok (calls p)
+  pub first-claim : Claim held start (run (job_wakes p) ∷ [])
+  first-claim = demand3 p lent ok (run (job_wakes p) ∷ [])
 
   own : start.field.plan ≡ held
   own = ap (λ (h : Held). h.field.plan) (started p lent ok).is
 
-  abbrev pub low : List ℕ
+  abbrev low : List ℕ
   low = lowests (graph_of p) (modules_of p)
 
   -- at the start all are asleep, so each wake is taken
@@ -111,14 +107,10 @@ module _ (p : Plan) (lent : List ℕ) (ok : (set_up p lent).refusal ≡ 0) where
       let carried = sleepers-carried start.field.plan 0 (state_of start) (lowests-once (graph_of p) (modules_of p)) sleepers in
       let is = run-list start.field.plan (job_wakes p) (state_of start) ∙ ap (λ l. list_run start.field.plan 0 l (state_of start)) (wakes-steps low) in
       unrefused _ (job_wakes p) (subst CarriedAs (sym (ap (λ (r : Ran State). r.refusal) is)) carried)
-      (subst (Allowed (run (job_wakes p))) (ap (λ (r : Ran Held). r.refusal) (wakes-run low start live.valid)) (head first.refusals))
+      (subst (Allowed (run (job_wakes p))) (ap (λ (r : Ran Held). r.refusal) (wakes-run low start live.valid)) (head first-claim.refusals))
 
   wakes : (run_bytes (job_wakes p) start).refusal ≡ 0
   wakes = ap (λ (r : Ran Held). r.refusal) (wakes-run low start live.valid) ∙ taken
-
-  -- M + N is below the limit
-  pub room : ceiling_of held + modules_of held ≤ max_rounds
-  room = let k = (started p lent ok).plan in omega (arith, ceiling-small held k, (accepted held k).modules_ok)
 
   -- so the job is that list of calls
   pub job_is : job_run p lent ≡ run_rounds max_rounds (run_bytes (job_wakes p) start).state
@@ -138,5 +130,5 @@ module _ (p : Plan) (lent : List ℕ) (ok : (set_up p lent).refusal ≡ 0) where
     pub ceiling : (state_of (job_run p lent).state).sent ≤ ceiling_of p
     pub agreed : (w : ℕ) → w < modules_of p → Agreed p (state_of (job_run p lent).state) (InPart p w)
 
-  pub waking : map step_in (trail (run (job_wakes p) ∷ []) start) ≡ map wake_of low
-  waking = wakes-trail low start live.valid taken
+  pub woken-lowest : map step_in (trail (run (job_wakes p) ∷ []) start) ≡ map wake_of low
+  woken-lowest = wakes-trail low start live.valid taken
