@@ -31,7 +31,7 @@ use Rattle.path.specs.Near.{mark_near}
 use Rattle.path.proofs.laws.Outcomes.{path-refused-from, near-refused-module}
 use Rattle.field.specs.Edges.{limit_of, ceiling_of}
 use Rattle.blank.specs.Claim.{Blank, blank_bytes, HeadTaken, links_length}
-use Rattle.blank.proofs.laws.Plans.{not-or_else, not_first, nobody-15, counts-not, above-192, link-meets-16}
+use Rattle.blank.proofs.laws.Plans.{not-or_else, not_first, nobody-15, counts-never, above-192, link-meets-16}
 
 decode-modules : (s : List ℕ) → modules_of (decode s) ≡ number_at s 1
 decode-modules s = number-decode s 0 (omega arith)
@@ -66,7 +66,7 @@ bytes-above-192 s e = bool_cases (ltb max_modules (number_at s 1)) (λ t. ltb-tr
         (not-or_else (ltb (length s) 3) 11 (λ e. omega arith)
         (not-or_else (not (eqb (get_or s 0 0) 1)) 12 (λ e. omega arith)
         (not-or_else (not (eqb (number_at s 0) (length s - 3)) || ltb (number_at s 0) 4) 13 (λ e. omega arith)
-        (counts-not (number_at s 1) (number_at s 2) (eqb (number_at s 0) (4 + 8 * number_at s 2)) f))))
+        (counts-never (number_at s 1) (number_at s 2) (eqb (number_at s 0) (4 + 8 * number_at s 2)) f))))
         (λ e. let l = (above-192 (decode s)).0 e in let k = ltb-false max_modules (number_at s 1) f in omega (arith, l, k, decode-modules s))
 
 pub bytes-meet-15 : (s : List ℕ) → HeadTaken s → number_at s 1 ≡ 0 → (max_links < number_at s 2) ⊎ (number_at s 0 ≢ links_length (number_at s 2))

@@ -108,8 +108,8 @@ not_first r {s} {m} a z = eqb-cases r 0 (λ c. cond c s r ≢ m) (λ e. z) (λ d
 pub nobody-15 : (n l : ℕ) (fits : Bool) → n ≡ 0 → (ltb max_links l || not fits) ≡ true → counts_refusal n l fits ≡ 15
 nobody-15 n l fits z e = rw (z, e) refl
 
-pub counts-not : (n l : ℕ) (fits : Bool) → ltb max_modules n ≡ false → counts_refusal n l fits ≢ 14
-counts-not n l fits f = rw f (not-or_else (ltb max_links l || not fits) 15 (λ e. omega arith) (λ e. omega arith))
+pub counts-never : (n l : ℕ) (fits : Bool) → ltb max_modules n ≡ false → counts_refusal n l fits ≢ 14
+counts-never n l fits f = rw f (not-or_else (ltb max_links l || not fits) 15 (λ e. omega arith) (λ e. omega arith))
 
 module _ (p : Plan) where
   link-not : (k : ℕ) → link_refusal p k ≢ 14
@@ -127,7 +127,7 @@ module _ (p : Plan) where
   unfolding plan_refusal
   above-192 = (
     (λ e. bool_cases (ltb max_modules (modules_of p)) (λ t. ltb-true _ _ t)
-        (λ f. absurd (not_first (counts_refusal (modules_of p) (links_of p) true) (counts-not (modules_of p) (links_of p) true f)
+        (λ f. absurd (not_first (counts_refusal (modules_of p) (links_of p) true) (counts-never (modules_of p) (links_of p) true f)
         (links-not (links_of p) 0) e))),
     (λ l. rw (lt-ltb max_modules (modules_of p) l) refl),
   )
