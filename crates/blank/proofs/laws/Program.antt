@@ -1,10 +1,9 @@
 -- On a plan with nobody in it the program prints six lines (`blank-prints`); that which traces tells that no step was done (`blank-traces`).
-use Rattle.std.specs.Prelude.{ℕ, ◌≡◌, true, List, [], ◌∷◌, ◌++◌, length, replicate}
+use Rattle.std.specs.Prelude.{ℕ, ◌≡◌, true, List, [], ◌++◌, replicate}
 use Rattle.std.proofs.Common.{arith, sym, ap, ◌∙◌, append-nil}
 use Rattle.std.proofs.Math.Path.{refl}
 use Rattle.std.proofs.lemmas.List.{length-replicate}
 use Rattle.base.specs.Log.{log2-to, log2}
-use Rattle.base.specs.Loop.{After}
 use Rattle.format_text.specs.Decimal.{decimal}
 use Rattle.plan.specs.Links.{Plan}
 use Rattle.plan.specs.Trimmed.{trimmed}
@@ -12,10 +11,8 @@ use Rattle.plan_file.specs.Layout.{blank}
 use Rattle.plan_file.specs.Reading.{read_plan}
 use Rattle.field.specs.Edges.{ceiling_of}
 use Rattle.field.specs.Valid.{waiting_in}
-use Rattle.field.specs.Held.{Held, fresh, valid, set_up}
-use Rattle.field_calls.specs.Call.{run, run_bytes, run_rounds, does, after}
-use Rattle.host_job.specs.Job.{job_wakes, max_rounds, job_run}
-use Rattle.host_job.proofs.laws.Agrees.{job_is}
+use Rattle.field.specs.Held.{Held, valid}
+use Rattle.field_calls.specs.Call.{run_bytes}
 use Rattle.text_trace.specs.Text.{modules_text, words_text, summary_text, trace_text}
 use Rattle.text_report.specs.Total.{total}
 use Rattle.text_report.specs.Text.{branch_lines, core_text, report_text}
