@@ -1,4 +1,5 @@
 pub mod Tree
+pub mod Written
 pub mod Theorems
 pub mod Paths
 pub mod Samples

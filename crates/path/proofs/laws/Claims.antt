@@ -37,6 +37,7 @@ use Rattle.path.specs.Near.{within_branches, near_bytes}
 use Rattle.path.specs.Claims.{PathHolds, NoWay, PathClaim, TurnedRound, TurnedClaim, TooShort, RoomClaim, NearHolds, NearClaim}
 use Rattle.path.proofs.laws.Outcomes.{PathTaken, path-zero, path-taken, path-no-way, path-refused, path-answered, path-shown, no-way-shown, taken-zero, near-answered, near-written}
 use Rattle.path.proofs.laws.Steps.{path-is, tree-path-turned, path-short}
+pub use Rattle.path.proofs.laws.Marks.{near-holds}
 
 -- THE PATH
 
@@ -164,32 +165,6 @@ room-claim p u v lent e = refused-short p (length lent) u v (by-eq (path_refusal
     (λ n. ap (λ r. r.answer.refusal) (path-refused p u v lent n) ∙ e))
 
 -- THE MARKS
-
-pub near-holds : (p : Plan) (m h : ℕ) (lent : List ℕ) → modules_of p ≤ length lent
-    → NearHolds p m h lent (near_bytes p m h ++ drop (modules_of p) lent)
-unfolding near_bytes
-near-holds p m h lent fits = record {
-  paths = λ v l s. tree-path p s;
-  apart = λ v l d. byte v l ∙ ap (λ t. bit (t && leb (length (tree_path p m v)) h)) (apart-together (graph_of p) m v d);
-  marks = λ v l q. byte v l ∙ ap₂ (λ t r. bit (t && leb (length r) h)) (part-together (graph_of p) m v (wider (λ k x y. tt) q.way)) (path-is p q);
-  rest = drop_at bytes left n size;
-  size = omega (arith, size, length-append bytes left, length-drop n lent);
-}
-  where
-    n : ℕ
-    n = modules_of p
-
-    bytes : List ℕ
-    bytes = near_bytes p m h
-
-    left : List ℕ
-    left = drop n lent
-
-    size : length bytes ≡ n
-    size = length-tabulate n (λ w. bit (within_branches p m h w))
-
-    byte : (v : ℕ) → v < n → get_or (bytes ++ left) v 0 ≡ bit (within_branches p m h v)
-    byte v l = get_or-append bytes left 0 v (omega (arith, size)) ∙ get_d_tabulate n (λ w. bit (within_branches p m h w)) v l
 
 pub near-claim : NearClaim
 near-claim p m h lent e =

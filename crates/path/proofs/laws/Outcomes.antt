@@ -1,6 +1,5 @@
--- The outcomes of the two calls, each as an equation with what the call is: of a path refused by the plan (`path-refused-plan`), by 41 (`path-refused-from`,
--- `path-refused-to`), by 79 (`path-refused-room`), by any of them (`path-refused`), taken (`path-taken`), between parts (`path-no-way`); of marks the same
--- (`near-`). What an answer of 0 tells (`path-answered`, `near-answered`).
+-- The outcomes of the two calls: of a path refused by any number (`path-refused`), the others in Equations; of marks each as an equation with what the call
+-- is (`near-`). What an answer of 0 tells (`path-answered`, `near-answered`).
 use Rattle.std.specs.Prelude.{ℕ, ◌≤◌, ◌<◌, ◌≡◌, ◌≢◌, false, ◌&&◌, List, ◌++◌, length, eqb}
 use Rattle.std.proofs.Common.{sym, subst, ◌∙◌, ⊎_elim}
 use Rattle.std.proofs.Math.Path.{ap}
@@ -17,68 +16,12 @@ use Rattle.plan.specs.Links.{graph_of, Plan, modules_of}
 use Rattle.plan.specs.Refusal.{plan_refusal}
 use Rattle.path.specs.Between.{tree_path, path_refusal, no_path, no_way, this_path, path_between}
 use Rattle.path.specs.Near.{near_bytes, near_refusal, mark_near}
+pub use Rattle.path.proofs.laws.Equations.{PathTaken, path-zero, path-refused-plan, path-refused-from, path-refused-to, path-refused-room, path-taken, path-no-way}
 
 -- A PATH
 
--- what an answer of 0 tells
-pub record PathTaken (p : Plan) (room u v : ℕ) : Type 0 where
-  pub checked : plan_refusal p ≡ 0
-  pub from_ok : u < modules_of p
-  pub to_ok : v < modules_of p
-  pub fits : SamePart (graph_of p) u v → length (tree_path p u v) ≤ room
-
 module _ (p : Plan) (u v : ℕ) where
-  pub path-zero : (room : ℕ) → path_refusal p room u v ≡ 0 → PathTaken p room u v
-  unfolding path_refusal
-  path-zero room e =
-      let f = first_refusal-zero (plan_refusal p) e in
-      let f41 = or_else-zero _ 40 f.1 in
-      let b = or-false _ _ f41.0 in
-      let f79 = or_else-zero _ 78 f41.1 in
-      record {
-        checked = f.0;
-        from_ok = leb-false _ _ b.0;
-        to_ok = leb-false _ _ b.1;
-        fits = λ s. ltb-false _ _ (subst (λ t. (t && ltb room (length (tree_path p u v))) ≡ false) (part-together (graph_of p) u v s) f79.0);
-      }
-
   module _ (buffer : List ℕ) where
-    shows : (n : ℕ) → path_refusal p (length buffer) u v ≡ n
-        → cond (eqb n 0) (cond (together (graph_of p) u v) (this_path p (tree_path p u v) buffer) (no_way buffer)) (no_path n buffer) ≡ path_between p u v buffer
-    unfolding path_between
-    shows n q = ap (λ m. cond (eqb m 0) (cond (together (graph_of p) u v) (this_path p (tree_path p u v) buffer) (no_way buffer)) (no_path m buffer)) (sym q)
-
-    pub path-refused-plan : plan_refusal p ≢ 0 → no_path (plan_refusal p) buffer ≡ path_between p u v buffer
-    unfolding path_refusal
-    path-refused-plan n = (rw (eqb-diff (plan_refusal p) 0 n)) ∙ shows (plan_refusal p) (rw (eqb-diff (plan_refusal p) 0 n))
-
-    pub path-refused-from : plan_refusal p ≡ 0 → modules_of p ≤ u → no_path 41 buffer ≡ path_between p u v buffer
-    unfolding path_refusal
-    path-refused-from z l = shows 41 (rw (z, le-leb (modules_of p) u l))
-
-    pub path-refused-to : plan_refusal p ≡ 0 → u < modules_of p → modules_of p ≤ v → no_path 41 buffer ≡ path_between p u v buffer
-    unfolding path_refusal
-    path-refused-to z lu l = shows 41 (rw (z, lt-leb (modules_of p) u lu, le-leb (modules_of p) v l))
-
-    -- two modules of a plan that was checked
-    module _ (z : plan_refusal p ≡ 0) (lu : u < modules_of p) (lv : v < modules_of p) where
-      pub path-refused-room : SamePart (graph_of p) u v → length buffer < length (tree_path p u v) → no_path 79 buffer ≡ path_between p u v buffer
-      unfolding path_refusal
-      path-refused-room s l = shows 79
-          (rw (z, lt-leb (modules_of p) u lu, lt-leb (modules_of p) v lv, part-together (graph_of p) u v s, lt-ltb (length buffer) (length (tree_path p u v)) l))
-
-      pub path-taken : SamePart (graph_of p) u v → length (tree_path p u v) ≤ length buffer → this_path p (tree_path p u v) buffer ≡ path_between p u v buffer
-      unfolding path_refusal
-      path-taken s l =
-          let t = part-together (graph_of p) u v s in
-          (rw t) ∙ shows 0 (rw (z, lt-leb (modules_of p) u lu, lt-leb (modules_of p) v lv, t, le-ltb (length buffer) (length (tree_path p u v)) l))
-
-      pub path-no-way : ¬ SamePart (graph_of p) u v → no_way buffer ≡ path_between p u v buffer
-      unfolding path_refusal
-      path-no-way n =
-          let f = apart-together (graph_of p) u v n in
-          (rw f) ∙ shows 0 (rw (z, lt-leb (modules_of p) u lu, lt-leb (modules_of p) v lv, f))
-
     -- refused, whatever the number: nothing is written
     pub path-refused : path_refusal p (length buffer) u v ≢ 0 → no_path (path_refusal p (length buffer) u v) buffer ≡ path_between p u v buffer
     unfolding path_between
@@ -86,14 +29,14 @@ module _ (p : Plan) (u v : ℕ) where
 
     -- what an answer of 0 tells, and what it shows then
     pub path-answered : (path_between p u v buffer).answer.refusal ≡ 0 → PathTaken p (length buffer) u v
-    path-answered e = by-eq (path_refusal p (length buffer) u v) 0 (path-zero (length buffer)) (λ n. absurd (n (ap (λ r. r.answer.refusal) (path-refused n) ∙ e)))
+    path-answered e = by-eq (path_refusal p (length buffer) u v) 0 (path-zero p u v (length buffer)) (λ n. absurd (n (ap (λ r. r.answer.refusal) (path-refused n) ∙ e)))
 
     module _ (t : PathTaken p (length buffer) u v) where
       pub path-shown : SamePart (graph_of p) u v → this_path p (tree_path p u v) buffer ≡ path_between p u v buffer
-      path-shown s = path-taken t.checked t.from_ok t.to_ok s (t.fits s)
+      path-shown s = path-taken p u v buffer t.checked t.from_ok t.to_ok s (t.fits s)
 
       pub no-way-shown : ¬ SamePart (graph_of p) u v → no_way buffer ≡ path_between p u v buffer
-      no-way-shown = path-no-way t.checked t.from_ok t.to_ok
+      no-way-shown = path-no-way p u v buffer t.checked t.from_ok t.to_ok
 
       pub taken-zero : (path_between p u v buffer).answer.refusal ≡ 0
       taken-zero = sym (⊎_elim (λ s. ap (λ r. r.answer.refusal) (path-shown s)) (λ n. ap (λ r. r.answer.refusal) (no-way-shown n)) (part? (graph_of p) u v))
