@@ -1,26 +1,24 @@
 -- The claims of requests 07 and 08, proved: of every answer that is no refusal (`path-claim`), of the same path from its other end (`turned-claim`), of the
 -- room that it needs (`room-claim`), of the marks (`near-claim`).
-use Rattle.std.specs.Prelude.{ℕ, ◌≤◌, ◌<◌, ◌≡◌, refl, ◌≢◌, Bool, true, false, cond, ◌&&◌, List, [], ◌++◌, reverse, get_or, drop, ltb, leb}
-use Rattle.std.proofs.Common.{arith, sym, ap₂, ◌∙◌, inl, inr, ⊎_elim, drop_at, ltb-true, leb-false}
+use Rattle.std.specs.Prelude.{ℕ, ◌≤◌, ◌<◌, ◌≡◌, refl, ◌≢◌, Bool, true, false, cond, List, [], reverse, drop, ltb}
+use Rattle.std.proofs.Common.{arith, sym, ◌∙◌, inl, inr, ⊎_elim, ltb-true, leb-false}
 use Rattle.std.proofs.Math.Path.{ap, subst, subst₂}
 use Rattle.std.proofs.Math.Bool.{and-eq-true_iff}
-use Rattle.std.proofs.Math.ListN.{length, length-append, length-drop, get_or-append}
+use Rattle.std.proofs.Math.ListN.{length, length-append, length-drop}
 use Rattle.std.proofs.lemmas.List.{length-reverse}
 use Rattle.std.proofs.Math.Seq.{take-append_seam, drop-append_seam}
-use Rattle.base.specs.Cond.{bit}
 use Rattle.base.specs.None.{none}
 use Rattle.base.specs.Pool.{All}
 use Rattle.base.proofs.laws.Twice.{NoTwice-one}
 use Rattle.base.specs.Refuse.{or_else, first_refusal}
 use Rattle.base.proofs.laws.Cond.{eqb-cases, by-eq}
 use Rattle.base.proofs.laws.Refuse.{or-false}
-use Rattle.base.proofs.laws.Table.{length-tabulate, get_d_tabulate}
 use Rattle.graph.specs.Graph.{Way, stop}
 use Rattle.graph.specs.Parts.{SamePart, together}
 use Rattle.graph.specs.Path.{edges_of}
 use Rattle.graph.specs.Between.{latest_from, Latest}
-use Rattle.graph.proofs.laws.Ways.{way-reverse, wider}
-use Rattle.graph.proofs.laws.Parts.{together-part, part-together, apart-together, part?}
+use Rattle.graph.proofs.laws.Ways.{way-reverse}
+use Rattle.graph.proofs.laws.Parts.{together-part, part?}
 use Rattle.graph.proofs.laws.Path.{paths-same, edges-once, edges-below}
 use Rattle.graph.proofs.laws.Decide.{in_tree-tree}
 use Rattle.graph.proofs.laws.Latest.{latest-of, latest-same, latest-turned, all-some, edges_some, best-way}
@@ -33,7 +31,6 @@ use Rattle.plan.proofs.laws.Numbers.{PlanNumber, plan-number}
 use Rattle.plan_tree.specs.Claim.{TreePath}
 use Rattle.plan_tree.proofs.laws.Paths.{tree-spare, tree-path}
 use Rattle.path.specs.Between.{tree_path, worst_on, no_way, this_path, path_refusal}
-use Rattle.path.specs.Near.{within_branches, near_bytes}
 use Rattle.path.specs.Claims.{PathHolds, NoWay, PathClaim, TurnedRound, TurnedClaim, TooShort, RoomClaim, NearHolds, NearClaim}
 use Rattle.path.proofs.laws.Outcomes.{PathTaken, path-zero, path-taken, path-no-way, path-refused, path-answered, path-shown, no-way-shown, taken-zero, near-answered, near-written}
 use Rattle.path.proofs.laws.Steps.{path-is, tree-path-turned, path-short}

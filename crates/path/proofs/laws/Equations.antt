@@ -1,21 +1,18 @@
 -- The outcomes of a path, each as an equation with what the call is: refused by the plan (`path-refused-plan`), by 41 (`path-refused-from`,
 -- `path-refused-to`), by 79 (`path-refused-room`), taken (`path-taken`), between parts (`path-no-way`); what a refusal of 0 tells (`path-zero`).
-use Rattle.std.specs.Prelude.{ℕ, ◌≤◌, ◌<◌, ◌≡◌, ◌≢◌, false, ◌&&◌, List, ◌++◌, length, eqb}
-use Rattle.std.proofs.Common.{sym, subst, ◌∙◌, ⊎_elim}
+use Rattle.std.specs.Prelude.{ℕ, ◌≤◌, ◌<◌, ◌≡◌, ◌≢◌, false, ◌&&◌, List, length, eqb}
+use Rattle.std.proofs.Common.{sym, subst, ◌∙◌}
 use Rattle.std.proofs.Math.Path.{ap}
 use Rattle.std.proofs.Math.Bool.{cond}
-use Rattle.std.proofs.Math.ListN.{drop}
 use Rattle.std.proofs.Math.Dec.{ltb}
 use borrow.Author.Tests.{lt-ltb, le-ltb, le-leb, lt-leb, ltb-false, leb-false}
-use Rattle.base.proofs.laws.Cond.{eqb-diff, by-eq}
-use Rattle.base.proofs.laws.Refuse.{or_else-zero, first_refusal-zero, or-false, answers-refused}
-use Rattle.base.specs.Loop.{taken_to, refused_by, answering}
+use Rattle.base.proofs.laws.Cond.{eqb-diff}
+use Rattle.base.proofs.laws.Refuse.{or_else-zero, first_refusal-zero, or-false}
 use Rattle.graph.specs.Parts.{SamePart, together}
-use Rattle.graph.proofs.laws.Parts.{part-together, apart-together, part?}
+use Rattle.graph.proofs.laws.Parts.{part-together, apart-together}
 use Rattle.plan.specs.Links.{graph_of, Plan, modules_of}
 use Rattle.plan.specs.Refusal.{plan_refusal}
 use Rattle.path.specs.Between.{tree_path, path_refusal, no_path, no_way, this_path, path_between}
-use Rattle.path.specs.Near.{near_bytes, near_refusal, mark_near}
 
 -- A PATH
 

@@ -1,17 +1,15 @@
 -- The outcomes of the two calls: of a path refused by any number (`path-refused`), the others in Equations; of marks each as an equation with what the call
 -- is (`near-`). What an answer of 0 tells (`path-answered`, `near-answered`).
-use Rattle.std.specs.Prelude.{ℕ, ◌≤◌, ◌<◌, ◌≡◌, ◌≢◌, false, ◌&&◌, List, ◌++◌, length, eqb}
-use Rattle.std.proofs.Common.{sym, subst, ◌∙◌, ⊎_elim}
+use Rattle.std.specs.Prelude.{ℕ, ◌≤◌, ◌<◌, ◌≡◌, ◌≢◌, List, ◌++◌, length}
+use Rattle.std.proofs.Common.{sym, ◌∙◌, ⊎_elim}
 use Rattle.std.proofs.Math.Path.{ap}
-use Rattle.std.proofs.Math.Bool.{cond}
 use Rattle.std.proofs.Math.ListN.{drop}
-use Rattle.std.proofs.Math.Dec.{ltb}
 use borrow.Author.Tests.{lt-ltb, le-ltb, le-leb, lt-leb, ltb-false, leb-false}
 use Rattle.base.proofs.laws.Cond.{eqb-diff, by-eq}
-use Rattle.base.proofs.laws.Refuse.{or_else-zero, first_refusal-zero, or-false, answers-refused}
+use Rattle.base.proofs.laws.Refuse.{or_else-zero, first_refusal-zero, answers-refused}
 use Rattle.base.specs.Loop.{taken_to, refused_by, answering}
-use Rattle.graph.specs.Parts.{SamePart, together}
-use Rattle.graph.proofs.laws.Parts.{part-together, apart-together, part?}
+use Rattle.graph.specs.Parts.{SamePart}
+use Rattle.graph.proofs.laws.Parts.{part?}
 use Rattle.plan.specs.Links.{graph_of, Plan, modules_of}
 use Rattle.plan.specs.Refusal.{plan_refusal}
 use Rattle.path.specs.Between.{tree_path, path_refusal, no_path, no_way, this_path, path_between}

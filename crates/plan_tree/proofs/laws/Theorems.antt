@@ -1,29 +1,12 @@
 -- What the builder writes (`tree-claim`), by Written: no set of links that joins each part's modules costs less (`written-least`), nor has at the same cost a
 -- smaller sum of readings (`written-least-sum`). A refused call alters no byte (`refused-keeps`).
-use Rattle.std.specs.Prelude.{ℕ, ◌*◌, ◌≤◌, ◌<◌, ◌≡◌, ◌≢◌, Bool, List, length, get_or}
-use Rattle.std.proofs.Common.{arith, ap, ◌∙◌, eq-eqb, eqb-true}
-use Rattle.base.specs.Cond.{bit}
-use Rattle.base.specs.Limits.{max_reading}
-use Rattle.base.proofs.laws.Cond.{bool_cases, eqb-diff}
-use Rattle.base.proofs.laws.Sum.{sum-eq}
-use Rattle.base.proofs.laws.Table.{length-tabulate, get_d_tabulate}
-use Rattle.graph.specs.Graph.{Way}
-use Rattle.graph.specs.Order.{InTree}
-use Rattle.graph.proofs.laws.Ways.{But, wider}
-use Rattle.graph.specs.Decide.{Set}
-use Rattle.graph.proofs.laws.Decide.{in_tree-tree, tree-in_tree}
-use Rattle.graph.proofs.laws.Span.{spans}
-use Rattle.graph.proofs.laws.Cycle.{spare}
-use Rattle.graph.specs.Least.{total_cost, Spanning}
-use Rattle.graph.proofs.laws.Least.{tree-least, spanning-parts}
-use Rattle.graph.proofs.laws.Second.{tree-least-second}
-use Rattle.plan.specs.Links.{graph_of, Plan, links_of, modules_of, lower_of, higher_of}
-use Rattle.plan.specs.Weights.{cost, reading_sum, earlier}
-use Rattle.plan.proofs.laws.Weights.{earlier-cost, earlier-sum, order_of}
-use Rattle.plan.proofs.laws.Accepted.{Accepted, accepted}
-use Rattle.plan_tree.specs.Tree.{tree_link, tree_bytes, tree_refusal, central_tree}
-use Rattle.plan_tree.specs.Claim.{chosen_by, total_of, JoinsParts, TreeClaim}
-use Rattle.plan_tree.proofs.laws.Tree.{answered, answered-bytes, byte-tells}
+use Rattle.std.specs.Prelude.{ℕ, ◌≤◌, ◌≡◌, ◌≢◌, Bool, List}
+use Rattle.std.proofs.Common.{arith}
+use Rattle.base.proofs.laws.Cond.{eqb-diff}
+use Rattle.plan.specs.Links.{Plan}
+use Rattle.plan.specs.Weights.{cost, reading_sum}
+use Rattle.plan_tree.specs.Tree.{tree_refusal, central_tree}
+use Rattle.plan_tree.specs.Claim.{total_of, JoinsParts, TreeClaim}
 use Rattle.plan_tree.proofs.laws.Written.{chosen, joining-spans}
 pub use Rattle.plan_tree.proofs.laws.Written.{written-length, written-tree, tree-written, written-other, written-joins, written-spans, written-acyclic, written-least-parts, written-least-sum-parts}
 

@@ -1,11 +1,11 @@
 -- What the builder writes: exactly the tree by the path rule (`written-tree`, `written-other`); it spans, has no cycle, and no set of links that joins the
 -- ends of each link costs less (`written-spans`, `written-acyclic`, `written-least-parts`, `written-least-sum-parts`).
 -- `central_tree p out` is the builder's contract; an answer of 0 is a plan that was taken.
-use Rattle.std.specs.Prelude.{ℕ, ◌*◌, ◌≤◌, ◌<◌, ◌≡◌, ◌≢◌, Bool, List, length, get_or}
+use Rattle.std.specs.Prelude.{ℕ, ◌*◌, ◌≤◌, ◌<◌, ◌≡◌, Bool, List, length, get_or}
 use Rattle.std.proofs.Common.{arith, ap, ◌∙◌, eq-eqb, eqb-true}
 use Rattle.base.specs.Cond.{bit}
 use Rattle.base.specs.Limits.{max_reading}
-use Rattle.base.proofs.laws.Cond.{bool_cases, eqb-diff}
+use Rattle.base.proofs.laws.Cond.{bool_cases}
 use Rattle.base.proofs.laws.Sum.{sum-eq}
 use Rattle.base.proofs.laws.Table.{length-tabulate, get_d_tabulate}
 use Rattle.graph.specs.Graph.{Way}
@@ -22,8 +22,8 @@ use Rattle.plan.specs.Links.{graph_of, Plan, links_of, modules_of, lower_of, hig
 use Rattle.plan.specs.Weights.{cost, reading_sum, earlier}
 use Rattle.plan.proofs.laws.Weights.{earlier-cost, earlier-sum, order_of}
 use Rattle.plan.proofs.laws.Accepted.{Accepted, accepted}
-use Rattle.plan_tree.specs.Tree.{tree_link, tree_bytes, tree_refusal, central_tree}
-use Rattle.plan_tree.specs.Claim.{chosen_by, total_of, JoinsParts, TreeClaim}
+use Rattle.plan_tree.specs.Tree.{tree_link, tree_bytes, central_tree}
+use Rattle.plan_tree.specs.Claim.{chosen_by, total_of, JoinsParts}
 use Rattle.plan_tree.proofs.laws.Tree.{answered, answered-bytes, byte-tells}
 
 module _ (p : Plan) (out : List ℕ) (taken : (central_tree p out).refusal ≡ 0) where
