@@ -8,7 +8,7 @@ use Rattle.plan.specs.Weights.{cost, reading_sum}
 use Rattle.plan_tree.specs.Tree.{tree_refusal, central_tree}
 use Rattle.plan_tree.specs.Claim.{total_of, JoinsParts, TreeClaim}
 use Rattle.plan_tree.proofs.laws.Written.{chosen, joining-spans}
-pub use Rattle.plan_tree.proofs.laws.Written.{written-length, written-tree, tree-written, written-other, written-joins, written-spans, written-acyclic, written-least-parts, written-least-sum-parts}
+pub use Rattle.plan_tree.proofs.laws.Written.{written-length, written-tree, tree-written, written-other, written-spans, written-acyclic, written-least-parts, written-least-sum-parts}
 
 module _ (p : Plan) (out : List ℕ) (taken : (central_tree p out).refusal ≡ 0) where
   pub written-least : (s : ℕ → Bool) → JoinsParts p s → total_of p (cost p) (chosen p out taken) ≤ total_of p (cost p) s
