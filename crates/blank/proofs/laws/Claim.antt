@@ -23,7 +23,7 @@ use Rattle.blank.proofs.laws.Job.{blank_begun, blank-begun, blank-job}
 use Rattle.blank.proofs.laws.Program.{blank-prints, blank-traces}
 
 module _ (h : Held) (b : Blank h.field.plan) (v : valid h ≡ true) where
-  blank-field : OnBlankField h
+  pub blank-field : OnBlankField h
   blank-field = record {
     steps = blank-step h b v;
     previews = blank-preview h b v;

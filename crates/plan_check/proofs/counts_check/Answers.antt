@@ -1,4 +1,5 @@
 -- plan_check::counts_check: one law for each return: `c-modules`, `c-links`, `c-length`, `c-fine`.
+use Rattle.std.proofs.Common.{rules}
 use Rattle.plan_check.proofs.Verdict.{c-modules, c-links, c-length, c-fine}
 use Rattle.plan_check.proofs.counts_check.Goals as goal
 
@@ -17,7 +18,4 @@ returns-then-not-fits c = let e2 = c.before in
     c-length a.n a.l a.fits e1.if-n-gt-MAX_MODULES.false e2.if-l-gt-MAX_LINKS.false c.if-not-fits.true
 
 pub returns : goal.returns
-returns c = let e2 = c.before in
-    let e1 = e2.before in
-    let a = e1.args in
-    c-fine a.n a.l a.fits e1.if-n-gt-MAX_MODULES.false e2.if-l-gt-MAX_LINKS.false c.if-not-fits.false
+returns c = search (rules, c-fine)

@@ -1,4 +1,5 @@
 -- plan_check::link_verdict: one law for each return: `v-order`, `v-range`, `v-after`, `v-near`, `v-far`, `v-fine`.
+use Rattle.std.proofs.Common.{rules}
 use Rattle.plan_check.proofs.Verdict.{v-order, v-range, v-after, v-near, v-far, v-fine}
 use Rattle.plan_check.proofs.link_verdict.Goals as goal
 
@@ -18,4 +19,4 @@ pub returns-then-far-gt-MAX_READING : goal.returns-then-far-gt-MAX_READING
 returns-then-far-gt-MAX_READING c = let e4 = c.before in let e3 = e4.before in let e2 = e3.before in v-far _ _ _ _ _ _ e2.if-hi-lo.false e2.if-n-hi.false e3.if-not-ordered.false e4.if-near-gt-MAX_READING.false c.if-far-gt-MAX_READING.true
 
 pub returns : goal.returns
-returns c = let e4 = c.before in let e3 = e4.before in let e2 = e3.before in v-fine _ _ _ _ _ _ e2.if-hi-lo.false e2.if-n-hi.false e3.if-not-ordered.false e4.if-near-gt-MAX_READING.false c.if-far-gt-MAX_READING.false
+returns c = search (rules, v-fine)
