@@ -1,3 +1,4 @@
+pub mod Chains
 pub mod Edges
 pub mod Held
 pub mod Samples
