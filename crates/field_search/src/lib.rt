@@ -1,7 +1,7 @@
 // Searching the waiting words of a field: where the first of a directed link or of a queue stands, and how many there are.
 #![tactic(auto)]
 
-ghost use Rattle.std.specs.Prelude.{◌≡◌, length};
+ghost use Rattle.std.specs.Prelude.{◌≡◌, ◌<◌, length, MatchOption};
 ghost use Rattle.base.specs.Keep.{many};
 ghost use Rattle.plan.specs.Links.{plan_size};
 ghost use Rattle.field.specs.Edges.{dest};
@@ -14,14 +14,11 @@ use plan::Plan;
 fn in_air(d: u16, w: u64) -> bool
     ensures { result ≡ in_air d w }
 {
-    if format_word::handed(w) {
-        return false;
-    }
-    format_word::link(w) == d
+    !format_word::handed(w) && format_word::link(w) == d
 }
 
 // The module that directed link d leads to.
-pub fn leads_to<'a>(plan: &'a Plan, d: u16) -> u16
+pub fn leads_to(plan: &Plan, d: u16) -> u16
     requires { length plan.now ≡ plan_size }
     ensures { result ≡ dest plan.now d }
 {
@@ -36,72 +33,41 @@ pub fn leads_to<'a>(plan: &'a Plan, d: u16) -> u16
 }
 
 // Whether a word is in module v's queue: bit 40 is set, and its directed link leads to v.
-fn in_queue<'a>(plan: &'a Plan, v: u16, w: u64) -> bool
+fn in_queue(plan: &Plan, v: u16, w: u64) -> bool
     requires { length plan.now ≡ plan_size }
     ensures { result ≡ in_queue plan.now v w }
 {
-    if format_word::handed(w) {
-        return leads_to(plan, format_word::link(w)) == v;
-    }
-    false
+    format_word::handed(w) && leads_to(plan, format_word::link(w)) == v
 }
 
-// The place of the first word in the air of directed link d, or the number of words.
-pub fn first_in_air(words: &[u64], d: u16) -> usize
-    ensures { result ≡ place (in_air d) words.now }
+// The place of the first word in the air of directed link d.
+pub fn first_in_air(words: &[u64], d: u16) -> Option<usize>
+    ensures { MatchOption result (place (in_air d) words.now ≡ length words.now)
+        (λ i. (i < length words.now) × (i ≡ place (in_air d) words.now)) }
 {
-    let mut i: usize = 0;
-    while i < words.len() {
-        if in_air(d, words[i]) {
-            return i;
-        }
-        i += 1;
-    }
-    i
+    words.iter().position(|w| in_air(d, *w))
 }
 
-// The place of the first word in module v's queue, or the number of words.
-pub fn first_in_queue<'a>(plan: &'a Plan, words: &[u64], v: u16) -> usize
+// The place of the first word in module v's queue.
+pub fn first_in_queue(plan: &Plan, words: &[u64], v: u16) -> Option<usize>
     requires { length plan.now ≡ plan_size }
-    ensures { result ≡ place (in_queue plan.now v) words.now }
+    ensures { MatchOption result (place (in_queue plan.now v) words.now ≡ length words.now)
+        (λ i. (i < length words.now) × (i ≡ place (in_queue plan.now v) words.now)) }
 {
-    let mut i: usize = 0;
-    while i < words.len() {
-        if in_queue(plan, v, words[i]) {
-            return i;
-        }
-        i += 1;
-    }
-    i
+    words.iter().position(|w| in_queue(plan, v, *w))
 }
 
 // How many words are in the air of directed link d.
 pub fn many_in_air(words: &[u64], d: u16) -> usize
     ensures { result ≡ many (in_air d) words.now }
 {
-    let mut m: usize = 0;
-    let mut i: usize = 0;
-    while i < words.len() {
-        if in_air(d, words[i]) {
-            m += 1;
-        }
-        i += 1;
-    }
-    m
+    words.iter().filter(|w| in_air(d, **w)).count()
 }
 
 // How many words module v's queue holds.
-pub fn many_in_queue<'a>(plan: &'a Plan, words: &[u64], v: u16) -> usize
+pub fn many_in_queue(plan: &Plan, words: &[u64], v: u16) -> usize
     requires { length plan.now ≡ plan_size }
     ensures { result ≡ many (in_queue plan.now v) words.now }
 {
-    let mut m: usize = 0;
-    let mut i: usize = 0;
-    while i < words.len() {
-        if in_queue(plan, v, words[i]) {
-            m += 1;
-        }
-        i += 1;
-    }
-    m
+    words.iter().filter(|w| in_queue(plan, v, **w)).count()
 }

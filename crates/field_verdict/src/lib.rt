@@ -163,10 +163,9 @@ pub fn serve<'a>(
     if no_module(plan, v) {
         return refused(41);
     }
-    let i = field_search::first_in_queue(plan, words, v);
-    if words.len() <= i {
+    let Some(i) = field_search::first_in_queue(plan, words, v) else {
         return refused(45);
-    }
+    };
     let x = words[i];
     let a = response(plan, cells, marks, v, x);
     judge(plan, marks, sent, v, i, x, a)

@@ -1,4 +1,3 @@
-pub mod Shift
 pub mod Laid
 pub mod Outcomes
 pub mod Hands

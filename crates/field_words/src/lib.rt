@@ -23,12 +23,8 @@ fn close_up(t: &mut [u64])
     requires { 0 < length t.old }
     ensures { t.new ≡ drop 1 t.old ++ (0 ∷ []) }
 {
+    t.rotate_left(1);
     let last = t.len() - 1;
-    let mut i: usize = 0;
-    while i < last {
-        t[i] = t[i + 1];
-        i += 1;
-    }
     t[last] = 0;
 }
 
@@ -66,10 +62,9 @@ pub fn handable(plan: &Plan, words: &[u64], d: u16) -> HandVerdict
     if 2 * plan::links(plan) <= d {
         return HandVerdict { refusal: 42, at: n };
     }
-    let a = field_search::first_in_air(words, d);
-    if n <= a {
+    let Some(a) = field_search::first_in_air(words, d) else {
         return HandVerdict { refusal: 44, at: n };
-    }
+    };
     HandVerdict { refusal: 0, at: a }
 }
 

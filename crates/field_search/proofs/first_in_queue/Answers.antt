@@ -1,15 +1,9 @@
-use borrow.Author.Rules.{rules}
-use Rattle.field_search.proofs.Search.{sought-start, found, sought-on, found_none}
+use Rattle.std.proofs.Common.{rules, tests}
+use Rattle.std.proofs.lemmas.Iterator.{YieldsList-from_slice}
+use Rattle.std.proofs.lemmas.Iterator.Search.{position_from_yields_List}
+use Rattle.field.proofs.laws.Chains.{first-is}
 use Rattle.field_search.proofs.first_in_queue.Goals as goal
 
-pub loop-i-init : goal.loop-i-init
-loop-i-init c = search (rules, sought-start)
-
-pub returns-then-in_queue : goal.returns-then-in_queue
-returns-then-in_queue c = search (rules, found)
-
-pub loop-i-preserved : goal.loop-i-preserved
-loop-i-preserved c = search (rules, sought-on)
-
 pub returns : goal.returns
-returns c = search (rules, found_none)
+returns c =
+    first-is _ c.args.words.now _ (position_from_yields_List _ _ _ _ c.position.ensures.ran (YieldsList-from_slice c.args.words.now cc) (λ x b q k. search (rules, tests)))

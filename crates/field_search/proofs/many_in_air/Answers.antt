@@ -1,17 +1,6 @@
-use borrow.Author.Rules.{rules}
-use Rattle.field_search.proofs.Search.{counted_start, counted-one, counted-on, counted-all}
-use Rattle.field_search.proofs.many_in_air.Goals.{then-in_air, else-in_air}
+use Rattle.std.proofs.Common.{rules}
+use Rattle.field.proofs.laws.Chains.{many-is}
 use Rattle.field_search.proofs.many_in_air.Goals as goal
 
-pub loop-i-init : goal.loop-i-init
-loop-i-init c = search (rules, counted_start)
-
-pub loop-i-preserved : goal.loop-i-preserved
-loop-i-preserved c =
-    elim c.if-in_air.branch [
-      | then-in_air w ↦ search (rules, counted-one)
-      | else-in_air w ↦ search (rules, counted-on)
-    ]
-
 pub returns : goal.returns
-returns c = search (rules, counted-all)
+returns c = search (rules, many-is)

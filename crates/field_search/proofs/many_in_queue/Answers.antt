@@ -1,17 +1,6 @@
-use borrow.Author.Rules.{rules}
-use Rattle.field_search.proofs.Search.{counted_start, counted-one, counted-on, counted-all}
-use Rattle.field_search.proofs.many_in_queue.Goals.{then-in_queue, else-in_queue}
+use Rattle.std.proofs.Common.{rules}
+use Rattle.field.proofs.laws.Chains.{many-is}
 use Rattle.field_search.proofs.many_in_queue.Goals as goal
 
-pub loop-i-init : goal.loop-i-init
-loop-i-init c = search (rules, counted_start)
-
-pub loop-i-preserved : goal.loop-i-preserved
-loop-i-preserved c =
-    elim c.if-in_queue.branch [
-      | then-in_queue w ↦ search (rules, counted-one)
-      | else-in_queue w ↦ search (rules, counted-on)
-    ]
-
 pub returns : goal.returns
-returns c = search (rules, counted-all)
+returns c = search (rules, many-is)
