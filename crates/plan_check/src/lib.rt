@@ -3,20 +3,20 @@
 
 ghost use Rattle.std.specs.Prelude.{◌≡◌, ◌<◌, ◌≤◌};
 ghost use Rattle.base.specs.Limits.{max_links};
-ghost use Rattle.plan.specs.Links.{links_of};
-ghost use Rattle.plan.specs.Refusal.{counts_refusal, ascends, in_order, link_verdict, link_refusal, links_refusal, plan_refusal};
+ghost use Rattle.refusal.specs.Number.{number_of};
+ghost use Rattle.plan.specs.Links.{links_of, lower_of, higher_of};
+ghost use Rattle.plan.specs.Refusal.{counts_refusal, in_order, link_verdict, link_refusal, links_refusal, plan_refusal};
 
 use base::{MAX_LINKS, MAX_MODULES, MAX_READING};
 use plan::Plan;
+use refusal::Refusal;
 
-// Whether link (lo2, hi2) stands after link (lo, hi).
-fn ascends(lo: u16, hi: u16, lo2: u16, hi2: u16) -> bool
-    ensures { result ≡ ascends lo hi lo2 hi2 }
+// The ends of link k, in the order in which links stand.
+fn ends(p: &Plan, k: usize) -> (u16, u16)
+    requires { k < max_links }
+    ensures { result ≡ (lower_of p.now k, higher_of p.now k) }
 {
-    if lo == lo2 {
-        return hi < hi2;
-    }
-    lo < lo2
+    (plan::lower(p, k), plan::higher(p, k))
 }
 
 // Whether link k stands after the link before, if there is one.
@@ -24,44 +24,29 @@ fn in_order(p: &Plan, k: usize) -> bool
     requires { k < max_links }
     ensures { result ≡ in_order p.now k }
 {
-    if k == 0 {
-        return true;
-    }
-    let j = k - 1;
-    ascends(
-        plan::lower(p, j),
-        plan::higher(p, j),
-        plan::lower(p, k),
-        plan::higher(p, k),
-    )
+    k == 0 || ends(p, k - 1) < ends(p, k)
 }
 
-// 16, 17, 18 or 0 for one link: its ends, whether it is in order, its readings.
-fn link_verdict(n: u16, lo: u16, hi: u16, ordered: bool, near: u16, far: u16) -> u32
-    ensures { result ≡ link_verdict n lo hi ordered near far }
+// 16, 17 or 18 for one link: its ends, whether it is in order, its readings.
+fn link_verdict(n: u16, lo: u16, hi: u16, ordered: bool, near: u16, far: u16) -> Result<(), Refusal>
+    ensures { number_of result ≡ link_verdict n lo hi ordered near far }
 {
-    if hi <= lo {
-        return 16;
-    }
-    if n <= hi {
-        return 16;
+    if hi <= lo || n <= hi {
+        return Err(Refusal::LinkEnds);
     }
     if !ordered {
-        return 17;
+        return Err(Refusal::LinkOrder);
     }
-    if MAX_READING < near {
-        return 18;
+    if MAX_READING < near || MAX_READING < far {
+        return Err(Refusal::LinkReading);
     }
-    if MAX_READING < far {
-        return 18;
-    }
-    0
+    Ok(())
 }
 
-// The refusal of link k, or 0.
-fn link_check(p: &Plan, k: usize) -> u32
+// The refusal of link k, if there is one.
+fn link_check(p: &Plan, k: usize) -> Result<(), Refusal>
     requires { k < max_links }
-    ensures { result ≡ link_refusal p.now k }
+    ensures { number_of result ≡ link_refusal p.now k }
 {
     link_verdict(
         plan::modules(p),
@@ -73,46 +58,34 @@ fn link_check(p: &Plan, k: usize) -> u32
     )
 }
 
-// The first refusal of the links, or 0.
-fn links_check(p: &Plan) -> u32
+// The first refusal of the links.
+fn links_check(p: &Plan) -> Result<(), Refusal>
     requires { links_of p.now ≤ max_links }
-    ensures { result ≡ links_refusal p.now (links_of p.now) 0 }
+    ensures { number_of result ≡ links_refusal p.now (links_of p.now) 0 }
 {
-    let end = plan::links(p) as usize;
-    let mut k: usize = 0;
-    while k < end {
-        let r = link_check(p, k);
-        if r != 0 {
-            return r;
-        }
-        k += 1;
+    for k in 0..plan::links(p) as usize {
+        link_check(p, k)?;
     }
-    0
+    Ok(())
 }
 
-// The check of N and L: 14, 15 or 0. Whether L fits the length, the caller says who has one.
-pub fn counts_check(n: u16, l: u16, fits: bool) -> u32
-    ensures { result ≡ counts_refusal n l fits }
+// The check of N and L: 14 or 15. Whether L fits the length, the caller says who has one.
+pub fn counts_check(n: u16, l: u16, fits: bool) -> Result<(), Refusal>
+    ensures { number_of result ≡ counts_refusal n l fits }
 {
     if MAX_MODULES < n {
-        return 14;
+        return Err(Refusal::PlanModules);
     }
-    if MAX_LINKS < l {
-        return 15;
+    if MAX_LINKS < l || !fits {
+        return Err(Refusal::PlanLinks);
     }
-    if !fits {
-        return 15;
-    }
-    0
+    Ok(())
 }
 
-// The check of a plan value: the first of 14 to 18 that applies, or 0.
-pub fn check(p: &Plan) -> u32
-    ensures { result ≡ plan_refusal p.now }
+// The check of a plan value: the first of 14 to 18 that applies.
+pub fn check(p: &Plan) -> Result<(), Refusal>
+    ensures { number_of result ≡ plan_refusal p.now }
 {
-    let counts = counts_check(plan::modules(p), plan::links(p), true);
-    if counts != 0 {
-        return counts;
-    }
+    counts_check(plan::modules(p), plan::links(p), true)?;
     links_check(p)
 }
