@@ -1,4 +1,2 @@
 pub mod laws
-pub mod Head
-pub mod Answers
 pub mod Stores

@@ -4,20 +4,15 @@
 ghost use Rattle.std.specs.Prelude.{◌≡◌, ◌+◌, ◌*◌, ◌<◌, ◌≤◌, length};
 ghost use Rattle.std.proofs.lemmas.List.Edits.{sets};
 ghost use Rattle.base.specs.Limits.{max_links};
+ghost use Rattle.refusal.specs.Number.{number_of};
 ghost use Rattle.plan.specs.Links.{links_of};
 ghost use Rattle.plan_file.specs.Layout.{number_at, decode, encode, blank};
 ghost use Rattle.plan_file.specs.laws.Head.{HeadOk};
-ghost use Rattle.plan_file.specs.Reading.{head_refusal, read_refusal, read_plan, Loaded};
+ghost use Rattle.plan_file.specs.Reading.{head_refusal, read_refusal, read_plan, outcome_of, Loaded};
 ghost use Rattle.plan_file.specs.Writing.{size, write_plan};
 
 use plan::{NUMBERS, Plan};
-
-// What reading bytes answers: the refusal, or 0 and the plan.
-#[derive(Clone, Copy)]
-pub struct Outcome {
-    pub refusal: u32,
-    pub plan: Plan,
-}
+use refusal::Refusal;
 
 // The integer number i after the version byte.
 fn number_at(s: &[u8], i: usize) -> u16
@@ -27,22 +22,19 @@ fn number_at(s: &[u8], i: usize) -> u16
     format_int16::at(s, 1 + 2 * i)
 }
 
-// The check of version, lengths and counts: 11 to 15, or 0.
-fn head_check(s: &[u8]) -> u32
-    ensures { result ≡ head_refusal s.now }
+// The check of version, lengths and counts: 11 to 15.
+fn head_check(s: &[u8]) -> Result<(), Refusal>
+    ensures { number_of result ≡ head_refusal s.now }
 {
     if s.len() < 3 {
-        return 11;
+        return Err(Refusal::PlanShort);
     }
     if s[0] != 1 {
-        return 12;
+        return Err(Refusal::PlanVersion);
     }
     let len = number_at(s, 0) as usize;
-    if len != s.len() - 3 {
-        return 13;
-    }
-    if len < 4 {
-        return 13;
+    if len != s.len() - 3 || len < 4 {
+        return Err(Refusal::PlanLength);
     }
     let l = number_at(s, 2);
     plan_check::counts_check(number_at(s, 1), l, len == 4 + 8 * (l as usize))
@@ -62,42 +54,30 @@ fn fill(s: &[u8], plan: &mut Plan)
 }
 
 // The check of the bytes, which leaves a plan that is taken in `plan`.
-pub fn load(s: &[u8], plan: &mut Plan) -> u32
+pub fn load(s: &[u8], plan: &mut Plan) -> Result<(), Refusal>
     requires { plan.old ≡ blank }
-    ensures { Loaded s.now result plan.new }
+    ensures { Loaded s.now (number_of result) plan.new }
 {
-    let head = head_check(s);
-    if head != 0 {
-        return head;
-    }
+    head_check(s)?;
     fill(s, plan);
     plan_check::check(plan)
 }
 
-// Whether bytes are a plan: the first of 11 to 18 that applies, or 0.
-pub fn check(s: &[u8]) -> u32
-    ensures { result ≡ read_refusal s.now }
+// Whether bytes are a plan: the first of 11 to 18 that applies.
+pub fn check(s: &[u8]) -> Result<(), Refusal>
+    ensures { number_of result ≡ read_refusal s.now }
 {
     let mut plan = [0u16; NUMBERS];
     load(s, &mut plan)
 }
 
 // The plan that bytes are, or the first of 11 to 18 that applies.
-pub fn read(s: &[u8]) -> Outcome
-    ensures { result ≡ read_plan s.now }
+pub fn read(s: &[u8]) -> Result<Plan, Refusal>
+    ensures { outcome_of result ≡ read_plan s.now }
 {
     let mut plan = [0u16; NUMBERS];
-    let r = load(s, &mut plan);
-    if r != 0 {
-        return Outcome {
-            refusal: r,
-            plan: [0u16; NUMBERS],
-        };
-    }
-    Outcome {
-        refusal: 0,
-        plan: plan,
-    }
+    load(s, &mut plan)?;
+    Ok(plan)
 }
 
 // Writes a plan at the front.
@@ -116,17 +96,14 @@ pub fn put_plan(p: &Plan, out: &mut [u8])
     }
 }
 
-// Writes a plan value at the front of the buffer: the first of 14 to 18 that applies, 22, or 0.
-pub fn write(p: &Plan, out: &mut [u8]) -> u32
-    ensures { record { refusal = result; state = out.new } ≡ write_plan p.now out.old }
+// Writes a plan value at the front of the buffer: the first of 14 to 18 that applies, then 22.
+pub fn write(p: &Plan, out: &mut [u8]) -> Result<(), Refusal>
+    ensures { record { refusal = number_of result; state = out.new } ≡ write_plan p.now out.old }
 {
-    let r = plan_check::check(p);
-    if r != 0 {
-        return r;
-    }
+    plan_check::check(p)?;
     if out.len() < 7 + 8 * (plan::links(p) as usize) {
-        return 22;
+        return Err(Refusal::PlanBuffer);
     }
     put_plan(p, out);
-    0
+    Ok(())
 }

@@ -1,7 +1,7 @@
 -- What the reporting program prints for the bytes that it reads.
 use Rattle.std.specs.Prelude.{ℕ, cond, List, replicate, eqb}
 use Rattle.base.specs.Loop.{Ran}
-use Rattle.plan_file.specs.declared.Outcome.{Outcome}
+use Rattle.plan_file.specs.Reading.{Outcome}
 use Rattle.plan_file.specs.Reading.{read_plan}
 use Rattle.field.specs.Edges.{ceiling_of}
 use Rattle.field.specs.Held.{Held}

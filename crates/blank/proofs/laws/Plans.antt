@@ -18,7 +18,7 @@ use Rattle.base.specs.Table.{tabulate}
 use Rattle.plan.specs.Links.{Plan, modules_of, links_of, lower_of, higher_of, near_of, far_of}
 use Rattle.plan.specs.Refusal.{counts_refusal, in_order, link_verdict, link_refusal, links_refusal, plan_refusal}
 use Rattle.plan.proofs.laws.Accepted.{counted_back}
-use Rattle.plan_file.specs.declared.Outcome.{Outcome}
+use Rattle.plan_file.specs.Reading.{Outcome}
 use Rattle.plan.specs.Trimmed.{trimmed}
 use Rattle.plan.proofs.laws.Trimmed.{trimmed-same}
 use Rattle.plan_file.specs.Layout.{bytes_of, encode, decode, blank}

@@ -9,7 +9,7 @@ use Rattle.base.specs.Limits.{max_links}
 use Rattle.base.specs.None.{none}
 use Rattle.plan.specs.Links.{Plan, links_of}
 use Rattle.plan.specs.Weights.{cost}
-use Rattle.plan_file.specs.declared.Outcome.{Outcome}
+use Rattle.plan_file.specs.Reading.{Outcome}
 use Rattle.plan_file.specs.Reading.{read_plan}
 use Rattle.library_plan.specs.Lent.{plan_into, cost_or_none}
 

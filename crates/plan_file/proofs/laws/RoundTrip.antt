@@ -19,7 +19,7 @@ use Rattle.plan.specs.Refusal.{plan_refusal}
 use Rattle.plan.proofs.laws.Accepted.{Accepted, accepted}
 use Rattle.plan.specs.Trimmed.{padded, trimmed}
 use Rattle.plan.proofs.laws.Trimmed.{padded-at, trimmed-taken}
-use Rattle.plan_file.specs.declared.Outcome.{Outcome}
+use Rattle.plan_file.specs.Reading.{Outcome}
 use Rattle.plan_file.specs.Layout.{plan_numbers, bytes_of, encode, number_at, decode, blank}
 use Rattle.plan_file.proofs.laws.Lengths.{length-encode}
 use Rattle.plan_file.specs.Reading.{head_refusal, read_refusal, read_plan}

@@ -1,23 +1,22 @@
--- plan_file::write: one law for each return: `w-refused`, `w-short`, `w-written`; that the links fit the array, by `w-links`.
-use native.Mathlib.Omega.{arith}
-use Rattle.plan_file.proofs.Stores.{w-refused, w-links, w-short, w-written}
+-- plan_file::write: that the links fit the array, by `taken-links`; the buffer, by `written-front`.
+use Rattle.std.proofs.Common.{arith}
+use Rattle.std.proofs.lemmas.Bool.Decides.{nat_tests}
+use Rattle.refusal.proofs.laws.Number.{positive}
+use Rattle.plan_file.specs.Writing.{write_refusal, write_plan}
+use Rattle.plan_file.proofs.Stores.{taken-links, written-front}
 use Rattle.plan_file.proofs.write.Goals as goal
 
-pub returns-then-r-ne0 : goal.returns-then-r-ne0
-returns-then-r-ne0 c = w-refused _ _ _ c.check-r.ensures c.if-r-ne0.true
+pub returns-in_err-check : goal.returns-in_err-check
+unfolding write_plan write_refusal
+returns-in_err-check c = grind (arith, nat_tests, positive)
 
 pub returns-then-out-links : goal.returns-then-out-links
-returns-then-out-links c = let e = c.before.before in w-short _ _ _ e.check-r.ensures e.if-r-ne0.false (omega (arith, c.links.ensures))
+unfolding write_plan write_refusal
+returns-then-out-links c = grind (arith, nat_tests)
 
 pub put_plan-requires : goal.put_plan-requires
-put_plan-requires c =
-    let n = c.before.before in
-    let e = n.before in
-    (w-links e.args.p.now _ e.check-r.ensures e.if-r-ne0.false, omega (arith, n.links.ensures))
+put_plan-requires c = grind (arith, taken-links)
 
 pub returns : goal.returns
-returns c =
-    let q = c.before.before in
-    let n = q.before.before.before in
-    let e = n.before in
-    w-written _ _ _ e.check-r.ensures e.if-r-ne0.false (omega (arith, n.links.ensures)) _ q.put_plan.ensures
+unfolding write_plan write_refusal
+returns c = grind (arith, nat_tests, written-front)

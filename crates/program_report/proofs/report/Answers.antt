@@ -8,7 +8,7 @@ use lib.Seq.{length-take-le}
 use Rattle.base.specs.Limits.{max_words}
 use Rattle.format_text.specs.Put.{put}
 use Rattle.field.specs.Edges.{ceiling_of}
-use Rattle.plan_file.specs.declared.Outcome.{Outcome}
+use Rattle.plan_file.specs.Reading.{Outcome}
 use Rattle.plan_file.specs.Reading.{read_plan}
 use Rattle.text_owed.proofs.laws.Reported.{plan-refused, plan-taken}
 use Rattle.text_owed.proofs.laws.ReportFits.{read_small, zeros-front}

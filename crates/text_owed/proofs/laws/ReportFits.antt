@@ -8,7 +8,7 @@ use Rattle.base.proofs.laws.Loop.{by-test}
 use Rattle.format_text.specs.Lines.{refused_text}
 use Rattle.format_text.proofs.laws.Lines.{line-length}
 use Rattle.plan.proofs.laws.Ceiling.{ceiling-small}
-use Rattle.plan_file.specs.declared.Outcome.{Outcome}
+use Rattle.plan_file.specs.Reading.{Outcome}
 use Rattle.plan_file.specs.Reading.{read_plan}
 use Rattle.plan_file.proofs.laws.RoundTrip.{read_taken}
 use Rattle.field.specs.Edges.{ceiling_of}

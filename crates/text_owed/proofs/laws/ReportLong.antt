@@ -11,7 +11,7 @@ use Rattle.base.proofs.laws.Cond.{bool_cases}
 use Rattle.base.specs.Refuse.{or_else}
 use Rattle.base.specs.Limits.{AllBytes}
 use Rattle.format_text.proofs.laws.Input.{Enough}
-use Rattle.plan_file.specs.declared.Outcome.{Outcome}
+use Rattle.plan_file.specs.Reading.{Outcome}
 use Rattle.plan_file.specs.Layout.{number_at, blank}
 use Rattle.plan_file.specs.Reading.{head_verdict, head_refusal, read_refusal, read_plan}
 use Rattle.text_owed.specs.Reported.{plan_text, reported}

@@ -4,7 +4,7 @@ use Rattle.std.proofs.Math.Path.{refl}
 use Rattle.std.proofs.Common.{sym}
 use borrow.Author.Tests.{eq-eqb, ne_eqb}
 use Rattle.base.specs.Loop.{Ran}
-use Rattle.plan_file.specs.declared.Outcome.{Outcome}
+use Rattle.plan_file.specs.Reading.{Outcome}
 use Rattle.field.specs.Edges.{ceiling_of}
 use Rattle.field.specs.Held.{Held}
 use Rattle.host_job.specs.Job.{job_run}

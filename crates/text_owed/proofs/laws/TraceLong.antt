@@ -15,7 +15,7 @@ use Rattle.format_int16.specs.Int16.{at16}
 use Rattle.base.specs.Limits.{AllBytes}
 use Rattle.format_text.proofs.laws.Input.{Enough}
 use Rattle.base.proofs.laws.Refuse.{first_refusal-zero}
-use Rattle.plan_file.specs.declared.Outcome.{Outcome}
+use Rattle.plan_file.specs.Reading.{Outcome}
 use Rattle.plan_file.specs.Layout.{decode, blank}
 use Rattle.plan_file.specs.Reading.{head_refusal, read_refusal, read_plan}
 use Rattle.plan_file.specs.laws.Head.{head_ok}

@@ -9,7 +9,7 @@ use borrow.Author.Tests.{eq-eqb, ne_eqb, le-ltb}
 use Rattle.base.specs.Loop.{Ran, taken_to}
 use Rattle.plan.specs.Links.{Plan}
 use Rattle.plan.specs.Refusal.{plan_refusal}
-use Rattle.plan_file.specs.declared.Outcome.{Outcome}
+use Rattle.plan_file.specs.Reading.{Outcome}
 use Rattle.plan_file.specs.Reading.{read_plan}
 use Rattle.field.specs.Edges.{ceiling_of}
 use Rattle.field.specs.Valid.{waiting_in}
