@@ -5,6 +5,7 @@
 ghost use Rattle.std.specs.Prelude.{◌≡◌, ◌⊎◌, ℕ, ◌+◌, ◌<◌, ◌≤◌, length, set};
 ghost use Rattle.base.specs.Limits.{max_modules, max_links};
 ghost use Rattle.base.specs.None.{none};
+ghost use Rattle.refusal.specs.Number.{number_of};
 ghost use Rattle.plan.specs.Links.{links_of, lower_of, higher_of, graph_of};
 ghost use Rattle.plan.specs.Weights.{earlier};
 ghost use Rattle.plan.specs.Refusal.{plan_refusal};
@@ -16,6 +17,7 @@ ghost use Rattle.plan_tree.specs.Lent.{at, LabelsFit, Fit, Takes, TakesTo, First
 use base::NONE;
 use plan::Plan;
 use plan_labels::{LABELS, PartLabels};
+use refusal::Refusal;
 
 // For each part the edge to join by, or none.
 type Picks = [u16; LABELS];
@@ -161,17 +163,14 @@ pub fn grow(plan: &Plan, out: &mut [u8])
     phases(plan, &mut label, out);
 }
 
-// The central tree of a plan: refused by 14 to 20, or the L bytes are written.
-pub fn build(p: &Plan, out: &mut [u8]) -> u32
-    ensures { record { refusal = result; state = out.new } ≡ central_tree p.now out.old }
+// The central tree of a plan: refused by 14 to 18 or 20, or the L bytes are written.
+pub fn build(p: &Plan, out: &mut [u8]) -> Result<(), Refusal>
+    ensures { record { refusal = number_of result; state = out.new } ≡ central_tree p.now out.old }
 {
-    let bad = plan_check::check(p);
-    if bad != 0 {
-        return bad;
-    }
+    plan_check::check(p)?;
     if out.len() != plan::links(p) as usize {
-        return 20;
+        return Err(Refusal::TreeBuffer);
     }
     grow(p, out);
-    0
+    Ok(())
 }

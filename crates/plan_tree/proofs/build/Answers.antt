@@ -1,25 +1,17 @@
 -- plan_tree::build: refused by `refused-plan` or `refused-size`; else the bytes are the tree's, by `built`.
-use mathlib.Core.Path.{sym, ◌∙◌}
+use Rattle.std.proofs.Common.{arith}
+use Rattle.refusal.proofs.laws.Number.{positive}
 use Rattle.plan_tree.proofs.laws.Tree.{refused-plan, refused-size, built}
 use Rattle.plan_tree.proofs.build.Goals as goal
 
-pub returns-then-bad-ne0 : goal.returns-then-bad-ne0
-returns-then-bad-ne0 c =
-    let k = c.before in
-    let s = k.args in
-    rw k.check-bad.ensures (refused-plan s.p.now s.out.now (λ z. c.if-bad-ne0.true (k.check-bad.ensures ∙ z)))
+pub returns-in_err-check : goal.returns-in_err-check
+returns-in_err-check c = grind (arith, refused-plan, positive)
 
 pub returns-then-out-links : goal.returns-then-out-links
-returns-then-out-links c =
-    let n = c.before in
-    let k = n.before.before in
-    let s = k.args in
-    refused-size s.p.now s.out.now (sym k.check-bad.ensures ∙ n.if-bad-ne0.false) (λ e. c.if-out-links.true (e ∙ sym n.links.ensures))
+returns-then-out-links c = grind (arith, refused-size)
 
 pub grow-requires : goal.grow-requires
-grow-requires c = (sym c.check-bad.ensures ∙ c.if-bad-ne0.false, c.if-out-links.false ∙ c.links.ensures)
+grow-requires c = grind arith
 
 pub returns : goal.returns
-returns c =
-    rw c.grow.ensures
-    (built c.args.p.now c.args.out.now (sym c.check-bad.ensures ∙ c.if-bad-ne0.false) (c.if-out-links.false ∙ c.links.ensures))
+returns c = grind (arith, built)
