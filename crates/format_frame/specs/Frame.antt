@@ -1,10 +1,11 @@
 -- Radio frames: the bytes of a message, and which bytes are refused.
-use Rattle.std.specs.Prelude.{ℕ, List, ◌∷◌, not, cond, ◌&&◌, length, get_or, eqb}
+use Rattle.std.specs.Prelude.{ℕ, Result, Ok, Err, List, ◌∷◌, not, cond, ◌&&◌, length, get_or, eqb}
 use Rattle.base.specs.Loop.{After, answering}
 use Rattle.base.specs.Refuse.{or_else}
+use Rattle.refusal.specs.declared.Refusal.{Refusal}
+use Rattle.refusal.specs.Number.{number}
 use Rattle.format_int16.specs.Int16.{at16, bytes16}
 use Rattle.format_message.specs.Listed.{listed}
-use Rattle.format_frame.specs.declared.Frame.{Frame}
 
 -- "A frame is version byte 1, length 3, header, carried number: 6 bytes."
 abbrev pub frame_bytes : ℕ → ℕ → List ℕ
@@ -16,6 +17,17 @@ frame_refusal s =
     or_else (not (eqb (length s) 6)) 61
     (or_else (not (eqb (get_or s 0 0) 1 && eqb (at16 s 1) 3)) 62
     (or_else (not (listed (get_or s 3 0) (at16 s 4))) 63 0))
+
+-- what reading bytes answers: the refusal, or 0 and what the frame says; zeros beside a refusal
+pub record Frame : Type 0 where
+  pub refusal : ℕ
+  pub header : ℕ
+  pub carried : ℕ
+
+-- the same from the reader's answer
+abbrev pub said : Result (ℕ × ℕ) Refusal → Frame
+said (Ok f) = record { refusal = 0; header = f.0; carried = f.1 }
+said (Err r) = record { refusal = number r; header = 0; carried = 0 }
 
 -- what the reader answers: a refusal answers its number alone
 unfoldable pub frame_read : List ℕ → Frame

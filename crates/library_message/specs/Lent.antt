@@ -1,6 +1,6 @@
 -- A frame read into lent memory.
 use Rattle.std.specs.Prelude.{ℕ, cond, List, eqb}
-use Rattle.format_frame.specs.declared.Frame.{Frame}
+use Rattle.format_frame.specs.Frame.{Frame}
 use Rattle.format_frame.specs.Frame.{frame_read}
 
 -- what `frame_read` gives, and "a refused call alters no .. lent byte or word": header and carried number as they were

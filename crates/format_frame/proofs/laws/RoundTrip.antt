@@ -8,7 +8,7 @@ use Rattle.format_message.specs.Msg.{Msg}
 use Rattle.format_message.specs.Header.{header_of, carried_of, meant}
 use Rattle.format_message.specs.Listed.{listed, Listed}
 use Rattle.format_message.proofs.laws.Means.{means, has_listed, means-back}
-use Rattle.format_frame.specs.declared.Frame.{Frame}
+use Rattle.format_frame.specs.Frame.{Frame}
 use Rattle.format_frame.specs.Frame.{frame_bytes, frame_refusal, frame_read, frame_written}
 use Rattle.format_frame.proofs.laws.Six.{six}
 use Rattle.format_frame.proofs.laws.Frame.{taken, FrameOk, frame-ok, frame-read-taken, write_done}

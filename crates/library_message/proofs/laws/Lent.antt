@@ -4,7 +4,7 @@ use Rattle.std.specs.Prelude.{ℕ, ◌≡◌, ◌≢◌, List}
 use Rattle.std.proofs.Common.{sym}
 use borrow.Author.Tests.{eq-eqb}
 use Rattle.base.proofs.laws.Cond.{eqb-diff}
-use Rattle.format_frame.specs.declared.Frame.{Frame}
+use Rattle.format_frame.specs.Frame.{Frame}
 use Rattle.format_frame.specs.Frame.{frame_read}
 use Rattle.library_message.specs.Lent.{frame_into}
 
