@@ -12,3 +12,4 @@ pub mod Table
 pub mod Sets
 pub mod Keep
 pub mod Twice
+pub mod Chains

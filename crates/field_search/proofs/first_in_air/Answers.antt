@@ -1,7 +1,7 @@
 use Rattle.std.proofs.Common.{rules, tests}
 use Rattle.std.proofs.lemmas.Iterator.{YieldsList-from_slice}
 use Rattle.std.proofs.lemmas.Iterator.Search.{position_from_yields_List}
-use Rattle.field.proofs.laws.Chains.{first-is}
+use Rattle.base.proofs.laws.Chains.{first-is}
 use Rattle.field_search.proofs.first_in_air.Goals as goal
 
 pub returns : goal.returns

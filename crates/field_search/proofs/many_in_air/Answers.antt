@@ -1,5 +1,5 @@
 use Rattle.std.proofs.Common.{rules}
-use Rattle.field.proofs.laws.Chains.{many-is}
+use Rattle.base.proofs.laws.Chains.{many-is}
 use Rattle.field_search.proofs.many_in_air.Goals as goal
 
 pub returns : goal.returns
