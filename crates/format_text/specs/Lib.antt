@@ -3,3 +3,4 @@ pub mod Put
 pub mod Decimal
 pub mod Lines
 pub mod Input
+pub mod Pages

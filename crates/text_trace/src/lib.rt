@@ -5,165 +5,146 @@ ghost use Rattle.std.specs.Prelude.{◌<◌, ◌≤◌, ◌≡◌};
 ghost use Rattle.base.specs.Limits.{max_modules, max_links};
 ghost use Rattle.plan.specs.Links.{modules_of, links_of};
 ghost use Rattle.format_text.specs.Put.{page, put};
+ghost use Rattle.format_text.specs.Pages.{HasPut};
 ghost use Rattle.text_trace.specs.Text.{item as Text·item};
 ghost use Rattle.text_trace.specs.Text.{link_item, first_text, other_text, values_text, mark_text, marks_text, module_text, modules_text, words_text, refusal_text, summary_text, trace_text};
 
 use base::NONE;
 use field::{Cells, Field, Marks};
+use format_text::Page;
 use node::Node;
 use plan::Plan;
 
 // A blank and a number.
-fn item(out: &mut [u8], at: usize, x: u16) -> usize
-    ensures { page result out.new ≡ put (page at out.old) (Text·item x) }
+fn item(page: &mut Page, x: u16)
+    ensures { HasPut page.old page.new (Text·item x) }
 {
-    format_text::put_named(out, at, b" ", x as u64)
+    page.put_named(b" ", x as u64);
 }
 
 // A blank and a link number, or "-" for none.
-fn link_or_none(out: &mut [u8], at: usize, x: u16) -> usize
-    ensures { page result out.new ≡ put (page at out.old) (link_item x) }
+fn link_or_none(page: &mut Page, x: u16)
+    ensures { HasPut page.old page.new (link_item x) }
 {
     if x == NONE {
-        return format_text::put(out, at, b" -");
+        page.put(b" -");
+    } else {
+        item(page, x);
     }
-    item(out, at, x)
 }
 
 // A module's values in document 01's order, the first five.
-fn first_values(out: &mut [u8], at: usize, n: Node) -> usize
-    ensures { page result out.new ≡ put (page at out.old) (first_text n) }
+fn first_values(page: &mut Page, n: Node)
+    ensures { HasPut page.old page.new (first_text n) }
 {
-    let a = item(out, at, n.status);
-    let b = item(out, a, n.level);
-    let c = link_or_none(out, b, n.identity);
-    let d = link_or_none(out, c, n.weight);
-    link_or_none(out, d, n.best)
+    item(page, n.status);
+    item(page, n.level);
+    link_or_none(page, n.identity);
+    link_or_none(page, n.weight);
+    link_or_none(page, n.best);
 }
 
 // The others, the waking link last.
-fn other_values(out: &mut [u8], at: usize, n: Node) -> usize
-    ensures { page result out.new ≡ put (page at out.old) (other_text n) }
+fn other_values(page: &mut Page, n: Node)
+    ensures { HasPut page.old page.new (other_text n) }
 {
-    let a = link_or_none(out, at, n.test);
-    let b = link_or_none(out, a, n.branch);
-    let c = item(out, b, n.count);
-    let d = item(out, c, n.halted);
-    link_or_none(out, d, n.waking)
+    link_or_none(page, n.test);
+    link_or_none(page, n.branch);
+    item(page, n.count);
+    item(page, n.halted);
+    link_or_none(page, n.waking);
 }
 
-fn values(out: &mut [u8], at: usize, n: Node) -> usize
-    ensures { page result out.new ≡ put (page at out.old) (values_text n) }
+fn values(page: &mut Page, n: Node)
+    ensures { HasPut page.old page.new (values_text n) }
 {
-    let a = first_values(out, at, n);
-    other_values(out, a, n)
+    first_values(page, n);
+    other_values(page, n);
 }
 
 // Module v's mark for link k, if k is a link of v.
-fn mark<'a>(plan: &'a Plan, marks: &'a Marks, out: &mut [u8], at: usize, v: u16, k: u16) -> usize
+fn mark(page: &mut Page, plan: &Plan, marks: &Marks, v: u16, k: u16)
     requires { (links_of plan.now ≤ max_links) × (k < links_of plan.now) }
-    ensures { page result out.new
-        ≡ put (page at out.old) (mark_text plan.now marks.now v k) }
+    ensures { HasPut page.old page.new (mark_text plan.now marks.now v k) }
 {
     if !node_edges::owns(plan, v, k) {
-        return at;
+        return;
     }
-    let x = node_edges::mark_at(plan, marks, v, k);
-    let a = item(out, at, k);
-    format_text::put_named(out, a, b":", x as u64)
+    item(page, k);
+    page.put_named(b":", node_edges::mark_at(plan, marks, v, k) as u64);
 }
 
 // Module v's marks for its own links, by number.
-fn own_marks<'a>(plan: &'a Plan, marks: &'a Marks, out: &mut [u8], at: usize, v: u16) -> usize
+fn own_marks(page: &mut Page, plan: &Plan, marks: &Marks, v: u16)
     requires { links_of plan.now ≤ max_links }
-    ensures { page result out.new
-        ≡ put (page at out.old) (marks_text plan.now marks.now v (links_of plan.now)) }
+    ensures { HasPut page.old page.new (marks_text plan.now marks.now v (links_of plan.now)) }
 {
-    let links = plan::links(plan);
-    let mut a = at;
-    let mut k: u16 = 0;
-    while k < links {
-        a = mark(plan, marks, out, a, v, k);
-        k += 1;
+    for k in 0..plan::links(plan) {
+        mark(page, plan, marks, v, k);
     }
-    a
 }
 
 // Module v's line.
-fn module_line<'a>(
-    plan: &'a Plan,
-    cells: &'a Cells,
-    marks: &'a Marks,
-    out: &mut [u8],
-    at: usize,
-    v: u16,
-) -> usize
+fn module_line(page: &mut Page, plan: &Plan, cells: &Cells, marks: &Marks, v: u16)
     requires { (links_of plan.now ≤ max_links) × (v < max_modules) }
-    ensures { page result out.new ≡ put (page at out.old)
-        (module_text plan.now cells.now marks.now v) }
+    ensures { HasPut page.old page.new (module_text plan.now cells.now marks.now v) }
 {
     let n = field_cells::load(cells, v);
-    let a = format_text::put_named(out, at, b"module ", v as u64);
-    let b = values(out, a, n);
-    let c = own_marks(plan, marks, out, b, v);
-    format_text::put(out, c, b"\n")
+    page.put_named(b"module ", v as u64);
+    values(page, n);
+    own_marks(page, plan, marks, v);
+    page.put(b"\n");
 }
 
 // A line for each of the modules.
-fn modules<'a>(
-    plan: &'a Plan,
-    cells: &'a Cells,
-    marks: &'a Marks,
-    out: &mut [u8],
-    at: usize,
-) -> usize
+fn modules(page: &mut Page, plan: &Plan, cells: &Cells, marks: &Marks)
     requires { (modules_of plan.now ≤ max_modules) × (links_of plan.now ≤ max_links) }
-    ensures { page result out.new ≡ put (page at out.old)
-        (modules_text plan.now cells.now marks.now (modules_of plan.now)) }
+    ensures { HasPut page.old page.new (modules_text plan.now cells.now marks.now (modules_of plan.now)) }
 {
-    let n = plan::modules(plan);
-    let mut a = at;
-    let mut v: u16 = 0;
-    while v < n {
-        a = module_line(plan, cells, marks, out, a, v);
-        v += 1;
+    for v in 0..plan::modules(plan) {
+        module_line(page, plan, cells, marks, v);
     }
-    a
 }
 
 // A line for each word.
-fn words(waiting: &[u64], out: &mut [u8], at: usize) -> usize
-    ensures { page result out.new ≡ put (page at out.old) (words_text waiting.now) }
+fn words(page: &mut Page, waiting: &[u64])
+    ensures { HasPut page.old page.new (words_text waiting.now) }
 {
-    let mut a = at;
-    let mut i: usize = 0;
-    while i < waiting.len() {
-        a = format_text::put_line(out, a, b"word ", waiting[i]);
-        i += 1;
+    for word in waiting {
+        page.put_line(b"word ", *word);
     }
-    a
 }
 
 // The refusal that ended the run, or "none".
-fn refusal(out: &mut [u8], at: usize, number: u32) -> usize
-    ensures { page result out.new ≡ put (page at out.old) (refusal_text number) }
+fn refusal(page: &mut Page, number: u32)
+    ensures { HasPut page.old page.new (refusal_text number) }
 {
     if number == 0 {
-        return format_text::put(out, at, b"refusal none\n");
+        page.put(b"refusal none\n");
+    } else {
+        page.put_line(b"refusal ", number as u64);
     }
-    format_text::put_line(out, at, b"refusal ", number as u64)
 }
 
-fn summary(out: &mut [u8], steps: usize, number: u32, sent: u32, waiting: usize) -> usize
-    ensures { page result out.new ≡ put (page 0 out.old) (summary_text steps number sent waiting) }
+fn summary(page: &mut Page, steps: usize, number: u32, sent: u32, waiting: usize)
+    ensures { HasPut page.old page.new (summary_text steps number sent waiting) }
 {
-    let a = format_text::put_line(out, 0, b"steps ", steps as u64);
-    let b = refusal(out, a, number);
-    let c = format_text::put_line(out, b, b"sent ", sent as u64);
-    format_text::put_line(out, c, b"waiting ", waiting as u64)
+    page.put_line(b"steps ", steps as u64);
+    refusal(page, number);
+    page.put_line(b"sent ", sent as u64);
+    page.put_line(b"waiting ", waiting as u64);
 }
 
-// The whole, from the buffer's front: of a field with an accepted plan, or one that is no larger.
+fn trace(page: &mut Page, p: &Plan, f: &Field, steps: usize, number: u32, waiting: &[u64])
+    requires { (modules_of p.now ≤ max_modules) × (links_of p.now ≤ max_links) }
+    ensures { HasPut page.old page.new (trace_text p.now f.now steps number waiting.now) }
+{
+    summary(page, steps, number, f.sent, waiting.len());
+    modules(page, p, &f.cells, &f.marks);
+    words(page, waiting);
+}
+
+// The whole, from the buffer's front: of a field with an accepted plan, or one that is no larger. Answers how many bytes were put.
 pub fn render(
     p: &Plan,
     f: Field,
@@ -176,7 +157,7 @@ pub fn render(
     ensures { page result out.new
         ≡ put (page 0 out.old) (trace_text p.now f steps number waiting.now) }
 {
-    let a = summary(out, steps, number, f.sent, waiting.len());
-    let b = modules(p, &f.cells, &f.marks, out, a);
-    words(waiting, out, b)
+    let mut page = Page::new(out);
+    trace(&mut page, p, &f, steps, number, waiting);
+    page.place()
 }

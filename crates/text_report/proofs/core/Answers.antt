@@ -1,18 +1,16 @@
 -- text_report::core: nobody by `core-blank`, refused by `core-unparted`, else a line for each part by `core-parts`.
-use native.Mathlib.Omega.{arith}
-use mathlib.Core.Path.{refl, sym, ap, ◌∙◌}
+use Rattle.std.proofs.Common.{sym, ◌∙◌, refl, arith}
 use Rattle.plan.proofs.laws.Accepted.{accepted}
-use Rattle.format_text.specs.Put.{put}
+use Rattle.format_text.proofs.laws.Pages.{has_put_as}
 use Rattle.text_report.proofs.laws.Text.{core-blank, core-unparted, core-parts}
 use Rattle.text_report.proofs.core.Goals as goal
 
 pub returns-then-modules-eq0 : goal.returns-then-modules-eq0
-returns-then-modules-eq0 c =
-    c.put.ensures ∙ ap (put _) (sym (core-blank _ _ (sym c.modules.ensures ∙ c.if-modules-eq0.true)))
+returns-then-modules-eq0 c = has_put_as (sym (core-blank _ _ (sym c.modules.ensures ∙ c.if-modules-eq0.true))) c.put.ensures
 
 pub returns-then-check-ne0 : goal.returns-then-check-ne0
 returns-then-check-ne0 c =
-    c.put-then-check-ne0.ensures ∙ ap (put _) (sym (core-unparted _ _ (λ e. c.if-check-ne0.true (c.check.ensures ∙ e))))
+    has_put_as (sym (core-unparted _ _ (λ e. c.if-check-ne0.true (c.check.ensures ∙ e)))) c.put-then-check-ne0.ensures
 
 pub merge-requires : goal.merge-requires
 merge-requires c = let a = accepted _ (sym c.check.ensures ∙ c.if-check-ne0.false) in
@@ -23,4 +21,4 @@ parts-requires c = ((accepted _ (sym c.check.ensures ∙ c.if-check-ne0.false)).
 
 pub returns : goal.returns
 returns c =
-    c.parts.ensures ∙ ap (put _) (sym (core-parts _ _ (λ e. c.if-modules-eq0.false (c.modules.ensures ∙ e)) (sym c.check.ensures ∙ c.if-check-ne0.false)))
+    has_put_as (sym (core-parts _ _ (λ e. c.if-modules-eq0.false (c.modules.ensures ∙ e)) (sym c.check.ensures ∙ c.if-check-ne0.false))) c.parts.ensures

@@ -1,13 +1,11 @@
--- text_trace::link_or_none: "-" by `link-none`, a number by `link-some`.
-use mathlib.Core.Path.{sym, ap, ◌∙◌}
-use Rattle.format_text.specs.Put.{put}
-use Rattle.text_trace.proofs.laws.Text.{link-none, link-some}
+use Rattle.std.proofs.Common.{rules, tests}
+use Rattle.text_trace.specs.Text.{link_item}
 use Rattle.text_trace.proofs.link_or_none.Goals as goal
 
 pub returns-then-x-eq-NONE : goal.returns-then-x-eq-NONE
-returns-then-x-eq-NONE c =
-    c.put.ensures ∙ ap (put _) (sym (link-none _ c.if-x-eq-NONE.true))
+unfolding link_item
+returns-then-x-eq-NONE c = search (tests, rules)
 
-pub returns : goal.returns
-returns c =
-    c.item.ensures ∙ ap (put _) (sym (link-some _ c.if-x-eq-NONE.false))
+pub returns-else-x-eq-NONE : goal.returns-else-x-eq-NONE
+unfolding link_item
+returns-else-x-eq-NONE c = search (tests, rules)

@@ -1,25 +1,13 @@
-use native.Mathlib.Omega.{arith}
-use mathlib.Core.Path.{◌≡◌, refl, sym, ap, ◌∙◌}
-use borrow.Author.Rules.{rules}
-use Rattle.format_text.specs.Put.{put}
-use Rattle.format_text.proofs.laws.Put.{put-none, put_on}
+use Rattle.std.proofs.Common.{rules}
+use Rattle.format_text.proofs.laws.Pages.{has_put_none, has_put_two, has_put_as}
 use Rattle.text_trace.specs.Text.{modules_text}
-use Rattle.text_trace.proofs.laws.Text.{modules-none, modules-turn}
+use Rattle.text_trace.proofs.laws.Text.{modules-turn}
 use Rattle.text_trace.proofs.modules.Goals as goal
 
 pub loop-v-init : goal.loop-v-init
-loop-v-init c =
-    (omega arith, refl, sym (ap (put _) (modules-none _ _ _) ∙ put-none _))
+unfolding modules_text
+loop-v-init c = search (rules, has_put_none)
 
 pub loop-v-preserved : goal.loop-v-preserved
-loop-v-preserved c = (
-  omega arith,
-  search rules,
-  put_on _ (modules_text _ _ _ _) _ c.loop-v.invariant.2 c.module_line-a.ensures
-      ∙ ap (put _) (modules-turn _ _ _ _),
-)
-
-pub returns : goal.returns
-returns c =
-    let end : c.loop-v.v ≡ c.modules-n.result = omega arith in
-    c.loop-v.invariant.2 ∙ ap (put _) (ap (modules_text _ _ _) (end ∙ c.modules-n.ensures))
+loop-v-preserved c =
+    has_put_as (modules-turn c.args.plan.now c.args.cells.now c.args.marks.now c.loop-v.v) (search (rules, has_put_two))

@@ -1,13 +1,14 @@
-use native.Mathlib.Omega.{arith}
-use mathlib.Core.Path.{sym, ◌∙◌}
-use borrow.Author.Rules.{rules}
+use Rattle.std.proofs.Common.{sym, ◌∙◌}
 use Rattle.text_trace.proofs.laws.Text.{words-turn, words-over}
 use Rattle.text_trace.proofs.words.Goals as goal
 
-pub loop-i-preserved : goal.loop-i-preserved
-loop-i-preserved c =
-    (omega arith, search rules, c.loop-i.invariant.2 ∙ words-turn _ _ _ c.loop-i-test.true c.put_line-a.ensures)
+pub loop-word-preserved : goal.loop-word-preserved
+loop-word-preserved c =
+    let l = c.loop-word.invariant in
+    let line = c.put_line.ensures in
+    record { same = line.same ∙ l.same; rest = l.rest ∙ words-turn _ _ _ c.loop-word-test.true line.put }
 
 pub returns : goal.returns
 returns c =
-    sym (c.loop-i.invariant.2 ∙ words-over _ _ _ c.loop-i-test.false)
+    let l = c.loop-word.invariant in
+    record { same = l.same; put = sym (l.rest ∙ words-over _ _ _ c.loop-word-test.false) }

@@ -1,0 +1,6 @@
+use Rattle.std.proofs.Common.{rules}
+use Rattle.format_text.proofs.laws.Pages.{has_put_two}
+use Rattle.format_text.proofs.Page.put_line.Goals as goal
+
+pub returns : goal.returns
+returns c = search (rules, has_put_two)
