@@ -126,11 +126,7 @@ fn parts(page: &mut Page, plan: &Plan, labels: &PartLabels, cells: &Cells)
 fn core(page: &mut Page, plan: &Plan, cells: &Cells)
     ensures { HasPut page.old page.new (core_text plan.now cells.now) }
 {
-    if plan::modules(plan) == 0 {
-        page.put(b"core none\n");
-        return;
-    }
-    if plan_check::check(plan) != 0 {
+    if plan::modules(plan) == 0 || plan_check::check(plan).is_err() {
         page.put(b"core none\n");
         return;
     }
