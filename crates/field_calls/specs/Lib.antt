@@ -1,4 +1,5 @@
 pub mod Schedule
+pub mod Kind
 pub mod Rounds
 pub mod Call
 pub mod Trail

@@ -1,10 +1,34 @@
 // Schedules, rounds and lists of calls: definitions, and demand 3 stated over them.
 #![tactic(auto)]
 
-// The kind of a step that wakes.
-pub const WAKE: u8 = 1;
+ghost use Rattle.field_calls.specs.Kind.{IsKind};
 
-// A step: "kind (1 wake, 2 hand over, 3 serve) and a number".
+use refusal::Refusal;
+
+// The kind of a step: "1 wake, 2 hand over, 3 serve".
+#[derive(Clone, Copy)]
+pub enum Kind {
+    Wake = 1,
+    HandOver = 2,
+    Serve = 3,
+}
+
+impl TryFrom<u8> for Kind {
+    type Error = Refusal;
+
+    ghost try_from_gives = { IsKind };
+
+    fn try_from(kind: u8) -> Result<Self, Refusal> {
+        match kind {
+            1 => Ok(Kind::Wake),
+            2 => Ok(Kind::HandOver),
+            3 => Ok(Kind::Serve),
+            _ => Err(Refusal::StepKind),
+        }
+    }
+}
+
+// A step: "kind .. and a number". The kind is a number, as it stands in the bytes: `step_of` reads them unchecked too, and C gets it so.
 #[derive(Clone, Copy)]
 pub struct Step {
     pub kind: u8,

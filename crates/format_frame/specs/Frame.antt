@@ -3,7 +3,7 @@ use Rattle.std.specs.Prelude.{ℕ, Result, Ok, Err, List, ◌∷◌, not, cond, 
 use Rattle.base.specs.Loop.{After, answering}
 use Rattle.base.specs.Refuse.{or_else}
 use Rattle.refusal.specs.declared.Refusal.{Refusal}
-use Rattle.refusal.specs.Number.{number}
+use Rattle.refusal.specs.Number.{numbered}
 use Rattle.format_int16.specs.Int16.{at16, bytes16}
 use Rattle.format_message.specs.Listed.{listed}
 
@@ -27,7 +27,7 @@ pub record Frame : Type 0 where
 -- the same from the reader's answer
 abbrev pub said : Result (ℕ × ℕ) Refusal → Frame
 said (Ok f) = record { refusal = 0; header = f.0; carried = f.1 }
-said (Err r) = record { refusal = number r; header = 0; carried = 0 }
+said (Err r) = record { refusal = numbered r; header = 0; carried = 0 }
 
 -- what the reader answers: a refusal answers its number alone
 unfoldable pub frame_read : List ℕ → Frame

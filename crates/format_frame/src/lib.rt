@@ -2,14 +2,14 @@
 #![tactic(auto)]
 
 ghost use Rattle.std.specs.Prelude.{◌≡◌, length};
-ghost use Rattle.refusal.specs.Number.{number_of};
+ghost use Rattle.refusal.specs.Number.{refusal_in};
 ghost use Rattle.format_frame.specs.Frame.{frame_bytes, frame_refusal, frame_read, said, frame_written};
 
 use refusal::Refusal;
 
 // The refusal of a frame's bytes: 61 to 63.
 pub fn check(s: &[u8]) -> Result<(), Refusal>
-    ensures { number_of result ≡ frame_refusal s.now }
+    ensures { refusal_in result ≡ frame_refusal s.now }
 {
     if s.len() != 6 {
         return Err(Refusal::FrameSize);
@@ -46,7 +46,7 @@ fn fill(header: u8, carried: u16, out: &mut [u8])
 
 // Writes a frame into six bytes; a refusal, 63 or 64, leaves them.
 pub fn write(header: u8, carried: u16, out: &mut [u8]) -> Result<(), Refusal>
-    ensures { record { refusal = number_of result; state = out.new } ≡ frame_written header carried out.old }
+    ensures { record { refusal = refusal_in result; state = out.new } ≡ frame_written header carried out.old }
 {
     if !format_message::is_listed(header, carried) {
         return Err(Refusal::Message);

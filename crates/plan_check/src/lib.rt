@@ -3,7 +3,7 @@
 
 ghost use Rattle.std.specs.Prelude.{◌≡◌, ◌<◌, ◌≤◌};
 ghost use Rattle.base.specs.Limits.{max_links};
-ghost use Rattle.refusal.specs.Number.{number_of};
+ghost use Rattle.refusal.specs.Number.{refusal_in};
 ghost use Rattle.plan.specs.Links.{links_of, lower_of, higher_of};
 ghost use Rattle.plan.specs.Refusal.{counts_refusal, in_order, link_verdict, link_refusal, links_refusal, plan_refusal};
 
@@ -29,7 +29,7 @@ fn in_order(p: &Plan, k: usize) -> bool
 
 // 16, 17 or 18 for one link: its ends, whether it is in order, its readings.
 fn link_verdict(n: u16, lo: u16, hi: u16, ordered: bool, near: u16, far: u16) -> Result<(), Refusal>
-    ensures { number_of result ≡ link_verdict n lo hi ordered near far }
+    ensures { refusal_in result ≡ link_verdict n lo hi ordered near far }
 {
     if hi <= lo || n <= hi {
         return Err(Refusal::LinkEnds);
@@ -46,7 +46,7 @@ fn link_verdict(n: u16, lo: u16, hi: u16, ordered: bool, near: u16, far: u16) ->
 // The refusal of link k, if there is one.
 fn link_check(p: &Plan, k: usize) -> Result<(), Refusal>
     requires { k < max_links }
-    ensures { number_of result ≡ link_refusal p.now k }
+    ensures { refusal_in result ≡ link_refusal p.now k }
 {
     link_verdict(
         plan::modules(p),
@@ -61,7 +61,7 @@ fn link_check(p: &Plan, k: usize) -> Result<(), Refusal>
 // The first refusal of the links.
 fn links_check(p: &Plan) -> Result<(), Refusal>
     requires { links_of p.now ≤ max_links }
-    ensures { number_of result ≡ links_refusal p.now (links_of p.now) 0 }
+    ensures { refusal_in result ≡ links_refusal p.now (links_of p.now) 0 }
 {
     for k in 0..plan::links(p) as usize {
         link_check(p, k)?;
@@ -71,7 +71,7 @@ fn links_check(p: &Plan) -> Result<(), Refusal>
 
 // The check of N and L: 14 or 15. Whether L fits the length, the caller says who has one.
 pub fn counts_check(n: u16, l: u16, fits: bool) -> Result<(), Refusal>
-    ensures { number_of result ≡ counts_refusal n l fits }
+    ensures { refusal_in result ≡ counts_refusal n l fits }
 {
     if MAX_MODULES < n {
         return Err(Refusal::PlanModules);
@@ -84,7 +84,7 @@ pub fn counts_check(n: u16, l: u16, fits: bool) -> Result<(), Refusal>
 
 // The check of a plan value: the first of 14 to 18 that applies.
 pub fn check(p: &Plan) -> Result<(), Refusal>
-    ensures { number_of result ≡ plan_refusal p.now }
+    ensures { refusal_in result ≡ plan_refusal p.now }
 {
     counts_check(plan::modules(p), plan::links(p), true)?;
     links_check(p)

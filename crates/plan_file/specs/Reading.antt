@@ -2,7 +2,7 @@
 use Rattle.std.specs.Prelude.{Result, Ok, Err, ℕ, ◌+◌, ◌*◌, ◌-◌, ◌≡◌, cond, not, ◌||◌, List, eqb, ltb, length, get_or}
 use Rattle.base.specs.Refuse.{or_else, first_refusal}
 use Rattle.refusal.specs.declared.Refusal.{Refusal}
-use Rattle.refusal.specs.Number.{number}
+use Rattle.refusal.specs.Number.{numbered}
 use Rattle.plan.specs.Refusal.{counts_refusal, plan_refusal}
 use Rattle.plan.specs.Links.{Plan}
 use Rattle.plan_file.specs.Layout.{number_at, decode, blank}
@@ -28,7 +28,7 @@ pub record Outcome : Type 0 where
 -- the same from the reader's answer, beside a refusal a plan of zeros
 abbrev pub outcome_of : Result Plan Refusal → Outcome
 outcome_of (Ok p) = record { refusal = 0; plan = p }
-outcome_of (Err r) = record { refusal = number r; plan = blank }
+outcome_of (Err r) = record { refusal = numbered r; plan = blank }
 
 -- the plan where it is taken, else the number and a plan of zeros
 unfoldable pub read_plan : List ℕ → Outcome

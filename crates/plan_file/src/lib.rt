@@ -4,7 +4,7 @@
 ghost use Rattle.std.specs.Prelude.{◌≡◌, ◌+◌, ◌*◌, ◌<◌, ◌≤◌, length};
 ghost use Rattle.std.proofs.lemmas.List.Edits.{sets};
 ghost use Rattle.base.specs.Limits.{max_links};
-ghost use Rattle.refusal.specs.Number.{number_of};
+ghost use Rattle.refusal.specs.Number.{refusal_in};
 ghost use Rattle.plan.specs.Links.{links_of};
 ghost use Rattle.plan_file.specs.Layout.{number_at, decode, encode, blank};
 ghost use Rattle.plan_file.specs.laws.Head.{HeadOk};
@@ -24,7 +24,7 @@ fn number_at(s: &[u8], i: usize) -> u16
 
 // The check of version, lengths and counts: 11 to 15.
 fn head_check(s: &[u8]) -> Result<(), Refusal>
-    ensures { number_of result ≡ head_refusal s.now }
+    ensures { refusal_in result ≡ head_refusal s.now }
 {
     if s.len() < 3 {
         return Err(Refusal::PlanShort);
@@ -56,7 +56,7 @@ fn fill(s: &[u8], plan: &mut Plan)
 // The check of the bytes, which leaves a plan that is taken in `plan`.
 pub fn load(s: &[u8], plan: &mut Plan) -> Result<(), Refusal>
     requires { plan.old ≡ blank }
-    ensures { Loaded s.now (number_of result) plan.new }
+    ensures { Loaded s.now (refusal_in result) plan.new }
 {
     head_check(s)?;
     fill(s, plan);
@@ -65,7 +65,7 @@ pub fn load(s: &[u8], plan: &mut Plan) -> Result<(), Refusal>
 
 // Whether bytes are a plan: the first of 11 to 18 that applies.
 pub fn check(s: &[u8]) -> Result<(), Refusal>
-    ensures { number_of result ≡ read_refusal s.now }
+    ensures { refusal_in result ≡ read_refusal s.now }
 {
     let mut plan = [0u16; NUMBERS];
     load(s, &mut plan)
@@ -98,7 +98,7 @@ pub fn put_plan(p: &Plan, out: &mut [u8])
 
 // Writes a plan value at the front of the buffer: the first of 14 to 18 that applies, then 22.
 pub fn write(p: &Plan, out: &mut [u8]) -> Result<(), Refusal>
-    ensures { record { refusal = number_of result; state = out.new } ≡ write_plan p.now out.old }
+    ensures { record { refusal = refusal_in result; state = out.new } ≡ write_plan p.now out.old }
 {
     plan_check::check(p)?;
     if out.len() < 7 + 8 * (plan::links(p) as usize) {

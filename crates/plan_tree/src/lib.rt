@@ -5,7 +5,7 @@
 ghost use Rattle.std.specs.Prelude.{◌≡◌, ◌⊎◌, ℕ, ◌+◌, ◌<◌, ◌≤◌, length, set};
 ghost use Rattle.base.specs.Limits.{max_modules, max_links};
 ghost use Rattle.base.specs.None.{none};
-ghost use Rattle.refusal.specs.Number.{number_of};
+ghost use Rattle.refusal.specs.Number.{refusal_in};
 ghost use Rattle.plan.specs.Links.{links_of, lower_of, higher_of, graph_of};
 ghost use Rattle.plan.specs.Weights.{earlier};
 ghost use Rattle.plan.specs.Refusal.{plan_refusal};
@@ -165,7 +165,7 @@ pub fn grow(plan: &Plan, out: &mut [u8])
 
 // The central tree of a plan: refused by 14 to 18 or 20, or the L bytes are written.
 pub fn build(p: &Plan, out: &mut [u8]) -> Result<(), Refusal>
-    ensures { record { refusal = number_of result; state = out.new } ≡ central_tree p.now out.old }
+    ensures { record { refusal = refusal_in result; state = out.new } ≡ central_tree p.now out.old }
 {
     plan_check::check(p)?;
     if out.len() != plan::links(p) as usize {

@@ -3,44 +3,44 @@ use Rattle.std.specs.Prelude.{ℕ, Result, Ok, Err}
 use Rattle.refusal.specs.declared.Refusal.{Refusal}
 use Rattle.refusal.specs.declared.Refusal.TheVariants.{PlanShort, PlanVersion, PlanLength, PlanModules, PlanLinks, LinkEnds, LinkOrder, LinkReading, TreeBuffer, TooFewWords, PlanBuffer, Field, Response, CeilingPassed, NoModule, NoDirectedLink, Awake, NothingToHandOver, EmptyQueue, ScheduleShort, ScheduleVersion, ScheduleLength, StepKind, FrameSize, FrameHead, Message, FrameBuffer, NoTree, NoSender, Cues, PreviewBuffer, Store, NameWrong, StoreFull, PathBuffer}
 
-abbrev pub number : Refusal → ℕ
-number PlanShort = 11
-number PlanVersion = 12
-number PlanLength = 13
-number PlanModules = 14
-number PlanLinks = 15
-number LinkEnds = 16
-number LinkOrder = 17
-number LinkReading = 18
-number TreeBuffer = 20
-number TooFewWords = 21
-number PlanBuffer = 22
-number Field = 31
-number Response = 32
-number CeilingPassed = 33
-number NoModule = 41
-number NoDirectedLink = 42
-number Awake = 43
-number NothingToHandOver = 44
-number EmptyQueue = 45
-number ScheduleShort = 51
-number ScheduleVersion = 52
-number ScheduleLength = 53
-number StepKind = 54
-number FrameSize = 61
-number FrameHead = 62
-number Message = 63
-number FrameBuffer = 64
-number NoTree = 71
-number NoSender = 72
-number Cues = 73
-number PreviewBuffer = 75
-number Store = 76
-number NameWrong = 77
-number StoreFull = 78
-number PathBuffer = 79
+abbrev pub numbered : Refusal → ℕ
+numbered PlanShort = 11
+numbered PlanVersion = 12
+numbered PlanLength = 13
+numbered PlanModules = 14
+numbered PlanLinks = 15
+numbered LinkEnds = 16
+numbered LinkOrder = 17
+numbered LinkReading = 18
+numbered TreeBuffer = 20
+numbered TooFewWords = 21
+numbered PlanBuffer = 22
+numbered Field = 31
+numbered Response = 32
+numbered CeilingPassed = 33
+numbered NoModule = 41
+numbered NoDirectedLink = 42
+numbered Awake = 43
+numbered NothingToHandOver = 44
+numbered EmptyQueue = 45
+numbered ScheduleShort = 51
+numbered ScheduleVersion = 52
+numbered ScheduleLength = 53
+numbered StepKind = 54
+numbered FrameSize = 61
+numbered FrameHead = 62
+numbered Message = 63
+numbered FrameBuffer = 64
+numbered NoTree = 71
+numbered NoSender = 72
+numbered Cues = 73
+numbered PreviewBuffer = 75
+numbered Store = 76
+numbered NameWrong = 77
+numbered StoreFull = 78
+numbered PathBuffer = 79
 
 -- what a call answers, as document 01 has it: the refusal's number, 0 where it is not refused
-abbrev pub number_of : {A : Type 0} → Result A Refusal → ℕ
-number_of (Ok _) = 0
-number_of (Err r) = number r
+abbrev pub refusal_in : {A : Type 0} → Result A Refusal → ℕ
+refusal_in (Ok _) = 0
+refusal_in (Err r) = numbered r

@@ -2,7 +2,7 @@
 #![tactic(auto)]
 
 ghost use Rattle.std.specs.Prelude.{◌≡◌};
-ghost use Rattle.refusal.specs.Number.{number, number_of};
+ghost use Rattle.refusal.specs.Number.{numbered, refusal_in};
 
 #[derive(Clone, Copy, Debug, PartialEq, Eq)]
 pub enum Refusal {
@@ -55,15 +55,15 @@ pub enum Refusal {
 
 impl Refusal {
     pub fn number(self) -> u32
-        ensures { result ≡ number self }
+        ensures { result ≡ numbered self }
     {
         self as u32
     }
 }
 
 // What a call answers as a number: the refusal's, or 0 where it is not refused.
-pub fn number_of(answer: Result<(), Refusal>) -> u32
-    ensures { result ≡ number_of answer }
+pub fn refusal_in(answer: Result<(), Refusal>) -> u32
+    ensures { result ≡ refusal_in answer }
 {
     match answer {
         Ok(()) => 0,
