@@ -2,20 +2,12 @@
 #![tactic(auto)]
 
 ghost use Rattle.std.specs.Prelude.{◌≡◌, ◌+◌, ◌*◌, ◌<◌, length};
-ghost use Rattle.field_calls.specs.Schedule.{kind_of, number_of, kind_listed, schedule_refusal};
+ghost use Rattle.refusal.specs.Number.{refusal_in};
+ghost use Rattle.field_calls.specs.Schedule.{kind_of, number_of, schedule_refusal};
 ghost use Rattle.host_schedule.specs.laws.Kinds.{kinds_from};
 
-// Whether a kind is 1 (wake), 2 (hand over) or 3 (serve).
-fn is_kind(kind: u8) -> bool
-    ensures { result ≡ kind_listed kind }
-{
-    match kind {
-        1 => true,
-        2 => true,
-        3 => true,
-        0 | 4..=255 => false,
-    }
-}
+use field_calls::Kind;
+use refusal::Refusal;
 
 // Step i's kind.
 pub fn kind(s: &[u8], i: usize) -> u8
@@ -33,37 +25,30 @@ pub fn number(s: &[u8], i: usize) -> u16
     format_int16::at(s, 4 + 3 * i)
 }
 
-// 54 if one of the n steps has a kind that is not listed, else 0.
-fn kinds(s: &[u8], n: usize) -> u32
+// 54 if one of the n steps has a kind that is not listed.
+fn kinds(s: &[u8], n: usize) -> Result<(), Refusal>
     requires { 2 + 3 * n < length s.now }
-    ensures { result ≡ kinds_from s.now n }
+    ensures { refusal_in result ≡ kinds_from s.now n }
 {
-    let mut i: usize = 0;
-    while i < n {
-        if !is_kind(kind(s, i)) {
-            return 54;
-        }
-        i += 1;
+    for i in 0..n {
+        Kind::try_from(kind(s, i))?;
     }
-    0
+    Ok(())
 }
 
-// The check of a schedule's bytes: the first of 51 to 54 that applies, or 0.
-pub fn check(s: &[u8]) -> u32
-    ensures { result ≡ schedule_refusal s.now }
+// The check of a schedule's bytes: the first of 51 to 54 that applies.
+pub fn check(s: &[u8]) -> Result<(), Refusal>
+    ensures { refusal_in result ≡ schedule_refusal s.now }
 {
     if s.len() < 3 {
-        return 51;
+        return Err(Refusal::ScheduleShort);
     }
     if s[0] != 1 {
-        return 52;
+        return Err(Refusal::ScheduleVersion);
     }
     let len = format_int16::at(s, 1) as usize;
-    if len + 3 != s.len() {
-        return 53;
-    }
-    if len % 3 != 0 {
-        return 53;
+    if len + 3 != s.len() || len % 3 != 0 {
+        return Err(Refusal::ScheduleLength);
     }
     kinds(s, len / 3)
 }

@@ -1,12 +1,7 @@
--- host_schedule::kinds: a loop; the first i kinds are listed. One that is not gives 54 by `kinds-bad`, else it is `kinds-fine`.
-use Prim.Native.Nat.{ℕ, ◌≤◌, ◌<◌, ◌-◌}
-use mathlib.Core.Path.{◌≡◌}
-use mathlib.Core.Bool.{true}
+-- host_schedule::kinds: the first i kinds are listed.
+use Rattle.std.proofs.Common.{ℕ, ◌≡◌, ◌<◌, true}
 use Rattle.field_calls.specs.Schedule.{kind_of, kind_listed}
 use Rattle.host_schedule.proofs.kinds.Given as goal
 
 abbrev pub invariant-loop-i : goal.invariant-loop-i
-invariant-loop-i l = (l.i ≤ l.n) × ((k : ℕ) → k < l.i → kind_listed (kind_of l.s k) ≡ true)
-
-abbrev pub decreases-loop-i : goal.decreases-loop-i
-decreases-loop-i l = l.n - l.i
+invariant-loop-i l = (k : ℕ) → k < l.i → kind_listed (kind_of l.s k) ≡ true
