@@ -8,6 +8,8 @@ ghost use Rattle.format_frame.specs.Frame.{frame_refusal, frame_written};
 ghost use Rattle.format_word.specs.Word.{header_in, carried_in, link_in, handed_in};
 ghost use Rattle.library_message.specs.Lent.{frame_into};
 
+use refusal::refusal_in;
+
 // The header byte of a kind, a level and a Find bit; 255 where one does not fit.
 #[unsafe(no_mangle)]
 pub extern "C" fn muruapy_header(kind: u8, level: u16, find: u8) -> u8
@@ -50,7 +52,7 @@ pub extern "C" fn muruapy_message_listed(header: u8, carried: u16) -> bool
 pub extern "C" fn muruapy_frame_check(bytes: &[u8]) -> u32
     ensures { result ≡ frame_refusal bytes.now }
 {
-    format_frame::check(bytes)
+    refusal_in(format_frame::check(bytes))
 }
 
 // A frame read into a lent header and carried number: 61 to 63.
@@ -59,12 +61,14 @@ pub extern "C" fn muruapy_frame_read(bytes: &[u8], header: &mut u8, carried: &mu
     ensures { record { refusal = result; header = header.new; carried = carried.new }
         ≡ frame_into bytes.now header.old carried.old }
 {
-    let got = format_frame::read(bytes);
-    if got.refusal == 0 {
-        *header = got.header;
-        *carried = got.carried;
+    match format_frame::read(bytes) {
+        Ok((h, c)) => {
+            *header = h;
+            *carried = c;
+            0
+        }
+        Err(refusal) => refusal.number(),
     }
-    got.refusal
 }
 
 // The frame of any header byte and carried number: 63, then 64.
@@ -72,7 +76,7 @@ pub extern "C" fn muruapy_frame_read(bytes: &[u8], header: &mut u8, carried: &mu
 pub extern "C" fn muruapy_frame_write(header: u8, carried: u16, bytes: &mut [u8]) -> u32
     ensures { record { refusal = result; state = bytes.new } ≡ frame_written header carried bytes.old }
 {
-    format_frame::write(header, carried, bytes)
+    refusal_in(format_frame::write(header, carried, bytes))
 }
 
 // The parts of any word.

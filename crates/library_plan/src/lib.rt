@@ -11,13 +11,14 @@ ghost use Rattle.library_plan.specs.Lent.{plan_into, cost_or_none};
 
 use base::{MAX_LINKS, NONE};
 use plan::Plan;
+use refusal::refusal_in;
 
 // The first of a plan's refusals 11 to 18 that applies to the bytes, or 0 for taken.
 #[unsafe(no_mangle)]
 pub extern "C" fn muruapy_plan_check(bytes: &[u8]) -> u32
     ensures { result ≡ read_refusal bytes.now }
 {
-    plan_file::check(bytes)
+    refusal_in(plan_file::check(bytes))
 }
 
 // A plan's bytes read into a lent plan: 11 to 18.
@@ -25,12 +26,13 @@ pub extern "C" fn muruapy_plan_check(bytes: &[u8]) -> u32
 pub extern "C" fn muruapy_plan_read(bytes: &[u8], plan: &mut Plan) -> u32
     ensures { record { refusal = result; state = plan.new } ≡ plan_into bytes.now plan.old }
 {
-    let got = plan_file::read(bytes);
-    let read = got.plan;
-    if got.refusal == 0 {
-        *plan = read;
+    match plan_file::read(bytes) {
+        Ok(read) => {
+            *plan = read;
+            0
+        }
+        Err(refusal) => refusal.number(),
     }
-    got.refusal
 }
 
 // The check of any plan value: 14 to 18.
@@ -38,7 +40,7 @@ pub extern "C" fn muruapy_plan_read(bytes: &[u8], plan: &mut Plan) -> u32
 pub extern "C" fn muruapy_plan_value_check(plan: &Plan) -> u32
     ensures { result ≡ plan_refusal plan.now }
 {
-    plan_check::check(plan)
+    refusal_in(plan_check::check(plan))
 }
 
 // Any plan value, written: 14 to 18, then 22.
@@ -46,7 +48,7 @@ pub extern "C" fn muruapy_plan_value_check(plan: &Plan) -> u32
 pub extern "C" fn muruapy_plan_write(plan: &Plan, bytes: &mut [u8]) -> u32
     ensures { record { refusal = result; state = bytes.new } ≡ write_plan plan.now bytes.old }
 {
-    plan_file::write(plan, bytes)
+    refusal_in(plan_file::write(plan, bytes))
 }
 
 // The cost of a link of any plan value, none for what is no link of it.
@@ -54,10 +56,7 @@ pub extern "C" fn muruapy_plan_write(plan: &Plan, bytes: &mut [u8]) -> u32
 pub extern "C" fn muruapy_link_cost(plan: &Plan, link: u16) -> u32
     ensures { result ≡ cost_or_none plan.now link }
 {
-    if plan::links(plan) <= link {
-        return NONE as u32;
-    }
-    if MAX_LINKS <= link {
+    if plan::links(plan) <= link || MAX_LINKS <= link {
         return NONE as u32;
     }
     plan::cost(plan, link as usize)
@@ -76,5 +75,5 @@ pub extern "C" fn muruapy_ceiling(modules: u16, links: u16) -> u32
 pub extern "C" fn muruapy_tree(plan: &Plan, tree: &mut [u8]) -> u32
     ensures { record { refusal = result; state = tree.new } ≡ central_tree plan.now tree.old }
 {
-    plan_tree::build(plan, tree)
+    refusal_in(plan_tree::build(plan, tree))
 }
