@@ -6,7 +6,7 @@ use base::MAX_MODULES;
 
 // A module's cue record, as the console lends it: document 02's four values, any numbers.
 #[repr(C)]
-#[derive(Clone, Copy)]
+#[derive(Clone, Copy, PartialEq, Eq)]
 pub struct Cue {
     // 1 if the module has heard the cue, else 0
     pub heard: u8,

@@ -20,21 +20,11 @@ pub fn unheard() -> Cue
     }
 }
 
-// A row of such records.
-fn blank() -> Row
-    ensures { result ≡ replicate max_modules unheard }
-{
-    [unheard(); MAX_MODULES as usize]
-}
-
 // How many of so many records a row has room for.
 pub fn within(n: usize) -> usize
     ensures { result ≡ min n max_modules }
 {
-    if n < MAX_MODULES as usize {
-        return n;
-    }
-    MAX_MODULES as usize
+    n.min(MAX_MODULES as usize)
 }
 
 // "one thin function marks one record heard, others unchanged": record v becomes c. Where there is no record v, nothing changes.
@@ -51,11 +41,7 @@ pub fn fill(cues: &mut [Cue], n: usize, c: Cue)
     requires { n ≤ length cues.old }
     ensures { cues.new ≡ replicate n c ++ drop n cues.old }
 {
-    let mut i: usize = 0;
-    while i < n {
-        cues[i] = c;
-        i += 1;
-    }
+    cues[..n].fill(c);
 }
 
 // The first n records, and unheard ones behind them.
@@ -63,11 +49,7 @@ pub fn load(cues: &mut [Cue], n: usize) -> Row
     requires { (n ≤ length cues.old) × (n ≤ max_modules) }
     ensures { (result ≡ take n cues.old ++ drop n (replicate max_modules unheard)) × (cues.new ≡ cues.old) }
 {
-    let mut row = blank();
-    let mut i: usize = 0;
-    while i < n {
-        row[i] = cues[i];
-        i += 1;
-    }
+    let mut row = [unheard(); MAX_MODULES as usize];
+    row[..n].copy_from_slice(&cues[..n]);
     row
 }

@@ -1,2 +1,0 @@
--- The list that a loop over the records has written so far.
-pub mod Written
