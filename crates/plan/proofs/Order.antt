@@ -1,24 +1,17 @@
--- The order of the links, as it is tested: by the first key in which two links differ (`by-cost`, `by-sum`), else by number (`by-number`).
-use Prim.Native.Nat.{ℕ}
-use mathlib.Core.Path.{◌≡◌, sym, ◌∙◌}
-use mathlib.Core.Logic.{◌≢◌}
-use lib.Dec.{ltb}
+-- The order of the links, as it is tested: of cost, sum and number in a row the first that differs decides (`row-earlier`).
+use Rattle.std.specs.Prelude.{ℕ, ◌≡◌, Some, Bool}
+use Rattle.std.specs.Ordering.{nat_cmp, partial_lt, partial_ordering_then}
+use Rattle.std.proofs.Common.{arith}
+use Rattle.std.proofs.lemmas.Bool.Decides.{nat_tests}
 use Rattle.plan.specs.Links.{Plan}
-use Rattle.plan.proofs.laws.Keys.{key-same, key-other}
-use Rattle.plan.specs.Weights.{cost, reading_sum, among_equal, earlier}
+use Rattle.plan.specs.Weights.{cost, reading_sum, earlier}
 
-module _ (plan : Plan) (a b x y : ℕ) (p : x ≡ cost plan a) (q : y ≡ cost plan b) where
-  pub by-cost : x ≢ y → ltb x y ≡ earlier plan a b
-  unfolding earlier
-  by-cost d = rw (p, q) (sym (key-other (cost plan) (among_equal plan) a b (λ e. d (p ∙ e ∙ sym q))))
+-- `<` of three numbers in a row
+abbrev row_lt : ℕ × ℕ × ℕ → ℕ × ℕ × ℕ → Bool
+row_lt =
+    partial_lt (λ (x y : ℕ × ℕ × ℕ). partial_ordering_then (partial_ordering_then (Some (nat_cmp x.0 y.0)) (Some (nat_cmp x.1 y.1))) (Some (nat_cmp x.2 y.2)))
 
-  module _ (same : x ≡ y) (s t : ℕ) (m : s ≡ reading_sum plan a) (n : t ≡ reading_sum plan b) where
-    tied : among_equal plan a b ≡ earlier plan a b
-    unfolding earlier
-    tied = sym (key-same (cost plan) (among_equal plan) a b (sym p ∙ same ∙ q))
-
-    pub by-sum : s ≢ t → ltb s t ≡ earlier plan a b
-    by-sum d = rw (m, n) (sym (key-other (reading_sum plan) ltb a b (λ e. d (m ∙ e ∙ sym n))) ∙ tied)
-
-    pub by-number : s ≡ t → ltb a b ≡ earlier plan a b
-    by-number e = sym (key-same (reading_sum plan) ltb a b (sym m ∙ e ∙ n)) ∙ tied
+pub row-earlier : (plan : Plan) (a b x y s t : ℕ) → x ≡ cost plan a → y ≡ cost plan b → s ≡ reading_sum plan a → t ≡ reading_sum plan b
+    → row_lt (x, s, a) (y, t, b) ≡ earlier plan a b
+unfolding earlier
+row-earlier plan a b x y s t p q m n = rw (p, q, m, n) (grind (arith, nat_tests))

@@ -64,12 +64,8 @@ pub fn trimmed(p: &Plan) -> Plan
     ensures { result ≡ trimmed p.now }
 {
     let end = 2 + 4 * (links(p) as usize);
-    let mut q = [0u16; NUMBERS];
-    let mut i: usize = 0;
-    while i < end {
-        q[i] = p[i];
-        i += 1;
-    }
+    let mut q = *p;
+    q[end..].fill(0);
     q
 }
 
@@ -80,7 +76,7 @@ pub fn floor_log2(n: u16) -> u16
     if n == 0 {
         return 0;
     }
-    (31 - u32::leading_zeros(n as u32)) as u16
+    n.ilog2() as u16
 }
 
 // The ceiling's first term.
@@ -115,10 +111,7 @@ pub fn level_limit(p: &Plan) -> u16
 fn cost_of(near: u16, far: u16) -> u32
     ensures { result ≡ cost_of near far }
 {
-    if near < far {
-        return far as u32;
-    }
-    near as u32
+    near.max(far) as u32
 }
 
 // A link's cost.
@@ -142,17 +135,9 @@ pub fn earlier(p: &Plan, a: u16, b: u16) -> bool
     requires { (a < max_links) × (b < max_links) }
     ensures { result ≡ earlier p.now a b }
 {
-    let x = cost(p, a as usize);
-    let y = cost(p, b as usize);
-    if x != y {
-        return x < y;
-    }
-    let s = reading_sum(p, a as usize);
-    let t = reading_sum(p, b as usize);
-    if s != t {
-        return s < t;
-    }
-    a < b
+    let x = (cost(p, a as usize), reading_sum(p, a as usize), a);
+    let y = (cost(p, b as usize), reading_sum(p, b as usize), b);
+    x < y
 }
 
 // Whether weight a is earlier than weight b, each a link or none.

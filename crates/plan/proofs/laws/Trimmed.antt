@@ -5,6 +5,10 @@ use Rattle.std.proofs.Common.{arith, ap, ◌∙◌, length-append, get_or-append
 use Rattle.std.proofs.Math.Path.{sym}
 use Rattle.std.proofs.Math.ListN.{length, get_or, replicate, get_or-append}
 use Rattle.std.proofs.lemmas.List.{length-replicate, get_or-replicate}
+use Rattle.std.proofs.Math.ListN.{take, drop, length-drop, drop_of_length-le}
+use Rattle.std.proofs.Math.Seq.{length-take-le, get_or-take}
+use borrow.Rule.Slice.PartMut.{put_mid}
+use mathlib.Core.List.{[], append-nil}
 use Rattle.base.proofs.laws.Cond.{ltb-cases}
 use Rattle.base.specs.Table.{tabulate, upto}
 use Rattle.base.proofs.laws.Table.{tabulated, tabulate-ext, length-tabulate, get_d_tabulate, upto-in, upto-out, fill_start, fill-turn}
@@ -45,6 +49,16 @@ module _ (f : ℕ → ℕ) where
       entry k l = ltb-cases k n (λ b. get_or (padded n f) k 0 ≡ upto n f (λ j. 0) k)
           (λ h. padded-at n f k h ∙ sym (upto-in n f (λ j. 0) k h))
           (λ h. ap (λ i. get_or (padded n f) i 0) (let e : k ≡ n + (k - n) = omega arith in e) ∙ past (k - n) (omega arith) ∙ sym (upto-out n f (λ j. 0) k h))
+
+-- a plan of which all past the first n numbers became zero
+pub zeroed : (p : Plan) (n : ℕ) → length p ≡ plan_size → n ≤ plan_size
+    → put_mid n (plan_size - n) p (replicate (length (take (plan_size - n) (drop n p))) 0) ≡ padded n (λ i. get_or p i 0)
+unfolding padded
+zeroed p n h m =
+    let front : take n p ≡ tabulate n (λ i. get_or p i 0) = tabulated n (λ i. get_or p i 0) (take n p) (length-take-le n p (omega arith)) (λ k l. get_or-take n p k 0 l) in
+    let rest : length (take (plan_size - n) (drop n p)) ≡ plan_size - n = length-take-le (plan_size - n) (drop n p) (omega (arith, length-drop n p)) in
+    let none : drop (plan_size - n) (drop n p) ≡ [] = drop_of_length-le (drop n p) (omega (arith, length-drop n p)) in
+    simp (front, rest, none, append-nil)
 
 module _ (p : Plan) where
   entry-same : (i : ℕ) → i < plan_numbers (links_of p) → get_or p i 0 ≡ get_or (trimmed p) i 0
