@@ -6,31 +6,21 @@ ghost use Rattle.base.specs.Cond.{bit};
 ghost use Rattle.base.specs.None.{none};
 ghost use Rattle.base.specs.Limits.{max_modules, max_links};
 ghost use Rattle.base.specs.Table.{tabulate};
+ghost use Rattle.refusal.specs.Number.{refusal_in};
 ghost use Rattle.graph.specs.Between.{across, later_of};
 ghost use Rattle.graph.specs.Parts.{SamePart};
 ghost use Rattle.plan.specs.Links.{graph_of, modules_of};
 ghost use Rattle.plan.specs.Weights.{earlier};
 ghost use Rattle.plan.specs.Refusal.{plan_refusal};
-ghost use Rattle.path.specs.Between.{tree_path, worst_on, path_between};
+ghost use Rattle.path.specs.Between.{tree_path, worst_on, path_told, path_between};
 ghost use Rattle.path.specs.Near.{mark_near};
 ghost use Rattle.path_search.specs.Spread.{far, hops_to, LinksTo};
 
 use base::NONE;
-use path::PathFound;
+use path::Path;
 use path_search::{FAR, FirstLinks, Hops, NODES};
 use plan::Plan;
-
-// What a call for a path answers.
-fn told(refusal: u32, way: u32, length: u16, worst: u16) -> PathFound
-    ensures { result ≡ record { refusal = refusal; way = way; length = length; worst = worst } }
-{
-    PathFound {
-        refusal: refusal,
-        way: way,
-        length: length,
-        worst: worst,
-    }
-}
+use refusal::Refusal;
 
 // The later of two links, the first of which may be none.
 fn later(plan: &Plan, a: u16, b: u16) -> u16
@@ -75,37 +65,33 @@ fn walk<'a>(plan: &'a Plan, by: &'a FirstLinks, u: u16, v: u16, out: &mut [u16])
 }
 
 // The path between two modules of a plan that was checked: no way, 79, or its links at the front of out.
-fn found(plan: &Plan, from: u16, to: u16, out: &mut [u16]) -> PathFound
+fn found(plan: &Plan, from: u16, to: u16, out: &mut [u16]) -> Result<Option<Path>, Refusal>
     requires { (plan_refusal plan.now ≡ 0) × (from < modules_of plan.now) × (to < modules_of plan.now) }
-    ensures { record { answer = result; buffer = out.new } ≡ path_between plan.now from to out.old }
+    ensures { record { answer = path_told result; buffer = out.new } ≡ path_between plan.now from to out.old }
 {
     let mut hops = [FAR; NODES];
     let mut by = [NONE; NODES];
     path_search::spread_to(plan, &mut hops, &mut by, to, from);
-    let length = hops[from as usize];
-    if length == FAR {
-        return told(0, 0, 0, NONE);
+    let hops_between = hops[from as usize];
+    if hops_between == FAR {
+        return Ok(None);
     }
-    if out.len() < length as usize {
-        return told(79, 0, 0, NONE);
+    if out.len() < hops_between as usize {
+        return Err(Refusal::PathBuffer);
     }
+    let length = hops_between as u16;
     let worst = walk(plan, &by, from, to, out);
-    told(0, 1, length as u16, worst)
+    Ok(Some(Path { length, worst }))
 }
 
-// The path between two modules of any plan value: 14 to 18, 41, no way, 79, or its links at the front of out.
-pub fn between(plan: &Plan, from: u16, to: u16, out: &mut [u16]) -> PathFound
-    ensures { record { answer = result; buffer = out.new } ≡ path_between plan.now from to out.old }
+// The path between two modules of any plan value: 14 to 18, 41, 79, no way, or its links at the front of out.
+pub fn between(plan: &Plan, from: u16, to: u16, out: &mut [u16]) -> Result<Option<Path>, Refusal>
+    ensures { record { answer = path_told result; buffer = out.new } ≡ path_between plan.now from to out.old }
 {
-    let bad = plan_check::check(plan);
-    if bad != 0 {
-        return told(bad, 0, 0, NONE);
-    }
-    if plan::modules(plan) <= from {
-        return told(41, 0, 0, NONE);
-    }
-    if plan::modules(plan) <= to {
-        return told(41, 0, 0, NONE);
+    plan_check::check(plan)?;
+    let n = plan::modules(plan);
+    if n <= from || n <= to {
+        return Err(Refusal::NoModule);
     }
     found(plan, from, to, out)
 }
@@ -138,24 +124,21 @@ fn at_most(h: u32, n: u16) -> u8
 }
 
 // The modules within h branches of one, of any plan value: 14 to 18, 41, 79, or N bytes at the front of out, 0 for other parts.
-pub fn near(plan: &Plan, from: u16, h: u32, out: &mut [u8]) -> u32
-    ensures { record { refusal = result; state = out.new } ≡ mark_near plan.now from h out.old }
+pub fn near(plan: &Plan, from: u16, h: u32, out: &mut [u8]) -> Result<(), Refusal>
+    ensures { record { refusal = refusal_in result; state = out.new } ≡ mark_near plan.now from h out.old }
 {
-    let bad = plan_check::check(plan);
-    if bad != 0 {
-        return bad;
-    }
+    plan_check::check(plan)?;
     let n = plan::modules(plan);
     let size = n as usize;
     if n <= from {
-        return 41;
+        return Err(Refusal::NoModule);
     }
     if out.len() < size {
-        return 79;
+        return Err(Refusal::PathBuffer);
     }
     let mut hops = [FAR; NODES];
     let mut by = [NONE; NODES];
     path_search::spread_within(plan, &mut hops, &mut by, from, at_most(h, n));
     write_known(&hops, size, out);
-    0
+    Ok(())
 }

@@ -1,6 +1,6 @@
 -- Document 02's request 07: "For two modules the answer is the tree path as link numbers, from the first module on, at the front of a lent buffer, and the
 -- latest link on it."
-use Rattle.std.specs.Prelude.{ℕ, cond, ◌&&◌, ◌||◌, List, ◌++◌, length, drop, eqb, ltb, leb}
+use Rattle.std.specs.Prelude.{ℕ, Result, Ok, Err, Option, Some, None, cond, ◌&&◌, ◌||◌, List, ◌++◌, length, drop, eqb, ltb, leb}
 use Rattle.base.specs.None.{none}
 use Rattle.base.specs.Refuse.{or_else, first_refusal}
 use Rattle.graph.specs.Between.{between, latest_of}
@@ -9,6 +9,9 @@ use Rattle.plan.specs.Links.{graph_of, Plan, modules_of}
 use Rattle.plan.specs.Weights.{earlier}
 use Rattle.plan.specs.Refusal.{plan_refusal}
 use Rattle.plan_tree.specs.Tree.{tree_link}
+use Rattle.refusal.specs.declared.Refusal.{Refusal}
+use Rattle.refusal.specs.Number.{numbered}
+use Rattle.path.specs.declared.Path.{Path}
 use Rattle.path.specs.declared.PathFound.{PathFound}
 
 -- "the tree path as link numbers, from the first module on"
@@ -27,6 +30,12 @@ path_refusal p room u v =
     first_refusal (plan_refusal p)
     (or_else (leb (modules_of p) u || leb (modules_of p) v) 41
     (or_else (together (graph_of p) u v && ltb room (length (tree_path p u v))) 79 0))
+
+-- what a call answers, in C's numbers: a path, "no way", or a refusal
+abbrev pub path_told : Result (Option Path) Refusal → PathFound
+path_told (Ok (Some x)) = record { refusal = 0; way = 1; length = x.length; worst = x.worst }
+path_told (Ok None) = record { refusal = 0; way = 0; length = 0; worst = none }
+path_told (Err r) = record { refusal = numbered r; way = 0; length = 0; worst = none }
 
 -- what the call answers, and the lent buffer afterwards
 pub record PathShown : Type 0 where

@@ -2,7 +2,14 @@
 // write, as definitions (specs/), and what is claimed of it.
 #![tactic(auto)]
 
-// refusal: its number, or 0. way: 1 if links join the two modules, 0 for "no way" and beside a refusal. length: how many links the path has. worst: the latest of
+// A path: how many links it has, and the latest of them, none where it has none.
+#[derive(Clone, Copy)]
+pub struct Path {
+    pub length: u16,
+    pub worst: u16,
+}
+
+// What C gets. refusal: its number, or 0. way: 1 if links join the two modules, 0 for "no way" and beside a refusal. length: how many links the path has. worst: the latest of
 // them, or none. Without a path 0 and none.
 #[repr(C)]
 #[derive(Clone, Copy)]

@@ -1,26 +1,11 @@
--- host_path::between: one law for each refusal: `path-refused-plan`, `path-refused-from`, `path-refused-to`.
-use native.Mathlib.Omega.{arith}
-use mathlib.Core.Path.{sym, ◌∙◌}
+-- host_path::between: one law for each refusal.
+use Rattle.std.proofs.Common.{arith}
+use Rattle.refusal.proofs.laws.Number.{positive}
 use Rattle.path.proofs.laws.Outcomes.{path-refused-plan, path-refused-from, path-refused-to}
-use Rattle.host_path.proofs.Answers.{told_none}
 use Rattle.host_path.proofs.between.Goals as goal
 
-pub returns-then-bad-ne0 : goal.returns-then-bad-ne0
-returns-then-bad-ne0 c =
-    let a = c.args in
-    told_none _ _ _ _ c.told.ensures
-    (rw c.check-bad.ensures (path-refused-plan a.plan.now a.from a.to a.out.now (λ z. c.if-bad-ne0.true (c.check-bad.ensures ∙ z))))
+pub returns-in_err-check : goal.returns-in_err-check
+returns-in_err-check c = grind (arith, path-refused-plan, positive)
 
-pub returns-then-modules-from : goal.returns-then-modules-from
-returns-then-modules-from c =
-    let a = c.args in
-    told_none _ 41 _ _ c.told-then-modules-from.ensures
-    (path-refused-from a.plan.now a.from a.to a.out.now (sym c.check-bad.ensures ∙ c.if-bad-ne0.false)
-    (omega (arith, c.modules.ensures, c.if-modules-from.true)))
-
-pub returns-then-modules-to : goal.returns-then-modules-to
-returns-then-modules-to c =
-    let a = c.args in
-    told_none _ 41 _ _ c.told-then-modules-to.ensures
-    (path-refused-to a.plan.now a.from a.to a.out.now (sym c.check-bad.ensures ∙ c.if-bad-ne0.false)
-    (omega (arith, c.modules.ensures, c.if-modules-from.false)) (omega (arith, c.modules-2.ensures, c.if-modules-to.true)))
+pub returns-then-n-from : goal.returns-then-n-from
+returns-then-n-from c = grind (arith, path-refused-from, path-refused-to)

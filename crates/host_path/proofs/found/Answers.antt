@@ -15,18 +15,17 @@ use Rattle.path.proofs.laws.Outcomes.{path-no-way, path-refused-room}
 use Rattle.path.proofs.laws.Steps.{path-short}
 use Rattle.path_search.specs.Spread.{far, KnownTo}
 use Rattle.host_path.proofs.Known.{far_apart, known-part}
-use Rattle.host_path.proofs.Answers.{told_none, told-path}
+use Rattle.host_path.proofs.Answers.{told-path}
 use Rattle.host_path.proofs.found.Goals as goal
 
 pub bounds-hops-from : goal.bounds-hops-from
 bounds-hops-from c = omega (arith, c.requires.1, (accepted c.args.plan.now c.requires.0).modules_ok)
 
-pub returns-then-length : goal.returns-then-length
-returns-then-length c =
+pub returns-then-hops_between : goal.returns-then-hops_between
+returns-then-hops_between c =
     let a = c.args in
-    told_none _ 0 _ _ c.told.ensures
     (path-no-way a.plan.now a.from a.to a.out.now c.requires.0 c.requires.1 c.requires.2
-    (far_apart a.plan.now (accepted c.args.plan.now c.requires.0) a.to a.from _ _ c.spread_to.ensures c.requires.1 c.if-length.true))
+    (far_apart a.plan.now (accepted c.args.plan.now c.requires.0) a.to a.from _ _ c.spread_to.ensures c.requires.1 c.if-hops_between.true))
 
 -- the first node is known: there is a path, and its hops are the length
 part : {p : Plan} {u v : ℕ} {hops by : List ℕ} → plan_refusal p ≡ 0 → KnownTo p v u hops by → get_or hops u 0 ≢ far → SamePart (graph_of p) u v
@@ -39,24 +38,23 @@ few {p} ok l k d =
     let s = part ok k d in
     omega (arith, k.own s, path-short p (accepted p ok) l s, (accepted p ok).modules_ok)
 
-pub overflow_cast-length-2 : goal.overflow_cast-length-2
-overflow_cast-length-2 c = omega (arith, few c.requires.0 c.requires.1 c.spread_to.ensures c.if-length.false)
+pub overflow_cast-hops_between-2 : goal.overflow_cast-hops_between-2
+overflow_cast-hops_between-2 c = omega (arith, few c.requires.0 c.requires.1 c.spread_to.ensures c.if-hops_between.false)
 
-pub returns-then-out-length : goal.returns-then-out-length
-returns-then-out-length c =
+pub returns-then-out-hops_between : goal.returns-then-out-hops_between
+returns-then-out-hops_between c =
     let a = c.args in
-    told_none _ 79 _ _ c.told-then-out-length.ensures
-    (path-refused-room a.plan.now a.from a.to a.out.now c.requires.0 c.requires.1 c.requires.2 (part c.requires.0 c.spread_to.ensures c.if-length.false) (omega (arith, c.spread_to.ensures.own (part c.requires.0 c.spread_to.ensures c.if-length.false), c.if-out-length.true)))
+    (path-refused-room a.plan.now a.from a.to a.out.now c.requires.0 c.requires.1 c.requires.2 (part c.requires.0 c.spread_to.ensures c.if-hops_between.false) (omega (arith, c.spread_to.ensures.own (part c.requires.0 c.spread_to.ensures c.if-hops_between.false), c.if-out-hops_between.true)))
 
 pub walk-worst-requires : goal.walk-worst-requires
 walk-worst-requires c =
-    (c.requires.0, c.requires.1, part c.requires.0 c.spread_to.ensures c.if-length.false, c.spread_to.ensures.links (part c.requires.0 c.spread_to.ensures c.if-length.false), omega (arith, c.spread_to.ensures.own (part c.requires.0 c.spread_to.ensures c.if-length.false), c.if-out-length.false))
+    (c.requires.0, c.requires.1, part c.requires.0 c.spread_to.ensures c.if-hops_between.false, c.spread_to.ensures.links (part c.requires.0 c.spread_to.ensures c.if-hops_between.false), omega (arith, c.spread_to.ensures.own (part c.requires.0 c.spread_to.ensures c.if-hops_between.false), c.if-out-hops_between.false))
 
-pub overflow_cast-length-3 : goal.overflow_cast-length-3
-overflow_cast-length-3 c = omega (arith, few c.requires.0 c.requires.1 c.spread_to.ensures c.if-length.false)
+pub overflow_cast-length : goal.overflow_cast-length
+overflow_cast-length c = omega (arith, few c.requires.0 c.requires.1 c.spread_to.ensures c.if-hops_between.false)
 
 pub returns : goal.returns
 returns c =
     let a = c.args in
-    told-path a.plan.now a.from a.to a.out.now c.requires.0 c.requires.1 c.requires.2 (part c.requires.0 c.spread_to.ensures c.if-length.false) _ _ _ _
-    c.told-2.ensures (c.spread_to.ensures.own (part c.requires.0 c.spread_to.ensures c.if-length.false)) c.if-out-length.false c.walk-worst.ensures
+    told-path a.plan.now a.from a.to a.out.now c.requires.0 c.requires.1 c.requires.2 (part c.requires.0 c.spread_to.ensures c.if-hops_between.false) _ _ _
+    (c.spread_to.ensures.own (part c.requires.0 c.spread_to.ensures c.if-hops_between.false)) c.if-out-hops_between.false c.walk-worst.ensures
