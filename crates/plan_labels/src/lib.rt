@@ -24,10 +24,8 @@ pub fn number(parts: &mut PartLabels)
     requires { length parts.old ≡ max_modules }
     ensures { parts.new ≡ tabulate max_modules (λ v. v) }
 {
-    let mut v: u8 = 0;
-    while v < MAX_MODULES as u8 {
-        parts[v as usize] = v;
-        v += 1;
+    for (v, x) in parts.iter_mut().enumerate() {
+        *x = v as u8;
     }
 }
 
@@ -43,10 +41,8 @@ pub fn relabel(parts: &mut PartLabels, from: u8, to: u8)
     requires { length parts.old ≡ max_modules }
     ensures { parts.new ≡ tabulate max_modules (λ v. rename from to (get_or parts.old v 0)) }
 {
-    let mut v: usize = 0;
-    while v < LABELS {
-        parts[v] = renamed(from, to, parts[v]);
-        v += 1;
+    for x in parts.iter_mut() {
+        *x = renamed(from, to, *x);
     }
 }
 
@@ -67,13 +63,10 @@ pub fn merge(plan: &Plan, parts: &mut PartLabels)
     ensures { parts.new ≡ part_labels plan.now }
 {
     number(parts);
-    let end = plan::links(plan) as usize;
-    let mut k: usize = 0;
-    while k < end {
+    for k in 0..plan::links(plan) as usize {
         let a = parts[plan::lower(plan, k) as usize];
         let b = parts[plan::higher(plan, k) as usize];
         join(parts, a, b);
-        k += 1;
     }
 }
 
@@ -90,14 +83,7 @@ pub fn lowest(parts: &PartLabels, v: usize) -> bool
     requires { v < max_modules }
     ensures { result ≡ every v (λ u. not (eqb (get_or parts.now u 0) (get_or parts.now v 0))) }
 {
-    let mut u: usize = v;
-    while 0 < u {
-        u -= 1;
-        if parts[u] == parts[v] {
-            return false;
-        }
-    }
-    true
+    !parts[..v].contains(&parts[v])
 }
 
 // How many of the nodes below n have u's label.
@@ -105,13 +91,5 @@ pub fn nodes_with(parts: &PartLabels, n: usize, u: usize) -> usize
     requires { (n ≤ max_modules) × (u < max_modules) }
     ensures { result ≡ sum n (λ v. bit (eqb (get_or parts.now u 0) (get_or parts.now v 0))) }
 {
-    let mut count: usize = 0;
-    let mut v: usize = 0;
-    while v < n {
-        if parts[u] == parts[v] {
-            count += 1;
-        }
-        v += 1;
-    }
-    count
+    parts[..n].iter().filter(|x| **x == parts[u]).count()
 }

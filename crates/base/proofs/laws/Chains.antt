@@ -1,7 +1,7 @@
 -- What chains of iterators answer is what the definitions say, in std's words: the place of the first that passes (`place-is`, `first-is`), how many pass
--- (`many-is`), whether all numbers below n do (`every-is`); the same of a list's front (`every-front`, `sum-front`).
-use Rattle.std.specs.Prelude.{ℕ, zero, suc, ◌≡◌, ◌≤◌, ◌<◌, Bool, ◌&&◌, not, Option, None, Some, MatchOption, cond, List, length, get_or, take, position, count_by}
-use Rattle.std.specs.List.{list_all, position_or_len, range_with_len}
+-- (`many-is`), that none does (`none-is`), whether all numbers below n do (`every-is`); the same of a list's front (`every-front`, `sum-front`).
+use Rattle.std.specs.Prelude.{ℕ, zero, suc, ◌≡◌, ◌≤◌, ◌<◌, Bool, ◌&&◌, not, Option, None, Some, MatchOption, cond, List, [], ◌∷◌, length, get_or, take, position, count_by}
+use Rattle.std.specs.List.{list_all, list_any, position_or_len, range_with_len}
 use Rattle.std.proofs.Common.{refl, sym, ap, ◌∙◌, arith, add-one}
 use Rattle.std.proofs.lemmas.List.FromFn.{length-range_with_len, get_or-range_with_len}
 use Rattle.std.proofs.lemmas.List.Folds.{list_all_more}
@@ -31,6 +31,11 @@ module _ {A : Type 0} (q : A → Bool) where
       let i = position_or_len q l in
       let h : i ≤ length l = prefix_len-le-length (λ x. not (q x)) l in
       rw (e, place-is l) (ltb-cases i (length l) (λ b. MatchOption (cond b (Some i) None) (i ≡ length l) (λ k. (k < length l) × (k ≡ i))) (λ k. (k, refl)) (λ k. omega arith))
+
+  -- no member passes
+  pub none-is : (l : List A) → not (list_any q l) ≡ list_all (λ x. not (q x)) l
+  none-is [] = refl
+  none-is (x ∷ l) = bool_cases (q x) (λ e. rw e refl) (λ e. rw e (none-is l))
 
   -- of the first n of a list
   module _ (l : List A) (d : A) where
