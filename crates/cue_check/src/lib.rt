@@ -19,7 +19,7 @@ use field::Marks;
 use plan::Plan;
 
 // Not 71: at both ends of every link the mark is Branch exactly where the link is in the tree.
-pub fn branches_agree<'a>(plan: &'a Plan, marks: &'a Marks) -> bool
+pub fn branches_agree(plan: &Plan, marks: &Marks) -> bool
     requires { plan_refusal plan.now ≡ 0 }
     ensures { result ≡ branches_agree plan.now marks.now }
 {
@@ -29,7 +29,7 @@ pub fn branches_agree<'a>(plan: &'a Plan, marks: &'a Marks) -> bool
 }
 
 // The module that directed link d runs from.
-pub fn near_end<'a>(plan: &'a Plan, d: u16) -> u16
+pub fn near_end(plan: &Plan, d: u16) -> u16
     requires { Accepted plan.now × (d < 2 * links_of plan.now) }
     ensures { (result ≡ from plan.now d) × (result < modules_of plan.now) }
 {
@@ -41,7 +41,7 @@ pub fn near_end<'a>(plan: &'a Plan, d: u16) -> u16
 }
 
 // The module that it leads to.
-pub fn far_end<'a>(plan: &'a Plan, d: u16) -> u16
+pub fn far_end(plan: &Plan, d: u16) -> u16
     requires { Accepted plan.now × (d < 2 * links_of plan.now) }
     ensures { (result ≡ dest plan.now d) × (result < modules_of plan.now) }
 {
@@ -53,7 +53,7 @@ pub fn far_end<'a>(plan: &'a Plan, d: u16) -> u16
 }
 
 // The other end of module v's link k; any module where k is no own link.
-fn facing<'a>(plan: &'a Plan, v: u16, k: u16) -> u16
+fn facing(plan: &Plan, v: u16, k: u16) -> u16
     requires { Accepted plan.now }
     ensures { (result < max_modules) × (is_own plan.now v k ≡ true → result ≡ dest plan.now (end_of plan.now v k)) }
 {
@@ -64,31 +64,31 @@ fn facing<'a>(plan: &'a Plan, v: u16, k: u16) -> u16
 }
 
 // Not 73 at a delivery: one pass over the records of the plan's modules.
-pub fn left_by_sending<'a>(plan: &'a Plan, marks: &'a Marks, row: Row) -> bool
+pub fn left_by_sending(plan: &Plan, marks: &Marks, row: Row) -> bool
     requires { Accepted plan.now × (branches_agree plan.now marks.now ≡ true) }
     ensures { result ≡ left_by_sending plan.now row }
 {
-    let mut v: u16 = plan::modules(plan);
-    let mut senders: u16 = 0;
-    while 0 < v {
-        v -= 1;
+    let mut senders = 0;
+    for v in 0..plan::modules(plan) {
         let c = row[v as usize];
         let near = row[facing(plan, v, c.link) as usize];
         if !record::right(plan, marks, v, c, near) {
             return false;
         }
-        senders += record::sender(c);
+        senders += u16::from(record::is_sender(c));
     }
     senders == 1
 }
 
 // Whether a copy waits on directed link d.
-pub fn waits<'a>(plan: &'a Plan, marks: &'a Marks, row: Row, d: u16) -> bool
+pub fn waits(plan: &Plan, marks: &Marks, row: Row, d: u16) -> bool
     requires { Accepted plan.now × (branches_agree plan.now marks.now ≡ true) × (d < 2 * links_of plan.now) }
     ensures { result ≡ waits_on plan.now row d }
 {
     let k = d / 2;
     let near = row[near_end(plan, d) as usize];
     let far = row[far_end(plan, d) as usize];
-    record::in_tree(plan, marks, k) & record::heard_not_by(near, k) & !record::came_by(far, k)
+    let sent = record::heard_not_by(near, k);
+    let arrived = record::came_by(far, k);
+    record::in_tree(plan, marks, k) && sent && !arrived
 }

@@ -18,14 +18,26 @@ use plan::Plan;
 fn is_unheard(c: Cue) -> bool
     ensures { result ≡ alike c unheard }
 {
-    (c.heard == 0) & (c.cue == 0) & (c.link == NONE) & (c.hops == 0)
+    let unheard = Cue {
+        heard: 0,
+        cue: 0,
+        link: NONE,
+        hops: 0,
+    };
+    c == unheard
 }
 
 // Whether it is the sender's.
 fn is_sender_record(c: Cue) -> bool
     ensures { result ≡ alike c (sender_record c.cue) }
 {
-    (c.heard == 1) & (c.link == NONE) & (c.hops == 0)
+    let sender = Cue {
+        heard: 1,
+        cue: c.cue,
+        link: NONE,
+        hops: 0,
+    };
+    c == sender
 }
 
 // Whether it is one of a module that heard over its link from a module with record near. Hops are compared in 32 bits: any record may be lent, and 65535 + 1
@@ -34,11 +46,11 @@ fn heard_from(c: Cue, near: Cue) -> bool
     ensures { result ≡ (has_heard near && alike c (heard_record near c.link)) }
 {
     let next = near.hops as u32 + 1;
-    (near.heard == 1) & (c.heard == 1) & (c.cue == near.cue) & (c.hops as u32 == next)
+    near.heard == 1 && c.heard == 1 && c.cue == near.cue && c.hops as u32 == next
 }
 
 // Whether link k is in the tree: after 71 its mark says so.
-pub fn in_tree<'a>(plan: &'a Plan, marks: &'a Marks, k: u16) -> bool
+pub fn in_tree(plan: &Plan, marks: &Marks, k: u16) -> bool
     requires { Accepted plan.now × (branches_agree plan.now marks.now ≡ true) × (k < links_of plan.now) }
     ensures { result ≡ tree_link plan.now k }
 {
@@ -46,18 +58,18 @@ pub fn in_tree<'a>(plan: &'a Plan, marks: &'a Marks, k: u16) -> bool
 }
 
 // Whether k is an own link of module v, and in the tree.
-fn own_branch<'a>(plan: &'a Plan, marks: &'a Marks, v: u16, k: u16) -> bool
+fn own_branch(plan: &Plan, marks: &Marks, v: u16, k: u16) -> bool
     requires { Accepted plan.now × (branches_agree plan.now marks.now ≡ true) }
     ensures { result ≡ (is_own plan.now v k && tree_link plan.now k) }
 {
     if plan::links(plan) <= k {
         return false;
     }
-    node_edges::owns(plan, v, k) & in_tree(plan, marks, k)
+    node_edges::owns(plan, v, k) && in_tree(plan, marks, k)
 }
 
 // Whether module v's record may be c, where near is the record at the other end of its link.
-pub fn right<'a>(plan: &'a Plan, marks: &'a Marks, v: u16, c: Cue, near: Cue) -> bool
+pub fn right(plan: &Plan, marks: &Marks, v: u16, c: Cue, near: Cue) -> bool
     requires { Accepted plan.now × (branches_agree plan.now marks.now ≡ true) }
     ensures { result ≡ right_of plan.now v c near }
 {
@@ -67,31 +79,25 @@ pub fn right<'a>(plan: &'a Plan, marks: &'a Marks, v: u16, c: Cue, near: Cue) ->
     if c.link == NONE {
         return is_sender_record(c);
     }
-    own_branch(plan, marks, v, c.link) & heard_from(c, near)
+    own_branch(plan, marks, v, c.link) && heard_from(c, near)
 }
 
-// 1 for a sender's record, else 0.
-pub fn sender(c: Cue) -> u16
-    ensures { (result ≡ bit (is_sender c)) × (result ≤ 1) }
+pub fn is_sender(c: Cue) -> bool
+    ensures { result ≡ is_sender c }
 {
-    if c.heard == 1 {
-        if c.link == NONE {
-            return 1;
-        }
-    }
-    0
+    c.heard == 1 && c.link == NONE
 }
 
 // Whether a copy went over link k, from a module with record c.
 pub fn heard_not_by(c: Cue, k: u16) -> bool
     ensures { result ≡ (has_heard c && not (eqb c.link k)) }
 {
-    (c.heard == 1) & (c.link != k)
+    c.heard == 1 && c.link != k
 }
 
 // Whether a copy came by link k, to a module with record c.
 pub fn came_by(c: Cue, k: u16) -> bool
     ensures { result ≡ (has_heard c && eqb c.link k) }
 {
-    (c.heard == 1) & (c.link == k)
+    c.heard == 1 && c.link == k
 }

@@ -15,17 +15,14 @@ use plan::Plan;
 fn end_agrees(byte: u8, mark: u8) -> bool
     ensures { result ≡ end_agrees (eqb byte 1) mark }
 {
-    if byte == 1 {
-        return mark == BRANCH;
-    }
-    mark != BRANCH
+    (byte == 1) == (mark == BRANCH)
 }
 
 // Whether both ends' marks are.
 fn link_agrees(byte: u8, lower: u8, higher: u8) -> bool
     ensures { result ≡ (end_agrees (eqb byte 1) lower && end_agrees (eqb byte 1) higher) }
 {
-    end_agrees(byte, lower) & end_agrees(byte, higher)
+    end_agrees(byte, lower) && end_agrees(byte, higher)
 }
 
 // Whether all links' are, where bytes are the tree's.
@@ -33,18 +30,11 @@ fn links_agree(bytes: &[u8], marks: &Marks) -> bool
     requires { length bytes.now ≤ max_links }
     ensures { result ≡ every (length bytes.now) (byte_agrees bytes.now marks.now) }
 {
-    let mut k = bytes.len();
-    while 0 < k {
-        k -= 1;
-        if !link_agrees(bytes[k], marks[2 * k], marks[2 * k + 1]) {
-            return false;
-        }
-    }
-    true
+    (0..bytes.len()).all(|k| link_agrees(bytes[k], marks[2 * k], marks[2 * k + 1]))
 }
 
 // Not 71, with L bytes to build the tree in.
-pub fn agrees<'a>(plan: &'a Plan, marks: &'a Marks, bytes: &mut [u8]) -> bool
+pub fn agrees(plan: &Plan, marks: &Marks, bytes: &mut [u8]) -> bool
     requires { (plan_refusal plan.now ≡ 0) × (length bytes.old ≡ links_of plan.now) }
     ensures { result ≡ branches_agree plan.now marks.now }
 {

@@ -1,5 +1,5 @@
--- cue_check::record::own_branch: past the links it is no own link, by `own_below`; else what the two callees answer.
-use native.Mathlib.Omega.{arith}
+-- cue_check::record::own_branch: past the links it is no own link, by `own_below`.
+use Rattle.std.proofs.Common.{arith}
 use Rattle.base.proofs.laws.Cond.{bool_cases}
 use Rattle.field.specs.Edges.{is_own}
 use Rattle.field.proofs.laws.Edges.{own_below}
@@ -7,11 +7,5 @@ use Rattle.cue_check.proofs.record.own_branch.Goals as goal
 
 pub returns-then-links-k : goal.returns-then-links-k
 returns-then-links-k c =
-    let s = c.before.before in
-    let a = s.args in
-    bool_cases (is_own a.plan.now a.v a.k)
-    (λ own. absurd (omega (arith, own_below a.plan.now a.v a.k own, c.links.ensures, c.if-links-k.true)))
-    (λ f. rw f)
-
-pub returns : goal.returns
-returns c = cc
+    let a = c.args in
+    bool_cases (is_own a.plan.now a.v a.k) (λ own. absurd (omega (arith, own_below a.plan.now a.v a.k own))) (λ f. rw f)

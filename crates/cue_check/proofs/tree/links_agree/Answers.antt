@@ -1,20 +1,13 @@
-use mathlib.Core.Path.{refl, sym, ◌∙◌}
-use borrow.Author.Rules.{rules}
-use Rattle.base.proofs.laws.Test.{every-goes-on, every-stops, every-of-none}
+use Rattle.std.proofs.Common.{length, sym, ◌∙◌, arith, rules, tests}
+use Rattle.std.proofs.lemmas.Iterator.{YieldsList-from_range}
+use Rattle.std.proofs.lemmas.Iterator.Search.{all_from_yields_List}
+use Rattle.base.proofs.laws.Chains.{every-is}
+use Rattle.cue_check.specs.Bytes.{byte_agrees}
 use Rattle.cue_check.proofs.tree.links_agree.Goals as goal
 
-pub loop-k-init : goal.loop-k-init
-loop-k-init c = (search rules, refl)
-
-pub returns-then-not-link_agrees : goal.returns-then-not-link_agrees
-returns-then-not-link_agrees c =
-    let e = c.before.before.before.before.before in
-    sym (e.loop-k.invariant.1 ∙ every-stops _ _ e.loop-k-test.true (sym c.link_agrees.ensures ∙ c.if-not-link_agrees.true))
-
-pub loop-k-preserved : goal.loop-k-preserved
-loop-k-preserved c =
-    let e = c.before.before.before.before.before in
-    (search rules, e.loop-k.invariant.1 ∙ every-goes-on _ _ e.loop-k-test.true (sym c.link_agrees.ensures ∙ c.if-not-link_agrees.false))
-
 pub returns : goal.returns
-returns c = sym (c.loop-k.invariant.1 ∙ every-of-none _ _ c.loop-k-test.false)
+returns c =
+    let n = length c.args.bytes.now in
+    let agrees = byte_agrees c.args.bytes.now c.args.marks.now in
+    all_from_yields_List agrees _ _ _ c.all.ensures.ran (YieldsList-from_range 0 n n (cc) (omega arith)) (λ x b q k. search (rules, tests))
+    ∙ sym (every-is n agrees)
