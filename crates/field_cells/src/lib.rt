@@ -63,11 +63,7 @@ pub fn put_node(cells: &mut Cells, v: u16, n: Node)
         n.status, n.level, n.identity, n.weight, n.best, n.test, n.branch, n.count, n.halted,
         n.waking,
     ];
-    let mut j: usize = 0;
-    while j < WIDTH {
-        cells[c + j] = values[j];
-        j += 1;
-    }
+    cells[c..c + WIDTH].copy_from_slice(&values);
 }
 
 // Each module's values at setup, in cells of zeros.
@@ -76,15 +72,13 @@ pub fn lay_cells(cells: &mut Cells)
     ensures { cells.new ≡ fresh_cells max_modules }
 {
     let n = fresh_node();
-    let mut v: u16 = 0;
-    while v < MAX_MODULES {
+    for v in 0..MAX_MODULES {
         put_node(cells, v, n);
-        v += 1;
     }
 }
 
 // The change c of one of module v's marks, if it is of a link of v.
-pub fn put_mark<'a>(plan: &'a Plan, marks: &mut Marks, v: u16, c: NewMark)
+pub fn put_mark(plan: &Plan, marks: &mut Marks, v: u16, c: NewMark)
     requires { links_of plan.now ≤ max_links }
     ensures { marks.new ≡ mark_put plan.now marks.old v c }
 {
