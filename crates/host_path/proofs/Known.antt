@@ -5,13 +5,14 @@ use native.Mathlib.Omega.{arith}
 use native.Mathlib.Numerals.{add-one}
 use mathlib.Core.Path.{◌≡◌, refl, sym, ap, ◌∙◌}
 use mathlib.Core.Logic.{◌≢◌, ⊎_elim}
-use mathlib.Core.Bool.{not, ◌&&◌}
+use mathlib.Core.Bool.{Bool, true, false, not, ◌&&◌}
+use mir.Val.{bool_byte}
 use mathlib.Core.List.{List, ◌++◌}
 use lib.ListN.{length, get_or, drop, set, length-reverse}
 use lib.Dec.{eqb, leb}
 use borrow.Author.Tests.{le-leb, lt-leb, leb-true, leb-false}
 use Rattle.base.specs.Cond.{bit}
-use Rattle.base.proofs.laws.Cond.{eqb-diff, bool_cases}
+use Rattle.base.proofs.laws.Cond.{bool_cases}
 use Rattle.base.specs.Table.{tabulate}
 use Rattle.base.proofs.laws.Sets.{front-set}
 use Rattle.base.proofs.laws.Table.{length-tabulate, tabulate-next, tabulate-ext}
@@ -40,11 +41,10 @@ module _ (f : ℕ → ℕ) (out₀ : List ℕ) where
 abbrev pub known_at : List ℕ → ℕ → ℕ
 known_at hops w = bit (not (eqb (get_or hops w 0) far))
 
-pub not_known : (hops : List ℕ) (w : ℕ) → get_or hops w 0 ≡ far → 0 ≡ known_at hops w
-not_known hops w e = rw e
-
-pub is_known : (hops : List ℕ) (w : ℕ) → get_or hops w 0 ≢ far → 1 ≡ known_at hops w
-is_known hops w n = rw (eqb-diff (get_or hops w 0) far n)
+-- a `bool` as a byte
+pub byte-bit : (b : Bool) → bool_byte b ≡ bit b
+byte-bit true = refl
+byte-bit false = refl
 
 -- THE FIRST NODE of a path is known if it is in the goal's part
 module _ (p : Plan) (ok : Accepted p) (v u : ℕ) (hops by : List ℕ) (k : KnownTo p v u hops by) where

@@ -1,4 +1,3 @@
-pub mod Links
 pub mod Walked
 pub mod Known
 pub mod Answers

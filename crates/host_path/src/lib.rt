@@ -38,14 +38,16 @@ fn across(plan: &Plan, k: u16, u: u16) -> u16
     requires { k < max_links }
     ensures { result ≡ across (graph_of plan.now) k u }
 {
-    if plan::lower(plan, k as usize) == u {
-        return plan::higher(plan, k as usize);
+    let k = k as usize;
+    if plan::lower(plan, k) == u {
+        plan::higher(plan, k)
+    } else {
+        plan::lower(plan, k)
     }
-    plan::lower(plan, k as usize)
 }
 
 // The path from u to v, of one part, at the front of out, by the links to go first. Answers its latest link.
-fn walk<'a>(plan: &'a Plan, by: &'a FirstLinks, u: u16, v: u16, out: &mut [u16]) -> u16
+fn walk(plan: &Plan, by: &FirstLinks, u: u16, v: u16, out: &mut [u16]) -> u16
     requires { (plan_refusal plan.now ≡ 0) × (u < modules_of plan.now) × SamePart (graph_of plan.now) u v × LinksTo plan.now v u by.now
         × (hops_to plan.now v u ≤ length out.old) }
     ensures { (result ≡ worst_on plan.now (tree_path plan.now u v))
@@ -53,7 +55,8 @@ fn walk<'a>(plan: &'a Plan, by: &'a FirstLinks, u: u16, v: u16, out: &mut [u16])
 {
     let mut worst = NONE;
     let mut at = u;
-    let mut i: usize = 0;
+    let mut i = 0;
+    // a `while`: it ends where v is reached, and how many turns that takes no count at hand tells
     while at != v {
         let k = by[at as usize];
         out[i] = k;
@@ -101,14 +104,8 @@ fn write_known(hops: &Hops, n: usize, out: &mut [u8])
     requires { (length hops.now ≡ max_modules) × (n ≤ max_modules) × (n ≤ length out.old) }
     ensures { out.new ≡ tabulate n (λ w. bit (not (eqb (get_or hops.now w 0) far))) ++ drop n out.old }
 {
-    let mut w: usize = 0;
-    while w < n {
-        if hops[w] == FAR {
-            out[w] = 0;
-        } else {
-            out[w] = 1;
-        }
-        w += 1;
+    for w in 0..n {
+        out[w] = u8::from(hops[w] != FAR);
     }
 }
 
@@ -117,10 +114,7 @@ fn at_most(h: u32, n: u16) -> u8
     requires { (0 < n) × (n ≤ max_modules) }
     ensures { result ≡ min h (n - 1) }
 {
-    if h < n as u32 {
-        return h as u8;
-    }
-    (n - 1) as u8
+    h.min(n as u32 - 1) as u8
 }
 
 // The modules within h branches of one, of any plan value: 14 to 18, 41, 79, or N bytes at the front of out, 0 for other parts.
