@@ -46,10 +46,8 @@ fn fill(s: &[u8], plan: &mut Plan)
     ensures { plan.new ≡ decode s.now }
 {
     let end = 2 + 4 * (number_at(s, 2) as usize);
-    let mut i: usize = 0;
-    while i < end {
+    for i in 0..end {
         plan[i] = number_at(s, i + 1);
-        i += 1;
     }
 }
 
@@ -89,10 +87,8 @@ pub fn put_plan(p: &Plan, out: &mut [u8])
     out[0] = 1;
     format_int16::put(out, 1, 4 + 8 * l);
     let end = 2 + 4 * (l as usize);
-    let mut i: usize = 0;
-    while i < end {
-        format_int16::put(out, 3 + 2 * i, p[i]);
-        i += 1;
+    for (i, x) in p[..end].iter().enumerate() {
+        format_int16::put(out, 3 + 2 * i, *x);
     }
 }
 
