@@ -1,4 +1,3 @@
 pub mod laws
-pub mod Lemmas
 pub mod Offers
 pub mod Joins

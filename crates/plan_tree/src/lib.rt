@@ -3,6 +3,7 @@
 #![tactic(auto)]
 
 ghost use Rattle.std.specs.Prelude.{◌≡◌, ◌⊎◌, ℕ, ◌+◌, ◌<◌, ◌≤◌, length, set};
+ghost use Rattle.base.specs.Cond.{bit};
 ghost use Rattle.base.specs.Limits.{max_modules, max_links};
 ghost use Rattle.base.specs.None.{none};
 ghost use Rattle.refusal.specs.Number.{refusal_in};
@@ -21,14 +22,6 @@ use refusal::Refusal;
 
 // For each part the edge to join by, or none.
 type Picks = [u16; LABELS];
-
-// A cast by a call: the caller's proof has the value under a name, with an equation, where a cast in place is written out
-// wherever it is used.
-fn index(x: u8) -> usize
-    ensures { result ≡ x }
-{
-    x as usize
-}
 
 // The earlier of b, an edge or none, and edge k.
 fn sooner(plan: &Plan, b: u16, k: u16) -> u16
@@ -49,22 +42,22 @@ fn offer(plan: &Plan, best: &mut Picks, a: usize, k: u16)
     best[a] = sooner(plan, best[a], k);
 }
 
-// Edge k is offered to the parts of its ends, if they differ. Answers 1 if they do, else 0.
-fn scan_edge(plan: &Plan, label: &PartLabels, best: &mut Picks, k: usize) -> u16
+// Edge k is offered to the parts of its ends, if they differ. Answers whether they do.
+fn scan_edge(plan: &Plan, label: &PartLabels, best: &mut Picks, k: usize) -> bool
     requires { (k < max_links) × (lower_of plan.now k < max_modules) × (higher_of plan.now k < max_modules) × LabelsFit label.now
         × Firsts plan.now label.now k best.old }
-    ensures { (result ≡ apart_at (graph_of plan.now) (at label.now) k)
+    ensures { (bit result ≡ apart_at (graph_of plan.now) (at label.now) k)
         × Firsts plan.now label.now (k + 1) best.new }
 {
-    let a = index(label[plan::lower(plan, k) as usize]);
-    let b = index(label[plan::higher(plan, k) as usize]);
+    let a = usize::from(label[plan::lower(plan, k) as usize]);
+    let b = usize::from(label[plan::higher(plan, k) as usize]);
     if a == b {
-        return 0;
+        return false;
     }
     let e = k as u16;
     offer(plan, best, a, e);
     offer(plan, best, b, e);
-    1
+    true
 }
 
 // The earliest edge that leaves each part, into best. Answers how many edges join different parts.
@@ -73,12 +66,11 @@ fn scan(plan: &Plan, label: &PartLabels, best: &mut Picks) -> u16
     ensures { (result ≡ apart (graph_of plan.now) (at label.now))
         × Firsts plan.now label.now (links_of plan.now) best.new }
 {
-    let end = plan::links(plan) as usize;
-    let mut found: u16 = 0;
-    let mut k: usize = 0;
-    while k < end {
-        found += scan_edge(plan, label, best, k);
-        k += 1;
+    let mut found = 0;
+    for k in 0..plan::links(plan) as usize {
+        if scan_edge(plan, label, best, k) {
+            found += 1;
+        }
     }
     found
 }
@@ -107,14 +99,12 @@ fn join_pick(plan: &Plan, label: &mut PartLabels, out: &mut [u8], k: u16)
 }
 
 // Each part's pick is joined.
-fn join_all<'a>(plan: &'a Plan, best: &'a Picks, label: &mut PartLabels, out: &mut [u8])
+fn join_all(plan: &Plan, best: &Picks, label: &mut PartLabels, out: &mut [u8])
     requires { Fit plan.now label.old out.old × ((a : ℕ) → a < max_modules → (at best.now a ≡ none) ⊎ (at best.now a < links_of plan.now)) }
     ensures { TakesTo max_modules (graph_of plan.now) best.now label.old out.old label.new out.new }
 {
-    let mut a: usize = 0;
-    while a < LABELS {
-        join_pick(plan, label, out, best[a]);
-        a += 1;
+    for k in best {
+        join_pick(plan, label, out, *k);
     }
 }
 
@@ -141,23 +131,12 @@ fn phases(plan: &Plan, label: &mut PartLabels, out: &mut [u8])
     }
 }
 
-// No edge is marked.
-fn clear(out: &mut [u8])
-    ensures { (k : ℕ) → k < length out.old → at out.new k ≡ 0 }
-{
-    let mut k: usize = 0;
-    while k < out.len() {
-        out[k] = 0;
-        k += 1;
-    }
-}
-
 // The tree of a plan that was checked.
 pub fn grow(plan: &Plan, out: &mut [u8])
     requires { (plan_refusal plan.now ≡ 0) × (length out.old ≡ links_of plan.now) }
     ensures { out.new ≡ tree_bytes plan.now }
 {
-    clear(out);
+    out.fill(0);
     let mut label = [0u8; LABELS];
     plan_labels::number(&mut label);
     phases(plan, &mut label, out);

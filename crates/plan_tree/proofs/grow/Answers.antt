@@ -1,6 +1,6 @@
 -- plan_tree::grow: no edge marked, and each node its own label: a forest to begin with, by `forest-start`. The bytes by `exact_bytes`.
-use mathlib.Core.Path.{◌∙◌}
-use native.Mathlib.Omega.{arith}
+use Rattle.std.proofs.Common.{◌∙◌, length, arith}
+use Rattle.std.proofs.lemmas.List.{get_or-replicate}
 use Rattle.plan.specs.Links.{graph_of}
 use Rattle.plan.proofs.laws.Accepted.{accepted}
 use Rattle.plan_tree.specs.laws.Forest.{forest-start}
@@ -10,19 +10,13 @@ use Rattle.plan_tree.proofs.grow.Goals as goal
 
 pub phases-requires : goal.phases-requires
 phases-requires c =
-    let n = c.before.before in
-    let k = n.before.before.before.before in
-    let s = k.before.before.before in
-    let a = accepted s.args.plan.now s.requires.0 in
-    let ends = accepted-ends s.args.plan.now a in
-    let own = n.number.ensures in (
-      record { few = a.links_ok; ends = ends; size = k.clear.auto.out ∙ s.requires.1; parts = own-parts _ own },
-      forest-start (graph_of s.args.plan.now) _ _ _ ends (own-label _ own) (λ e l. k.clear.ensures e (omega (arith, s.requires.1))),
+    let p = c.args.plan.now in
+    let a = accepted p c.requires.0 in
+    let ends = accepted-ends p a in
+    let own = c.number.ensures in (
+      record { few = a.links_ok; ends = ends; size = c.fill.auto.self ∙ c.requires.1; parts = own-parts _ own },
+      forest-start (graph_of p) _ _ _ ends (own-label _ own) (λ e l. rw (c.fill.ensures.after (λ y q. q)) (get_or-replicate (length c.args.out.now) e 0 0 (omega (arith, c.requires.1)))),
     )
 
 pub returns : goal.returns
-returns c =
-    let q = c.before.before in
-    let k = q.before.before.before.before.before.before.before in
-    let s = k.before.before.before in
-    exact_bytes s.args.plan.now q.phases.new.out (q.phases.auto.out ∙ (k.clear.auto.out ∙ s.requires.1)) q.phases.ensures
+returns c = exact_bytes c.args.plan.now c.phases.new.out (c.phases.auto.out ∙ (c.fill.auto.self ∙ c.requires.1)) c.phases.ensures

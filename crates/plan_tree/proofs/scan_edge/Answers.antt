@@ -26,8 +26,8 @@ in_range label {e = e} f l p = omega (arith, p, f.range e l)
 pub returns-then-a-b : goal.returns-then-a-b
 returns-then-a-b c =
     let a = c.args in
-    let low = part a.label.now c.index-a.ensures c.lower.ensures in
-    let high = part a.label.now c.index-b.ensures c.higher.ensures in
+    let low = part a.label.now c.from-a.ensures c.lower.ensures in
+    let high = part a.label.now c.from-b.ensures c.higher.ensures in
     let inside = sym low ∙ c.if-a-b.true ∙ high in (
       sym (apart-inside (graph_of a.plan.now) (at a.label.now) a.k inside),
       skipped a.plan.now a.label.now a.best.now a.k c.requires.0 c.requires.4 inside,
@@ -36,14 +36,14 @@ returns-then-a-b c =
 pub offer-requires : goal.offer-requires
 offer-requires c =
     let a = c.args in
-    let low = in_range a.label.now c.requires.3 c.requires.1 (part a.label.now c.index-a.ensures c.lower.ensures) in
+    let low = in_range a.label.now c.requires.3 c.requires.1 (part a.label.now c.from-a.ensures c.lower.ensures) in
     (low, c.requires.0, held a.plan.now a.label.now a.best.now a.k c.requires.0 c.requires.4 _ low)
 
 pub offer-requires-2 : goal.offer-requires-2
 offer-requires-2 c =
     let a = c.args in
-    let low = part a.label.now c.index-a.ensures c.lower.ensures in
-    let high = part a.label.now c.index-b.ensures c.higher.ensures in
+    let low = part a.label.now c.from-a.ensures c.lower.ensures in
+    let high = part a.label.now c.from-b.ensures c.higher.ensures in
     let within = in_range a.label.now c.requires.3 c.requires.2 high in (
       within,
       c.requires.0,
@@ -54,8 +54,8 @@ offer-requires-2 c =
 pub returns : goal.returns
 returns c =
     let a = c.args in
-    let low = part a.label.now c.index-a.ensures c.lower.ensures in
-    let high = part a.label.now c.index-b.ensures c.higher.ensures in
+    let low = part a.label.now c.from-a.ensures c.lower.ensures in
+    let high = part a.label.now c.from-b.ensures c.higher.ensures in
     let d = c.if-a-b.false in (
       sym (apart-leaves (graph_of a.plan.now) (at a.label.now) a.k (λ e. d (low ∙ e ∙ sym high))),
       rw (c.offer-2.ensures, c.offer.ensures)
