@@ -5,20 +5,14 @@ ghost use Rattle.std.specs.Prelude.{◌≡◌, length, replicate, ◌≤◌};
 ghost use Rattle.base.specs.Limits.{max_links};
 ghost use Rattle.plan.specs.Links.{links_of};
 ghost use Rattle.plan.specs.Trimmed.{trimmed};
-ghost use Rattle.field.specs.Held.{unmarked, fresh, blank_field, set_up};
+ghost use Rattle.field.specs.Held.{unmarked, fresh, set_up};
+ghost use Rattle.host_setup.specs.Made.{made};
 
 use base::MAX_ENDS;
 use field::{CELLS, Cells, Field};
 use node::BASIC;
-use plan::{NUMBERS, Plan};
-
-// What a call that makes a field answers: the refusal, or 0 and the field; a field of zeros beside a refusal. Setup refuses by 14 to 18 and 21, restoring a
-// point by 76, 77 and 21.
-#[derive(Drop)]
-pub struct NewField {
-    pub refusal: u32,
-    pub field: Field,
-}
+use plan::Plan;
+use refusal::Refusal;
 
 // The field of a plan and cells, all marks Basic, nothing sent.
 fn unmarked(p: Plan, cells: Cells) -> Field
@@ -42,16 +36,6 @@ fn fresh_field(p: &Plan) -> Field
     unmarked(plan::trimmed(p), cells)
 }
 
-// A refusal's number, beside a field of zeros.
-pub fn refused_by(number: u32) -> NewField
-    ensures { result ≡ record { refusal = number; field = blank_field } }
-{
-    NewField {
-        refusal: number,
-        field: unmarked([0u16; NUMBERS], [0u16; CELLS]),
-    }
-}
-
 // All lent words become zero.
 pub fn zero_all(words: &mut [u64])
     ensures { words.new ≡ replicate (length words.old) 0 }
@@ -63,21 +47,14 @@ pub fn zero_all(words: &mut [u64])
     }
 }
 
-// Setup of a plan in lent words. A refusal leaves the words as they were.
-pub fn setup(p: &Plan, words: &mut [u64]) -> NewField
-    ensures { record { refusal = result.refusal; state = record { field = result.field; words = words.new } }
-        ≡ set_up p.now words.old }
+// Setup of a plan in lent words: 14 to 18, then 21. A refusal leaves the words as they were.
+pub fn setup(p: &Plan, words: &mut [u64]) -> Result<Field, Refusal>
+    ensures { made result words.new ≡ set_up p.now words.old }
 {
-    let bad = plan_check::check(p);
-    if bad != 0 {
-        return refused_by(bad);
-    }
+    plan_check::check(p)?;
     if words.len() < plan::ceiling_of(p) as usize {
-        return refused_by(21);
+        return Err(Refusal::TooFewWords);
     }
     zero_all(words);
-    NewField {
-        refusal: 0,
-        field: fresh_field(p),
-    }
+    Ok(fresh_field(p))
 }

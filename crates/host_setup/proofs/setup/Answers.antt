@@ -1,20 +1,21 @@
--- host_setup::setup: one law for each return: `setup-bad`, `setup-few`, `setup-done`.
-use native.Mathlib.Omega.{arith}
-use mathlib.Core.Path.{refl}
-use Rattle.host_setup.proofs.Outcomes.{setup-bad, setup-few, setup-links, setup-done}
+use Rattle.std.proofs.Common.{arith}
+use Rattle.std.proofs.lemmas.Bool.Decides.{nat_tests}
+use Rattle.refusal.proofs.laws.Number.{positive}
+use Rattle.plan.proofs.laws.Accepted.{accepted}
+use Rattle.field.specs.Held.{set_up}
 use Rattle.host_setup.proofs.setup.Goals as goal
 
-pub returns-then-bad-ne0 : goal.returns-then-bad-ne0
-returns-then-bad-ne0 c = setup-bad _ _ _ c.check-bad.ensures _ c.if-bad-ne0.true c.refused_by.ensures
+pub returns-in_err-check : goal.returns-in_err-check
+unfolding set_up
+returns-in_err-check c = grind (arith, nat_tests, positive)
 
 pub returns-then-words-ceiling_of : goal.returns-then-words-ceiling_of
-returns-then-words-ceiling_of c =
-    setup-few _ _ _ c.check-bad.ensures _ c.if-bad-ne0.false (omega (arith, c.ceiling_of.ensures, c.if-words-ceiling_of.true)) c.refused_by-then-words-ceiling_of.ensures
+unfolding set_up
+returns-then-words-ceiling_of c = grind (arith, nat_tests)
 
 pub fresh_field-requires : goal.fresh_field-requires
-fresh_field-requires c =
-    setup-links _ _ c.check-bad.ensures c.if-bad-ne0.false
+fresh_field-requires c = (accepted c.args.p.now (grind arith)).links_ok
 
 pub returns : goal.returns
-returns c =
-    setup-done _ _ _ c.check-bad.ensures (record { refusal = 0; field = c.fresh_field.result }) c.if-bad-ne0.false (omega (arith, c.ceiling_of.ensures, c.if-words-ceiling_of.false)) refl c.fresh_field.ensures _ c.zero_all.ensures
+unfolding set_up
+returns c = grind (arith, nat_tests)
