@@ -1,7 +1,7 @@
 // Refusal 31: whether a field that a host supplies is one, item by item.
 #![tactic(auto)]
 
-ghost use Rattle.std.specs.Prelude.{ℕ, ◌*◌, ◌<◌, ◌≤◌, ◌≡◌, true, length, get_or, eqb, leb};
+ghost use Rattle.std.specs.Prelude.{ℕ, ◌*◌, ◌<◌, ◌≤◌, ◌≡◌, length, get_or, eqb, leb, IfOk};
 ghost use Rattle.base.specs.Test.{every};
 ghost use Rattle.plan.proofs.laws.Accepted.{Accepted};
 ghost use Rattle.base.specs.Limits.{max_modules, max_links};
@@ -18,16 +18,10 @@ use base::MAX_MODULES;
 use field::{Cells, Field, Marks};
 use node::REJECTED;
 use plan::Plan;
+use refusal::Refusal;
 
 // How many links each module has.
 type Degrees = [u16; MAX_MODULES as usize];
-
-// ok: 31 does not apply. waiting: how many words wait.
-#[derive(Clone, Copy)]
-pub struct Checked {
-    pub ok: bool,
-    pub waiting: usize,
-}
 
 // How many words wait: those before the first zero.
 pub fn waiting(lent: &[u64]) -> usize
@@ -139,50 +133,37 @@ pub fn state_fits<'a>(
         & (sent <= plan::ceiling_of(plan))
 }
 
-// The check for 31 of a field in lent arrays and words, and how many words wait.
+// 31 of a field in lent arrays and words, or how many words wait.
 pub fn check<'a>(
     plan: &'a Plan,
     cells: &'a Cells,
     marks: &'a Marks,
     sent: u32,
     lent: &[u64],
-) -> Checked
-    ensures { result ≡ check_of (held_from plan.now
-        cells.now marks.now sent lent.now) }
+) -> Result<usize, Refusal>
+    ensures { result ≡ check_of (held_from plan.now cells.now marks.now sent lent.now) }
 {
     let n = waiting(lent);
-    if plan_check::check(plan) != 0 {
-        return Checked {
-            ok: false,
-            waiting: n,
-        };
+    if plan_check::check(plan).is_err()
+        || lent.len() < plan::ceiling_of(plan) as usize
+        || !all_zero(&lent[n..])
+        || !state_fits(plan, cells, marks, sent, &lent[..n])
+    {
+        return Err(Refusal::Field);
     }
-    if lent.len() < plan::ceiling_of(plan) as usize {
-        return Checked {
-            ok: false,
-            waiting: n,
-        };
-    }
-    if !all_zero(&lent[n..]) {
-        return Checked {
-            ok: false,
-            waiting: n,
-        };
-    }
-    let ok = state_fits(plan, cells, marks, sent, &lent[..n]);
-    Checked { ok: ok, waiting: n }
+    Ok(n)
 }
 
-// 31, "before all else", of a field in lent arrays: whether it passes, so that steps may follow, and how many words wait.
+// 31, "before all else", of a field in lent arrays; where it passes, steps may follow.
 pub fn admit_parts<'a>(
     plan: &'a Plan,
     cells: &'a Cells,
     marks: &'a Marks,
     sent: u32,
     lent: &[u64],
-) -> Checked
-    ensures { (result ≡ check_of (held_from plan.now cells.now marks.now sent lent.now))
-        × (result.ok ≡ true → Ready plan.now cells.now marks.now lent.now result.waiting sent) }
+) -> Result<usize, Refusal>
+    ensures answer { result ≡ check_of (held_from plan.now cells.now marks.now sent lent.now) }
+    ensures ready { IfOk result (λ n. Ready plan.now cells.now marks.now lent.now n sent) }
 {
     // as slices the arrays show their lengths, which steps ask for
     let numbers = &plan[..];
@@ -192,20 +173,9 @@ pub fn admit_parts<'a>(
 }
 
 // The same of a field that a host supplies.
-pub fn admit(f: Field, lent: &[u64]) -> Checked
-    ensures { (result ≡ check_of (record { field = f; words = lent.now }))
-        × (result.ok ≡ true → Ready f.plan f.cells f.marks lent.now result.waiting f.sent) }
+pub fn admit(f: &Field, lent: &[u64]) -> Result<usize, Refusal>
+    ensures answer { result ≡ check_of (record { field = f.now; words = lent.now }) }
+    ensures ready { IfOk result (λ n. Ready f.now.plan f.now.cells f.now.marks lent.now n f.now.sent) }
 {
     admit_parts(&f.plan, &f.cells, &f.marks, f.sent, lent)
-}
-
-// Field f with these cells, marks and sent count: put together again after its steps.
-pub fn rebuilt(f: Field, cells: Cells, marks: Marks, sent: u32) -> Field
-    ensures { result ≡ record { plan = f.plan; cells = cells; marks = marks; sent = sent } }
-{
-    let mut g = f;
-    g.cells = cells;
-    g.marks = marks;
-    g.sent = sent;
-    g
 }

@@ -1,18 +1,19 @@
 -- Hand-overs in lent words.
-use Rattle.std.specs.Prelude.{ℕ, ◌*◌, ◌≡◌, cond, List, length, take, leb}
+use Rattle.std.specs.Prelude.{ℕ, Result, Ok, Err, ◌*◌, ◌≡◌, cond, List, take, leb}
 use Rattle.base.specs.Loop.{After}
+use Rattle.refusal.specs.declared.Refusal.{Refusal}
+use Rattle.refusal.specs.declared.Refusal.TheVariants.{NoDirectedLink, NothingToHandOver}
 use Rattle.plan.specs.Links.{Plan, links_of}
 use Rattle.field.specs.State.{State}
 use Rattle.field.specs.Step.{in_air, absent, place}
-use Rattle.field_words.specs.declared.HandVerdict.{HandVerdict}
 use Rattle.field_words.specs.Laid.{Laid}
 
--- What a hand-over on directed link d comes to before a word moves: refused, or the place of the word that it takes. A refused one takes none.
-unfoldable pub handable : Plan → ℕ → List ℕ → HandVerdict
+-- What a hand-over on directed link d comes to before a word moves: refused, or the place of the word that it takes.
+unfoldable pub handable : Plan → ℕ → List ℕ → Result ℕ Refusal
 handable p d words =
-    cond (leb (2 * links_of p) d) (record { refusal = 42; at = length words })
-    (cond (absent (in_air d) words) (record { refusal = 44; at = length words })
-    (record { refusal = 0; at = place (in_air d) words }))
+    cond (leb (2 * links_of p) d) (Err NoDirectedLink)
+    (cond (absent (in_air d) words) (Err NothingToHandOver)
+    (Ok (place (in_air d) words)))
 
 -- the state that is lent: n words wait
 abbrev pub lent_state : List ℕ → List ℕ → List ℕ → ℕ → ℕ → State

@@ -3,6 +3,7 @@
 
 ghost use Rattle.std.specs.Prelude.{◌<◌, ◌≤◌, ◌≡◌, [], ◌∷◌, ◌++◌, length, take, drop};
 ghost use Rattle.base.specs.Limits.{max_links};
+ghost use Rattle.refusal.specs.Number.{refusal_in};
 ghost use Rattle.plan.specs.Links.{links_of};
 ghost use Rattle.field.specs.Step.{without, hand};
 ghost use Rattle.field.specs.Held.{layout};
@@ -10,13 +11,7 @@ ghost use Rattle.field_words.specs.Laid.{Laid};
 ghost use Rattle.field_words.specs.Hands.{Hands, handable};
 
 use plan::Plan;
-
-// refusal: its number, or 0. at: the place of the word to hand over; the number of words where there is none.
-#[derive(Clone, Copy)]
-pub struct HandVerdict {
-    pub refusal: u32,
-    pub at: usize,
-}
+use refusal::Refusal;
 
 // The first word of a part leaves: the later ones move one place forward, and the last place becomes zero.
 fn close_up(t: &mut [u64])
@@ -54,31 +49,23 @@ pub fn to_end(lent: &mut [u64], n: usize, a: usize, w: u64)
 }
 
 // What a hand-over on directed link d comes to, where these words wait: refused by 42 or 44, or the place of its word.
-pub fn handable(plan: &Plan, words: &[u64], d: u16) -> HandVerdict
+pub fn handable(plan: &Plan, words: &[u64], d: u16) -> Result<usize, Refusal>
     requires { links_of plan.now ≤ max_links }
     ensures { result ≡ handable plan.now d words.now }
 {
-    let n = words.len();
     if 2 * plan::links(plan) <= d {
-        return HandVerdict { refusal: 42, at: n };
+        return Err(Refusal::NoDirectedLink);
     }
-    let Some(a) = field_search::first_in_air(words, d) else {
-        return HandVerdict { refusal: 44, at: n };
-    };
-    HandVerdict { refusal: 0, at: a }
+    field_search::first_in_air(words, d).ok_or(Refusal::NothingToHandOver)
 }
 
-// A hand-over on directed link d, where n words wait: 0, or refused by 42 or 44.
-pub fn hand(plan: &Plan, lent: &mut [u64], n: usize, d: u16) -> u32
+// A hand-over on directed link d, where n words wait: refused by 42 or 44, or done.
+pub fn hand(plan: &Plan, lent: &mut [u64], n: usize, d: u16) -> Result<(), Refusal>
     requires { Laid lent.old n × (links_of plan.now ≤ max_links) }
-    ensures { Hands (hand plan.now d) n lent.old result lent.new }
+    ensures { Hands (hand plan.now d) n lent.old (refusal_in result) lent.new }
 {
-    let h = handable(plan, &lent[..n], d);
-    if h.refusal != 0 {
-        return h.refusal;
-    }
-    let a = h.at;
+    let a = handable(plan, &lent[..n], d)?;
     let w = format_word::hand_over(lent[a]);
     to_end(lent, n, a, w);
-    0
+    Ok(())
 }
