@@ -31,14 +31,12 @@ fn list_marked(tree: &[u8], list: &mut BranchList) -> usize
     requires { (length tree.now ≤ max_links) × (length list.old ≡ max_links) }
     ensures { ListsTree tree.now (length tree.now) list.new result }
 {
-    let mut n: usize = 0;
-    let mut k: usize = 0;
-    while k < tree.len() {
-        if tree[k] == 1 {
+    let mut n = 0;
+    for (k, x) in tree.iter().enumerate() {
+        if *x == 1 {
             list[n] = k as u16;
             n += 1;
         }
-        k += 1;
     }
     n
 }
@@ -123,12 +121,8 @@ fn pass(
     ensures { LevelDone plan.now h hops.old by.old hops.new by.new result }
 {
     let mut any = false;
-    let mut i: usize = 0;
-    while i < n {
-        if pass_branch(plan, hops, by, list[i], h) {
-            any = true;
-        }
-        i += 1;
+    for k in &list[..n] {
+        any |= pass_branch(plan, hops, by, *k, h);
     }
     any
 }
@@ -141,8 +135,7 @@ pub fn spread_to(plan: &Plan, hops: &mut Hops, by: &mut FirstLinks, v: u16, u: u
     let mut list = [0u16; LINKS];
     let n = begin(plan, &mut list, hops, by, v);
     let last = (plan::modules(plan) - 1) as u8;
-    let mut h: u8 = 0;
-    while h < last {
+    for h in 0..last {
         if hops[u as usize] != FAR {
             return;
         }
@@ -150,7 +143,6 @@ pub fn spread_to(plan: &Plan, hops: &mut Hops, by: &mut FirstLinks, v: u16, u: u
         if !news {
             return;
         }
-        h += 1;
     }
 }
 
@@ -161,11 +153,9 @@ pub fn spread_within(plan: &Plan, hops: &mut Hops, by: &mut FirstLinks, v: u16, 
 {
     let mut list = [0u16; LINKS];
     let n = begin(plan, &mut list, hops, by, v);
-    let mut h: u8 = 0;
-    while h < most {
+    for h in 0..most {
         if !pass(plan, &list, n, hops, by, h) {
             return;
         }
-        h += 1;
     }
 }

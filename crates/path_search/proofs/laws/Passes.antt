@@ -1,7 +1,8 @@
 -- The whole pass, branch by branch (`PassTo`: `pass-none`, `pass-next`), is one level more (`passed`).
-use Rattle.std.specs.Prelude.{ℕ, suc, ◌+◌, ◌<◌, ◌≡◌, refl, ◌≢◌, Bool, false, List, get_or}
+use Rattle.std.specs.Prelude.{ℕ, suc, ◌+◌, ◌<◌, ◌≡◌, refl, ◌≢◌, Bool, false, ◌||◌, List, get_or}
 use Rattle.std.proofs.Common.{arith, add-one, not-suc-le-zero, sym, ap, ◌∙◌}
 use Rattle.base.proofs.laws.Cond.{by-eq}
+use Rattle.base.proofs.laws.Refuse.{or-false}
 use Rattle.graph.specs.Parts.{SamePart}
 use Rattle.graph.proofs.laws.Ways.{joins-lt}
 use Rattle.plan.specs.Links.{graph_of, Plan, modules_of}
@@ -52,11 +53,11 @@ module _ (p : Plan) (list : List ℕ) (h : ℕ) (hops₀ by₀ : List ℕ) where
   pass-none s = record { goes = λ v. pass-start p v list h hops₀ by₀; none-new = λ e. refl; sized = s }
 
   -- one branch more; with nothing new there was nothing new before
-  pub pass-next : (i : ℕ) (hops by hops' by' : List ℕ) (any new any' : Bool) → PassTo p list h i hops₀ by₀ hops by any → BranchDone p (get_or list i 0) h hops by hops' by' new
-      → (any' ≡ false → (new ≡ false) × (any ≡ false)) → PassTo p list h (i + 1) hops₀ by₀ hops' by' any'
-  pass-next i hops by hops' by' any new any' before b nothing = record {
+  pub pass-next : (i : ℕ) (hops by hops' by' : List ℕ) (any new : Bool) → PassTo p list h i hops₀ by₀ hops by any → BranchDone p (get_or list i 0) h hops by hops' by' new
+      → PassTo p list h (i + 1) hops₀ by₀ hops' by' (any || new)
+  pass-next i hops by hops' by' any new before b = record {
     goes = λ v q. rw (add-one i) (b.done v list i refl (before.goes v q));
-    none-new = λ e. let f = nothing e in b.none-new f.0 ∙ before.none-new f.1;
+    none-new = λ e. let f = or-false any new e in b.none-new f.1 ∙ before.none-new f.0;
     sized = b.sized;
   }
 

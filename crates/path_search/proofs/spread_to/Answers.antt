@@ -26,7 +26,7 @@ pub overflow_cast-last : goal.overflow_cast-last
 overflow_cast-last c = omega (arith, c.modules.ensures, few _ c.requires.0)
 
 pub loop-h-init : goal.loop-h-init
-loop-h-init c = (omega arith, c.begin-n.ensures.1)
+loop-h-init c = c.begin-n.ensures.1
 
 pub bounds-hops-u : goal.bounds-hops-u
 bounds-hops-u c = omega (arith, c.requires.3, few _ c.requires.0)
@@ -35,35 +35,27 @@ bounds-hops-u c = omega (arith, c.requires.3, few _ c.requires.0)
 pub returns-then-hops-u : goal.returns-then-hops-u
 returns-then-hops-u c =
     let a = c.args in
-    known-to a.plan.now a.v a.u c.loop-h.h c.loop-h.hops c.loop-h.by c.requires.3 c.loop-h.invariant.1
-    (λ part. (entry-near a.plan.now a.v (c.loop-h.invariant.1.each a.u c.requires.3) c.if-hops-u.true).near)
+    known-to a.plan.now a.v a.u c.loop-h.h c.loop-h.hops c.loop-h.by c.requires.3 c.loop-h.invariant
+    (λ part. (entry-near a.plan.now a.v (c.loop-h.invariant.each a.u c.requires.3) c.if-hops-u.true).near)
 
 pub pass-news-requires : goal.pass-news-requires
 pass-news-requires c =
-    (c.requires.0, c.begin-n.ensures.0, c.loop-h.invariant.1.sized, omega (arith, c.loop-h-test.true, c.modules.ensures, c.requires.2))
+    (c.requires.0, c.begin-n.ensures.0, c.loop-h.invariant.sized, omega (arith, c.loop-h-test.true, c.modules.ensures, c.requires.2))
 
 -- none became known
 pub returns-then-not-news : goal.returns-then-not-news
 returns-then-not-news c =
     let a = c.args in
     let p = a.plan.now in
-    let near = nobody-further p a.v (steps _ c.requires.0 _) c.loop-h.h (c.pass-news.ensures.last c.if-not-news.true a.v c.loop-h.invariant.1) in
-    known-to p a.v a.u (suc c.loop-h.h) _ _ c.requires.3 (c.pass-news.ensures.next c.args.v c.loop-h.invariant.1) (λ part. omega (arith, near a.u c.requires.3 part))
-
-pub overflow_add-h : goal.overflow_add-h
-overflow_add-h c =
-    omega (arith, c.loop-h-test.true, c.modules.ensures, few _ c.requires.0)
-
-pub loop-h-smaller : goal.loop-h-smaller
-loop-h-smaller c = omega (arith, c.loop-h-test.true)
+    let near = nobody-further p a.v (steps _ c.requires.0 _) c.loop-h.h (c.pass-news.ensures.last c.if-not-news.true a.v c.loop-h.invariant) in
+    known-to p a.v a.u (suc c.loop-h.h) _ _ c.requires.3 (c.pass-news.ensures.next c.args.v c.loop-h.invariant) (λ part. omega (arith, near a.u c.requires.3 part))
 
 pub loop-h-preserved : goal.loop-h-preserved
-loop-h-preserved c =
-    (omega (arith, c.loop-h-test.true), rw (add-one c.loop-h.h) (c.pass-news.ensures.next c.args.v c.loop-h.invariant.1))
+loop-h-preserved c = rw (add-one c.loop-h.h) (c.pass-news.ensures.next c.args.v c.loop-h.invariant)
 
 -- as far as a path may go
 pub returns : goal.returns
 returns c =
     let a = c.args in
-    known-to a.plan.now a.v a.u c.loop-h.h c.loop-h.hops c.loop-h.by c.requires.3 c.loop-h.invariant.1
+    known-to a.plan.now a.v a.u c.loop-h.h c.loop-h.hops c.loop-h.by c.requires.3 c.loop-h.invariant
     (λ part. omega (arith, (steps _ c.requires.0 _).short a.u c.requires.3 part, c.loop-h-test.false, c.modules.ensures))

@@ -20,37 +20,29 @@ steps : (p : Plan) → plan_refusal p ≡ 0 → (v : ℕ) → PathSteps p v
 steps p ok = path_steps p (accepted p ok)
 
 pub loop-h-init : goal.loop-h-init
-loop-h-init c = (omega arith, c.begin-n.ensures.1)
+loop-h-init c = c.begin-n.ensures.1
 
 pub pass-requires : goal.pass-requires
 pass-requires c =
-    (c.requires.0, c.begin-n.ensures.0, c.loop-h.invariant.1.sized, omega (arith, c.loop-h-test.true, c.requires.3))
+    (c.requires.0, c.begin-n.ensures.0, c.loop-h.invariant.sized, omega (arith, c.loop-h-test.true, c.requires.3))
 
 -- none became known
 pub returns-then-not-pass : goal.returns-then-not-pass
 returns-then-not-pass c =
     let a = c.args in
     let p = a.plan.now in
-    let near = nobody-further p a.v (steps _ c.requires.0 _) c.loop-h.h (c.pass.ensures.last c.if-not-pass.true a.v c.loop-h.invariant.1) in
-    known-within p a.v (steps _ c.requires.0 _) (few _ c.requires.0) (suc c.loop-h.h) a.most _ _ (c.pass.ensures.next c.args.v c.loop-h.invariant.1)
+    let near = nobody-further p a.v (steps _ c.requires.0 _) c.loop-h.h (c.pass.ensures.last c.if-not-pass.true a.v c.loop-h.invariant) in
+    known-within p a.v (steps _ c.requires.0 _) (few _ c.requires.0) (suc c.loop-h.h) a.most _ _ (c.pass.ensures.next c.args.v c.loop-h.invariant)
     (λ w lw d. omega (arith, near w lw d.part, c.loop-h-test.true))
     (λ w lw d part. absurd (omega (arith, near w lw part, d part)))
 
-pub overflow_add-h : goal.overflow_add-h
-overflow_add-h c =
-    omega (arith, c.loop-h-test.true, c.requires.3, few _ c.requires.0)
-
-pub loop-h-smaller : goal.loop-h-smaller
-loop-h-smaller c = omega (arith, c.loop-h-test.true)
-
 pub loop-h-preserved : goal.loop-h-preserved
-loop-h-preserved c =
-    (omega (arith, c.loop-h-test.true), rw (add-one c.loop-h.h) (c.pass.ensures.next c.args.v c.loop-h.invariant.1))
+loop-h-preserved c = rw (add-one c.loop-h.h) (c.pass.ensures.next c.args.v c.loop-h.invariant)
 
 -- as far as asked for
 pub returns : goal.returns
 returns c =
     let a = c.args in
-    known-within a.plan.now a.v (steps _ c.requires.0 _) (few _ c.requires.0) c.loop-h.h a.most c.loop-h.hops c.loop-h.by c.loop-h.invariant.1
-    (λ w lw d. omega (arith, d.near, c.loop-h.invariant.0))
+    known-within a.plan.now a.v (steps _ c.requires.0 _) (few _ c.requires.0) c.loop-h.h a.most c.loop-h.hops c.loop-h.by c.loop-h.invariant
+    (λ w lw d. omega (arith, d.near))
     (λ w lw d part. omega (arith, d part, c.loop-h-test.false))
