@@ -10,6 +10,7 @@ use lib.Seq.{get_or-set_same, get_or-set_other}
 use borrow.Author.Tests.{eq-eqb, ne_eqb}
 use Rattle.base.proofs.laws.Cond.{bit_le, by-eq}
 use Rattle.base.specs.Limits.{max_modules}
+use Rattle.plan.proofs.laws.Accepted.{Accepted}
 use Rattle.plan.specs.Links.{Plan, links_of, lower_of, higher_of}
 use Rattle.field.specs.Edges.{own_of}
 use Rattle.node.specs.Work.{Own, number, any_edge}
@@ -37,6 +38,10 @@ number-miss o k h = rw (add-one k, h) (omega arith)
 pub degrees-small : (p : Plan) (k : ℕ) (degrees : List ℕ) → Degrees p k degrees → (v : ℕ) → v < max_modules → get_or degrees v 0 ≤ k
 degrees-small p k degrees c v h =
     omega (arith, c v h, number-le (own_of p v) any_edge k)
+
+-- the two modules of a link
+pub ends : (p : Plan) → Accepted p → (k a b : ℕ) → k < links_of p → a ≡ lower_of p k → b ≡ higher_of p k → (a < b) × (b < max_modules)
+ends p o k a b l low high = let e = o.each k l in (omega arith, omega arith)
 
 -- link k from a to b
 module _ (p : Plan) (k : ℕ) (l : k < links_of p) (a b : ℕ) (low : a ≡ lower_of p k) (high : b ≡ higher_of p k) (degrees : List ℕ)

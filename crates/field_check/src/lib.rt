@@ -27,28 +27,14 @@ type Degrees = [u16; MAX_MODULES as usize];
 pub fn waiting(lent: &[u64]) -> usize
     ensures { result ≡ length (waiting_in lent.now) }
 {
-    let mut i: usize = 0;
-    while i < lent.len() {
-        if lent[i] == 0 {
-            return i;
-        }
-        i += 1;
-    }
-    i
+    lent.iter().take_while(|w| **w != 0).count()
 }
 
 // Whether all words of a part are zero.
 fn all_zero(part: &[u64]) -> bool
     ensures { result ≡ all_of (λ x. eqb x 0) part.now }
 {
-    let mut i: usize = 0;
-    while i < part.len() {
-        if part[i] != 0 {
-            return false;
-        }
-        i += 1;
-    }
-    true
+    part.iter().all(|w| *w == 0)
 }
 
 // Whether all waiting words fit.
@@ -56,61 +42,40 @@ fn words_fit(plan: &Plan, words: &[u64]) -> bool
     requires { links_of plan.now ≤ max_links }
     ensures { result ≡ all_of (word_fits plan.now) words.now }
 {
-    let mut i: usize = 0;
-    while i < words.len() {
-        if !field_items::word_fits(plan, words[i]) {
-            return false;
-        }
-        i += 1;
-    }
-    true
+    words.iter().all(|w| field_items::word_fits(plan, *w))
 }
 
 // Whether each mark is in its list.
-fn marks_fit<'a>(plan: &'a Plan, marks: &'a Marks) -> bool
+fn marks_fit(plan: &Plan, marks: &Marks) -> bool
     requires { links_of plan.now ≤ max_links }
     ensures { result ≡ every (2 * links_of plan.now) (λ d. leb (get_or marks.now d 0) REJECTED) }
 {
-    let mut d: usize = 2 * (plan::links(plan) as usize);
-    while 0 < d {
-        d -= 1;
-        if REJECTED < marks[d] {
-            return false;
-        }
-    }
-    true
+    let ends = 2 * (plan::links(plan) as usize);
+    marks[..ends].iter().all(|m| *m <= REJECTED)
 }
 
 // Counts each module's links, in one pass over them.
-fn count_links<'a>(plan: &'a Plan, degrees: &mut Degrees)
+fn count_links(plan: &Plan, degrees: &mut Degrees)
     requires { Accepted plan.now × (length degrees.old ≡ max_modules) × ((v : ℕ) → v < max_modules → get_or degrees.old v 0 ≡ 0) }
     ensures { (v : ℕ) → v < max_modules → get_or degrees.new v 0 ≡ degree (own_of plan.now v) }
 {
-    let links = plan::links(plan) as usize;
-    let mut k: usize = 0;
-    while k < links {
+    for k in 0..plan::links(plan) as usize {
         let a = plan::lower(plan, k) as usize;
         let b = plan::higher(plan, k) as usize;
         degrees[a] += 1;
         degrees[b] += 1;
-        k += 1;
     }
 }
 
 // Whether each module's values fit.
-fn nodes_fit<'a>(plan: &'a Plan, degrees: &'a Degrees, cells: &'a Cells) -> bool
+fn nodes_fit(plan: &Plan, degrees: &Degrees, cells: &Cells) -> bool
     requires { Accepted plan.now × ((v : ℕ) → v < max_modules → get_or degrees.now v 0 ≡ degree (own_of plan.now v)) }
     ensures { result ≡ every (modules_of plan.now) (λ v. node_fits plan.now v (node_in cells.now v)) }
 {
-    let mut v: u16 = plan::modules(plan);
-    while 0 < v {
-        v -= 1;
+    (0..plan::modules(plan)).all(|v| {
         let n = field_cells::load(cells, v);
-        if !field_items::node_fits(plan, degrees[v as usize], v, n) {
-            return false;
-        }
-    }
-    true
+        field_items::node_fits(plan, degrees[v as usize], v, n)
+    })
 }
 
 // All that 31 asks of the state of an accepted plan.

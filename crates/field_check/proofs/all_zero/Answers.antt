@@ -1,22 +1,8 @@
-use mathlib.Core.Path.{refl}
-use lib.Dec.{eqb}
-use borrow.Author.Tests.{eq-eqb, ne_eqb}
-use borrow.Author.Rules.{rules}
-use Rattle.field_check.proofs.Words.{all-over, all-on, all-off}
+use Rattle.std.proofs.Common.{rules, tests}
+use Rattle.std.proofs.lemmas.Iterator.{YieldsList-from_slice}
+use Rattle.std.proofs.lemmas.Iterator.Search.{all_from_yields_List}
+use Rattle.field.proofs.laws.Chains.{all_of-is}
 use Rattle.field_check.proofs.all_zero.Goals as goal
 
-pub loop-i-init : goal.loop-i-init
-loop-i-init c = (search rules, refl)
-
-pub returns-then-part-i-ne0 : goal.returns-then-part-i-ne0
-returns-then-part-i-ne0 c =
-    let e = c.before.before in
-    all-off (λ x. eqb x 0) _ _ e.loop-i-test.true e.loop-i.invariant.1 (ne_eqb _ _ c.if-part-i-ne0.true)
-
-pub loop-i-preserved : goal.loop-i-preserved
-loop-i-preserved c =
-    let e = c.before.before in
-    (search rules, all-on (λ x. eqb x 0) _ _ e.loop-i-test.true e.loop-i.invariant.1 (eq-eqb _ _ c.if-part-i-ne0.false))
-
 pub returns : goal.returns
-returns c = all-over (λ x. eqb x 0) _ _ c.loop-i.invariant.1 c.loop-i-test.false
+returns c = rw all_of-is (all_from_yields_List _ _ _ _ c.all.ensures.ran (YieldsList-from_slice c.args.part.now cc) (λ x b q k. search (rules, tests)))

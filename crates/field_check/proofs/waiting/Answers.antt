@@ -1,20 +1,14 @@
-use native.Mathlib.Omega.{arith}
-use borrow.Author.Rules.{rules}
-use Rattle.field_check.proofs.Words.{wait-over, wait-on, wait-off}
+use Rattle.std.proofs.Common.{eqb, not, rules, tests}
+use Rattle.std.proofs.lemmas.Iterator.{YieldsList-from_slice}
+use Rattle.std.proofs.lemmas.Iterator.Consumers.{count_from_yields_List}
+use Rattle.std.proofs.lemmas.Iterator.Search.{YieldsList-from_take_while}
+use Rattle.std.proofs.lemmas.List.Folds.{length-prefix_len}
+use Rattle.field_check.proofs.Words.{waiting-is}
 use Rattle.field_check.proofs.waiting.Goals as goal
 
-pub loop-i-init : goal.loop-i-init
-loop-i-init c = (search rules, omega arith)
-
-pub returns-then-lent-i-eq0 : goal.returns-then-lent-i-eq0
-returns-then-lent-i-eq0 c =
-    let e = c.before.before in
-    wait-off _ _ e.loop-i.invariant.1 e.loop-i-test.true c.if-lent-i-eq0.true
-
-pub loop-i-preserved : goal.loop-i-preserved
-loop-i-preserved c =
-    let e = c.before.before in
-    (search rules, wait-on _ _ e.loop-i.invariant.1 e.loop-i-test.true c.if-lent-i-eq0.false)
-
 pub returns : goal.returns
-returns c = wait-over _ _ c.loop-i.invariant.1 c.loop-i-test.false
+returns c =
+    let ws = c.args.lent.now in
+    rw (waiting-is ws, ← length-prefix_len (λ x. not (eqb x 0)) ws)
+    (count_from_yields_List c.take_while.result _ c.count.ensures.ran
+    (YieldsList-from_take_while _ (λ x. not (eqb x 0)) (YieldsList-from_slice ws cc) c.take_while.ensures.closure c.take_while.ensures.done (λ x b q k. search (rules, tests))))

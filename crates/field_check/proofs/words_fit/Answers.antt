@@ -1,20 +1,8 @@
-use mathlib.Core.Path.{refl, sym, ◌∙◌}
-use borrow.Author.Rules.{rules}
-use Rattle.field_check.proofs.Words.{all-over, all-on, all-off}
+use Rattle.std.proofs.Common.{rules, tests}
+use Rattle.std.proofs.lemmas.Iterator.{YieldsList-from_slice}
+use Rattle.std.proofs.lemmas.Iterator.Search.{all_from_yields_List}
+use Rattle.field.proofs.laws.Chains.{all_of-is}
 use Rattle.field_check.proofs.words_fit.Goals as goal
 
-pub loop-i-init : goal.loop-i-init
-loop-i-init c = (search rules, refl)
-
-pub returns-then-not-word_fits : goal.returns-then-not-word_fits
-returns-then-not-word_fits c =
-    let e = c.before.before.before in
-    all-off _ _ _ e.loop-i-test.true e.loop-i.invariant.1 (sym c.word_fits.ensures ∙ c.if-not-word_fits.true)
-
-pub loop-i-preserved : goal.loop-i-preserved
-loop-i-preserved c =
-    let e = c.before.before.before in
-    (search rules, all-on _ _ _ e.loop-i-test.true e.loop-i.invariant.1 (sym c.word_fits.ensures ∙ c.if-not-word_fits.false))
-
 pub returns : goal.returns
-returns c = all-over _ _ _ c.loop-i.invariant.1 c.loop-i-test.false
+returns c = rw all_of-is (all_from_yields_List _ _ _ _ c.all.ensures.ran (YieldsList-from_slice c.args.words.now cc) (λ x b q k. search (rules, tests)))
