@@ -1,3 +1,2 @@
-pub mod Run
 pub mod Marks
 pub mod Fresh

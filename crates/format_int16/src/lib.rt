@@ -4,19 +4,12 @@
 ghost use Rattle.std.specs.Prelude.{◌+◌, ◌*◌, ◌<◌, ◌≡◌, length};
 ghost use Rattle.format_int16.specs.Int16.{at16, put16};
 
-// The integer of two bytes.
-fn join(high: u8, low: u8) -> u16
-    ensures { result ≡ high * 256 + low }
-{
-    high as u16 * 256 + low as u16
-}
-
 // The integer at byte i.
 pub fn at(s: &[u8], i: usize) -> u16
     requires { i + 1 < length s.now }
     ensures { result ≡ at16 s.now i }
 {
-    join(s[i], s[i + 1])
+    u16::from_be_bytes([s[i], s[i + 1]])
 }
 
 // Writes x at byte i.
@@ -24,6 +17,5 @@ pub fn put(s: &mut [u8], i: usize, x: u16)
     requires { i + 1 < length s.old }
     ensures { s.new ≡ put16 s.old i x }
 {
-    s[i] = (x / 256) as u8;
-    s[i + 1] = (x % 256) as u8;
+    s[i..i + 2].copy_from_slice(&x.to_be_bytes());
 }
