@@ -1,12 +1,13 @@
--- store_records::used: a walk; a bytes and those of the records from there on, by `used-on` and `used-ends`.
-use Prim.Native.Nat.{◌+◌, ◌-◌, ◌≤◌}
-use mathlib.Core.Path.{◌≡◌}
-use lib.ListN.{length, drop}
+-- store_records::used: a walk; so many bytes and those of the records that are left, by `used-on` and `used-ends`.
+use Rattle.std.proofs.Common.{◌≡◌, ◌+◌, length}
 use Rattle.store.specs.Records.{records_in, joined}
 use Rattle.store_records.proofs.used.Given as goal
 
-abbrev pub invariant-loop-a : goal.invariant-loop-a
-invariant-loop-a l = (l.a ≤ length l.s) × (length (joined (records_in l.s)) ≡ l.a + length (joined (records_in (drop l.a l.s))))
+abbrev pub invariant-loop-record : goal.invariant-loop-record
+invariant-loop-record l = record {
+  bytes : l.size + length l.rest ≡ length l.s;
+  counted : length (joined (records_in l.s)) ≡ l.size + length (joined (records_in l.rest));
+}
 
-abbrev pub decreases-loop-a : goal.decreases-loop-a
-decreases-loop-a l = length l.s - l.a
+abbrev pub decreases-loop-record : goal.decreases-loop-record
+decreases-loop-record l = length l.rest
