@@ -7,7 +7,7 @@ use mathlib.Core.Logic.{◌≢◌}
 use mathlib.Core.Bool.{Bool, true, false, cond, not, ◌&&◌, and-eq-true_iff}
 use mathlib.Core.List.{List}
 use lib.ListN.{length, take, drop}
-use borrow.Author.Tests.{eq-eqb, ne_eqb, not-false}
+use borrow.Author.Tests.{ne_eqb, not-false}
 use Rattle.base.proofs.laws.Cond.{eqb-cases}
 use Rattle.base.proofs.laws.Refuse.{or_else-zero}
 use Rattle.store.specs.declared.FoundPoint.{FoundPoint}
@@ -34,14 +34,14 @@ module _ (name s : List ℕ) where
     unfolding find_refusal
     find-77 g = missing 77 (λ z. omega arith) (rw (f, g))
 
-    module _ (g : name_fits name ≡ true) (p : Spot) (e : p ≡ spot_of name s) where
-      pub find_none : p.size ≡ 0 → record { refusal = 77; at = 0; size = 0 } ≡ find_point name s
+    module _ (g : name_fits name ≡ true) where
+      pub find_none : holds name s ≡ false → record { refusal = 77; at = 0; size = 0 } ≡ find_point name s
       unfolding find_refusal
-      find_none z = missing 77 (λ y. omega arith) (rw (f, g, eq-eqb (spot_of name s).size 0 (ap (λ (q : Spot). q.size) (sym e) ∙ z)))
+      find_none h = missing 77 (λ y. omega arith) (rw (f, g, h))
 
-      pub find-done : p.size ≢ 0 → record { refusal = 0; at = p.at; size = p.size } ≡ find_point name s
+      pub find-done : (p : Spot) → (holds name s ≡ true) × (p ≡ spot_of name s) → record { refusal = 0; at = p.at; size = p.size } ≡ find_point name s
       unfolding find_refusal find_point
-      find-done n = rw e (sym (rw (f, g, ne_eqb (spot_of name s).size 0 (λ z. n (ap (λ (q : Spot). q.size) e ∙ z))) refl))
+      find-done p h = rw h.1 (sym (rw (f, g, h.0) refl))
 
   find-inside : (find_point name s).at + (find_point name s).size ≤ length s
   unfolding find_point

@@ -45,7 +45,11 @@ fn replace<'a>(
 fn kept(store: &[u8], name: &[u8]) -> usize
     ensures { result ≡ length (joined (without_first (is_named name.now) (records_in store.now))) }
 {
-    store_records::used(store) - store_records::place_of(store, name).size
+    let all = store_records::used(store);
+    match store_records::place_of(store, name) {
+        Some(p) => all - p.size,
+        None => all,
+    }
 }
 
 // A field in lent arrays is saved under a name: 31, 76, 77, 78, or 0.
@@ -110,11 +114,10 @@ pub fn find_at(store: &[u8], name: &[u8]) -> FoundPoint
     if !store_records::name_fits(name) {
         return told(77, 0, 0);
     }
-    let p = store_records::place_of(store, name);
-    if p.size == 0 {
-        return told(77, 0, 0);
+    match store_records::place_of(store, name) {
+        Some(p) => told(0, p.at, p.size),
+        None => told(77, 0, 0),
     }
-    told(0, p.at, p.size)
 }
 
 // "shows its record as a part of the lent store, without copying it": `refusal` gets 76, 77 or 0; beside a refusal the part is empty.

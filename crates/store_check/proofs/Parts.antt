@@ -1,12 +1,12 @@
--- The parts of a record by the outcomes of their tests: the body (`body-none`, `body-there`), the plan's bytes (`size-`, `plan-there`), what is behind
--- them (`behind-there`), and of that the numbers and the words (`numbers-`, `field-there`, `words-behind`).
+-- The parts of a record: the plan's bytes (`size-inside`, `plan-there`), what is behind them (`behind-there`), and of that the numbers and the words
+-- (`numbers-`, `field-there`, `words-behind`).
 use Prim.Native.Nat.{ℕ, ◌+◌, ◌-◌, ◌*◌, ◌/◌, ◌≤◌}
 use native.Mathlib.Omega.{arith}
 use mathlib.Core.Path.{◌≡◌, sym, ap, ap₂, subst, ◌∙◌}
 use mathlib.Core.Bool.{true}
 use mathlib.Core.List.{List}
-use lib.ListN.{length, get_or, take, drop, length-take, drop_of_length-le, take-append-drop}
-use lib.Seq.{take_all, take-nil, drop-length, length-take-le, take-append_seam}
+use lib.ListN.{length, take, drop, length-take, take-append-drop}
+use lib.Seq.{length-take-le, take-append_seam}
 use Rattle.base.specs.Limits.{max_words}
 use Rattle.base.proofs.laws.Ceiling.{ceiling-most}
 use Rattle.base.proofs.laws.Table.{length-tabulate}
@@ -23,23 +23,8 @@ use Rattle.store_laws.proofs.ReadBack.{record-ok}
 use Rattle.store_records.proofs.Bytes.{tail_all}
 use Rattle.store_check.specs.Seen.{plan_size_in, PlanRead, NumbersThere}
 
-module _ (r : List ℕ) where
-  pub body-none : length r ≤ 6 + get_or r 5 0 → take (length r - length r) (drop (length r) r) ≡ body_in r
-  unfolding body_in
-  body-none l = rw (drop-length r, drop_of_length-le r {i = 6 + get_or r 5 0} l) (take-nil (length r - length r))
-
-  pub body-there : (n : ℕ) → n ≡ get_or r 5 0 → take (length r - (6 + n)) (drop (6 + n) r) ≡ body_in r
-  unfolding body_in
-  body-there n e = tail_all r (6 + n) ∙ ap (λ k. drop (6 + k) r) e
-
 -- how many bytes of a body are the plan's
 module _ (s : List ℕ) where
-  pub size-all : length s ≤ 3 + at16 s 1 → length s ≡ plan_size_in s
-  size-all l = sym (ap length (take_all (3 + at16 s 1) s l))
-
-  pub size-part : (x : ℕ) → x ≡ at16 s 1 → 3 + x ≤ length s → 3 + x ≡ plan_size_in s
-  size-part x e l = ap (λ k. 3 + k) e ∙ sym (length-take-le (3 + at16 s 1) s (omega arith))
-
   pub size-inside : (n : ℕ) → n ≡ plan_size_in s → n ≤ length s
   size-inside n e = omega (arith, length-take (3 + at16 s 1) s)
 

@@ -25,16 +25,13 @@ use plan::{NUMBERS, Plan};
 fn body_in<'a>(r: &'a [u8]) -> &'a [u8]
     ensures { result.now ≡ body_in r.now }
 {
-    let len = r.len();
-    if len < 6 {
-        return &r[len..];
+    if r.len() < 6 {
+        return &[];
     }
-    let n = r[5] as usize;
-    if len - 6 < n {
-        return &r[len..];
+    match r.get(6 + r[5] as usize..) {
+        Some(body) => body,
+        None => &[],
     }
-    let a = 6 + n;
-    &r[a..]
 }
 
 // How many bytes of a record's body are its plan's.
@@ -46,10 +43,7 @@ fn plan_size(body: &[u8]) -> usize
         return len;
     }
     let n = 3 + format_int16::at(body, 1) as usize;
-    if len < n {
-        return len;
-    }
-    n
+    n.min(len)
 }
 
 // The plan's bytes.
@@ -203,26 +197,19 @@ pub fn record_fits(r: &[u8]) -> bool
 fn fits_before<'a>(r: &'a [u8], rest: &'a [u8]) -> bool
     ensures { result ≡ (record_fits r.now && not (holds (name_in r.now) rest.now)) }
 {
-    if !record_fits(r) {
-        return false;
-    }
-    store_records::place_of(rest, store_records::name_in(r)).size == 0
+    record_fits(r) && store_records::place_of(rest, store_records::name_in(r)).is_none()
 }
 
 // Whether a store passes: each record, no name held twice, zeros after the last.
 pub fn store_fits(s: &[u8]) -> bool
     ensures { result ≡ store_fits s.now }
 {
-    let mut a: usize = 0;
-    loop {
-        let n = store_records::front(&s[a..]);
-        if n == 0 {
-            return store_records::zeros(&s[a..]);
-        }
-        let e = a + n;
-        if !fits_before(&s[a..e], &s[e..]) {
+    let mut rest = s;
+    while let Some((record, behind)) = store_records::split_record(rest) {
+        if !fits_before(record, behind) {
             return false;
         }
-        a = e;
+        rest = behind;
     }
+    store_records::zeros(rest)
 }

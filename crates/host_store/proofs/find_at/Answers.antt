@@ -10,10 +10,10 @@ pub returns-then-not-name_fits : goal.returns-then-not-name_fits
 returns-then-not-name_fits c =
     c.told-then-not-name_fits.ensures ∙ find-77 _ _ (sym c.store_fits.ensures ∙ c.if-not-store_fits.false) (sym c.name_fits.ensures ∙ c.if-not-name_fits.true)
 
-pub returns-then-p-eq0 : goal.returns-then-p-eq0
-returns-then-p-eq0 c =
-    c.told-then-p-eq0.ensures ∙ find_none _ _ (sym c.store_fits.ensures ∙ c.if-not-store_fits.false) (sym c.name_fits.ensures ∙ c.if-not-name_fits.false) _ c.place_of-p.ensures c.if-p-eq0.true
+pub returns-in-Some : goal.returns-in-Some
+returns-in-Some c =
+    c.told-in-Some.ensures ∙ find-done _ _ (sym c.store_fits.ensures ∙ c.if-not-store_fits.false) (sym c.name_fits.ensures ∙ c.if-not-name_fits.false) _ c.in-Some.ensures
 
-pub returns : goal.returns
-returns c =
-    c.told-2.ensures ∙ find-done _ _ (sym c.store_fits.ensures ∙ c.if-not-store_fits.false) (sym c.name_fits.ensures ∙ c.if-not-name_fits.false) _ c.place_of-p.ensures c.if-p-eq0.false
+pub returns-in-None : goal.returns-in-None
+returns-in-None c =
+    c.told-in-None.ensures ∙ find_none _ _ (sym c.store_fits.ensures ∙ c.if-not-store_fits.false) (sym c.name_fits.ensures ∙ c.if-not-name_fits.false) c.in-None.ensures

@@ -1,12 +1,10 @@
--- store_check::store_fits: a walk; the store fits if what is left from byte a on does, by `fit_on`, `fit-stops` and `fit-ends`.
-use Prim.Native.Nat.{◌-◌, ◌≤◌}
-use mathlib.Core.Path.{◌≡◌}
-use lib.ListN.{length, drop}
+-- store_check::store_fits: a walk; the store fits if what is left of it does, by `fit_on`, `fit-stops` and `fit-ends`.
+use Rattle.std.proofs.Common.{◌≡◌, length}
 use Rattle.store.specs.Calls.{store_fits}
 use Rattle.store_check.proofs.store_fits.Given as goal
 
-abbrev pub invariant-loop-a : goal.invariant-loop-a
-invariant-loop-a l = (l.a ≤ length l.s) × (store_fits l.s ≡ store_fits (drop l.a l.s))
+abbrev pub invariant-loop-record : goal.invariant-loop-record
+invariant-loop-record l = store_fits l.s ≡ store_fits l.rest
 
-abbrev pub decreases-loop-a : goal.decreases-loop-a
-decreases-loop-a l = length l.s - l.a
+abbrev pub decreases-loop-record : goal.decreases-loop-record
+decreases-loop-record l = length l.rest
