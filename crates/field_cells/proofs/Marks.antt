@@ -5,22 +5,20 @@ use mathlib.Core.Path.{◌≡◌, refl, sym, ap, subst, ◌∙◌}
 use mathlib.Core.Logic.{◌≢◌}
 use mathlib.Core.Bool.{true, false, cond, ◌&&◌, true≢false}
 use mathlib.Core.List.{List}
+use Rattle.std.specs.Prelude.{Option, Some, None}
 use lib.ListN.{length, get_or, set, length-set}
 use lib.Seq.{ext_get_or, get_or-set_same, get_or-set_other}
 use lib.Dec.{eqb}
-use borrow.Author.Tests.{ne_eqb}
 use Rattle.base.specs.Cond.{upd}
 use Rattle.base.proofs.laws.Cond.{bool_cases, upd_same, upd_other, by-eq, ltb-cases, eqb-cases}
-use Rattle.base.specs.None.{none}
 use Rattle.node_edges.specs.declared.NewMark.{NewMark}
 use Rattle.node_edges.specs.Own.{marked}
-use Rattle.node_edges.proofs.laws.Own.{marked_other}
 use Rattle.field.specs.Edges.{is_own, from, link_of, end_of, marks_in}
 use Rattle.field.specs.State.{new_mark, put_marks}
 use Rattle.plan.proofs.laws.Accepted.{Accepted}
 use Rattle.plan.specs.Links.{Plan, links_of}
 use Rattle.field.proofs.laws.Edges.{mark-own}
-use Rattle.field_laws.proofs.Places.{put_marks-at, length-new, over-from, from-own, link-over, over_below, from-over, own-link-below}
+use Rattle.field_laws.proofs.Places.{put_marks-at, length-new, over-from, from-own, link-over, over_below, from-over}
 use Rattle.field_cells.specs.Marks.{mark_put}
 
 -- the mark of directed end d, in both cases
@@ -30,16 +28,12 @@ new-cases p v m d x r y n = ltb-cases d (2 * links_of p) (λ b. r ≡ cond (b &&
     (λ l. eqb-cases (from p d) v (λ b. r ≡ cond b (m (link_of d)) x) (λ e. y l e) (λ f. n (λ k e. f e)))
     (λ g. n (λ l e. omega arith))
 
-marked-at : (m : ℕ → ℕ) (c : NewMark) → c.edge ≢ none → marked m c ≡ upd m c.edge c.mark
-unfolding marked
-marked-at m c n = rw (ne_eqb c.edge none n)
-
 module _ (p : Plan) (marks : List ℕ) (v : ℕ) (c : NewMark) where
-  put-own : is_own p v c.edge ≡ true → mark_put p marks v c ≡ set marks (end_of p v c.edge) c.mark
+  put-own : is_own p v c.edge ≡ true → mark_put p marks v (Some c) ≡ set marks (end_of p v c.edge) c.mark
   unfolding mark_put
   put-own o = rw o
 
-  put_other : is_own p v c.edge ≡ false → mark_put p marks v c ≡ marks
+  put_other : is_own p v c.edge ≡ false → mark_put p marks v (Some c) ≡ marks
   unfolding mark_put
   put_other o = rw o
 
@@ -68,11 +62,15 @@ module _ (p : Plan) (a : Accepted p) (marks : List ℕ) (v : ℕ) where
     pub one-mark : set marks (end_of p v k) c ≡ put_marks p marks v (upd (marks_in p marks v) k c)
     one-mark = agree (upd (marks_in p marks v) k c) (set marks (end_of p v k) c) (length-set marks (end_of p v k) c) (λ d b. by-eq d (end_of p v k) (here d) (there d))
 
+  -- marks that are not written
+  unwritten : (m : ℕ → ℕ) → ((d : ℕ) → d < 2 * links_of p → from p d ≡ v → marks_in p marks v (link_of d) ≡ m (link_of d)) → marks ≡ put_marks p marks v m
+  unwritten m e = agree m marks refl (λ d b. new-cases p v m d (get_or marks d 0) (get_or marks d 0) (λ l f. own_is d l f ∙ e d l f) (λ f. refl))
+
   -- what the code writes
-  pub mark-put : 2 * links_of p ≤ length marks → (c : NewMark) → mark_put p marks v c ≡ put_marks p marks v (marked (marks_in p marks v) c)
-  mark-put sized c = bool_cases (is_own p v c.edge)
-      (λ o. put-own p marks v c o ∙ one-mark sized c.edge o c.mark ∙ ap (put_marks p marks v) (sym (marked-at (marks_in p marks v) c (λ e. omega (arith, own-link-below p v c.edge o, a.links_ok)))))
-      (λ o. put_other p marks v c o ∙ agree (marked (marks_in p marks v) c) marks refl (λ d b. new-cases p v (marked (marks_in p marks v) c) d (get_or marks d 0) (get_or marks d 0)
-      (λ l f. own_is d l f ∙ sym (marked_other (marks_in p marks v) c (link_of d)
-      (λ q. true≢false (sym (subst (λ u. is_own p u (link_of d) ≡ true) f (from-own p a d l)) ∙ ap (is_own p v) (sym q) ∙ o))))
-      (λ f. refl)))
+  pub mark-put : 2 * links_of p ≤ length marks → (c : Option NewMark) → mark_put p marks v c ≡ put_marks p marks v (marked (marks_in p marks v) c)
+  unfolding mark_put
+  mark-put sized None = unwritten (marks_in p marks v) (λ d l f. refl)
+  mark-put sized (Some c) = bool_cases (is_own p v c.edge)
+      (λ o. put-own p marks v c o ∙ one-mark sized c.edge o c.mark)
+      (λ o. put_other p marks v c o ∙ unwritten (upd (marks_in p marks v) c.edge c.mark) (λ d l f. sym (upd_other (marks_in p marks v) c.edge c.mark (link_of d)
+      (λ q. true≢false (sym (subst (λ u. is_own p u (link_of d) ≡ true) f (from-own p a d l)) ∙ ap (is_own p v) (sym q) ∙ o)))))

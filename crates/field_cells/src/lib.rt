@@ -77,17 +77,16 @@ pub fn lay_cells(cells: &mut Cells)
     }
 }
 
-// The change c of one of module v's marks, if it is of a link of v.
-pub fn put_mark(plan: &Plan, marks: &mut Marks, v: u16, c: NewMark)
+// A change of one of module v's marks, if there is one and it is of a link of v.
+#[tactic(auto, unfolding(crate::specs::Marks::mark_put, field::specs::Edges::is_own, field::specs::Edges::end_of))]
+pub fn put_mark(plan: &Plan, marks: &mut Marks, v: u16, change: Option<NewMark>)
     requires { links_of plan.now ≤ max_links }
-    ensures { marks.new ≡ mark_put plan.now marks.old v c }
+    ensures { marks.new ≡ mark_put plan.now marks.old v change }
 {
-    if plan::links(plan) <= c.edge {
-        return;
+    if let Some(c) = change
+        && node_edges::owns(plan, v, c.edge)
+    {
+        let i = node_edges::end_at(plan, v, c.edge) as usize;
+        marks[i] = c.mark;
     }
-    if !node_edges::owns(plan, v, c.edge) {
-        return;
-    }
-    let i = node_edges::end_at(plan, v, c.edge) as usize;
-    marks[i] = c.mark;
 }

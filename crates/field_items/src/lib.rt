@@ -35,13 +35,7 @@ fn own_or_none<'a>(plan: &'a Plan, v: u16, x: u16) -> bool
     requires { links_of plan.now ≤ max_links }
     ensures { result ≡ own_or_none plan.now v x }
 {
-    if x == NONE {
-        return true;
-    }
-    if plan::links(plan) <= x {
-        return false;
-    }
-    node_edges::owns(plan, v, x)
+    x == NONE || node_edges::owns(plan, v, x)
 }
 
 // Whether each value of a module is in its list.

@@ -1,20 +1,15 @@
--- The copies of a message, link by link (`copies-on`, `each-short`).
+-- The copies of a message, link by link (`each_on`, `each-off`, `each-short`).
 use Prim.Native.Nat.{ℕ, zero, suc, ◌+◌, ◌≤◌}
 use native.Mathlib.Omega.{arith}
 use native.Mathlib.Numerals.{add-one}
-use mathlib.Core.Path.{◌≡◌, sym}
-use mathlib.Core.Bool.{Bool, true, false, cond, ◌&&◌}
-use mathlib.Core.List.{[], ◌∷◌, ◌++◌, map-append, append-nil}
+use mathlib.Core.Path.{◌≡◌}
+use mathlib.Core.Bool.{Bool, true, false, ◌&&◌}
+use mathlib.Core.List.{[], ◌∷◌, ◌++◌, append-nil}
 use lib.ListN.{length}
-use Rattle.base.proofs.laws.Cond.{bool_cases, by-eq}
+use Rattle.base.proofs.laws.Cond.{by-eq}
 use Rattle.format_message.specs.Msg.{Msg}
-use Rattle.format_message.specs.Header.{header_of, carried_of}
-use Rattle.format_word.specs.Word.{packed}
-use Rattle.plan.specs.Links.{Plan}
-use Rattle.field.specs.Edges.{end_of}
 use Rattle.node.specs.Work.{Own, on_each, number}
 use Rattle.node.proofs.laws.Count.{each_number}
-use Rattle.field.specs.State.{word_of, posted}
 
 zero_of : (k : ℕ) → k ≤ 0 → k ≡ 0
 zero_of k h = omega arith
@@ -36,10 +31,3 @@ module _ (o : Own) (f : ℕ → Bool) (m : Msg) where
 
   pub each-short : (k n : ℕ) → k ≤ n → length (on_each o f m k) ≤ length (on_each o f m n)
   each-short k n h = omega (arith, each_number o f m k, each_number o f m n, mono k n h)
-
-  -- the words of the copies, with link k's where it gets one
-  pub copies-on : (p : Plan) (v k header carried : ℕ) → header_of m ≡ header → carried_of m ≡ carried
-      → posted p v (on_each o f m k) ++ cond (o.own k && f k) (packed header carried (end_of p v k) 0 ∷ []) [] ≡ posted p v (on_each o f m (k + 1))
-  copies-on p v k header carried e d = bool_cases (o.own k && f k)
-      (λ h. rw (h, ← e, ← d, each_on k h) (sym (map-append (word_of p v) (on_each o f m k) (record { edge = k; msg = m } ∷ []))))
-      (λ h. rw (h, each-off k h) (append-nil (posted p v (on_each o f m k))))

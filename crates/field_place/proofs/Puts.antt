@@ -2,11 +2,9 @@
 use Prim.Native.Nat.{ℕ, ◌+◌, ◌-◌, ◌≤◌}
 use native.Mathlib.Omega.{arith}
 use mathlib.Core.Path.{◌≡◌, sym, ap, subst, ◌∙◌}
-use mathlib.Core.Logic.{◌≢◌}
-use mathlib.Core.List.{List, [], ◌++◌, map-append}
+use mathlib.Core.List.{List, ◌++◌, map-append}
 use lib.ListN.{length, take, replicate, length-append}
 use lib.Seq.{length-take-le, sets-eq}
-use borrow.Author.Tests.{eq-eqb, ne_eqb}
 use Rattle.plan.specs.Links.{Plan, links_of}
 use Rattle.node.specs.Work.{Send}
 use Rattle.node_response.specs.declared.Response.{Response}
@@ -18,14 +16,6 @@ use Rattle.field_words.specs.Laid.{Laid}
 use Rattle.field_words.proofs.Laid.{zeros-from, laid}
 use Rattle.field_place.specs.Posted.{Posted, Put, copies_to, sends_by}
 use Rattle.field_place.proofs.Words.{posted-length, posted-then}
-
-pub copies-told : (c : ℕ) (cs : List Send) → c ≡ 1 → copies_of c cs ≡ cs
-unfolding copies_of
-copies-told c cs e = simp (eq-eqb _ _ e)
-
-pub copies-none : (c : ℕ) (cs : List Send) → c ≢ 1 → copies_of c cs ≡ []
-unfolding copies_of
-copies-none c cs n = simp (ne_eqb _ _ n)
 
 module _ (p : Plan) (v : ℕ) where
   pub put-many : {l : List Send} {lent after : List ℕ} {n r : ℕ} → Put p v l lent n after r → r ≡ n + length l
@@ -52,30 +42,10 @@ module _ (p : Plan) (v : ℕ) where
         words = record { is = e; many = d.many };
       }
 
--- The three lots of a response: s its copies, then f and g.
-module _ (p : Plan) (marks : List ℕ) (v x : ℕ) (a : Response) (lent : List ℕ) (n : ℕ) (room : n + length (sends_by p marks v x a) ≤ length lent) where
-  abbrev s : List Send
-  s = copies_of a.copies (copies_to p marks v x (links_of p))
-
-  abbrev f : List Send
-  f = packet_sends a.first
-
-  abbrev g : List Send
-  g = packet_sends a.second
-
-  total : length (s ++ (f ++ g)) ≡ length s + (length f + length g)
-  total = length-append s (f ++ g) ∙ ap (λ k. length s + k) (length-append f g)
-
-  pub lots-first : n + length s ≤ length lent
-  lots-first = omega (arith, room, total)
-
-  module _ (mid : List ℕ) (m : ℕ) (d : Posted lent mid n m (posted p v s)) where
-    pub lots-second : m + length f ≤ length mid
-    lots-second = omega (arith, room, total, d.many, length-posted p v s, posted-length d)
-
-    module _ (next : List ℕ) (k : ℕ) (q : Posted mid next m k (posted p v f)) where
-      pub lots-third : k + length g ≤ length next
-      lots-third = omega (arith, room, total, d.many, q.many, length-posted p v s, length-posted p v f, posted-length d, posted-length q)
-
-      pub lots : (after : List ℕ) (r : ℕ) → Posted next after k r (posted p v g) → Posted lent after n r (posted p v (sends_by p marks v x a))
-      lots after r z = posted-both p v s (f ++ g) d (posted-both p v f g q z)
+-- The three lots of a response: its copies, then its first message and its second.
+module _ (p : Plan) (marks : List ℕ) (v x : ℕ) (a : Response) {lent mid next after : List ℕ} {n m k r : ℕ} where
+  pub lots : Posted lent mid n m (posted p v (copies_of a.copies (copies_to p marks v x (links_of p)))) → Posted mid next m k (posted p v (packet_sends a.first))
+      → Posted next after k r (posted p v (packet_sends a.second)) → Posted lent after n r (posted p v (sends_by p marks v x a))
+  lots d q z =
+      posted-both p v (copies_of a.copies (copies_to p marks v x (links_of p))) (packet_sends a.first ++ packet_sends a.second) d
+      (posted-both p v (packet_sends a.first) (packet_sends a.second) q z)

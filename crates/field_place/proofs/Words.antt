@@ -3,7 +3,6 @@ use Prim.Native.Nat.{ℕ, ◌+◌}
 use native.Mathlib.Nat.{add-zero}
 use native.Mathlib.Omega.{arith}
 use mathlib.Core.Path.{◌≡◌, refl, sym, ap, ap₂, ◌∙◌}
-use mathlib.Core.Bool.{Bool, true, false, cond}
 use mathlib.Core.List.{List, [], ◌∷◌, ◌++◌}
 use lib.ListN.{length, set, length-append}
 use lib.Seq.{sets, length-sets}
@@ -24,10 +23,3 @@ posted-then {lent} {n = n} {ws = ws} {us = us} d f = record {
   is = f.is ∙ ap₂ (λ (l : List ℕ) (i : ℕ). sets l i us) d.is d.many ∙ sets-append lent n ws us;
   many = omega (arith, f.many, d.many, length-append ws us);
 }
-
--- a word that is written where a test says so
-pub posted-if : (b : Bool) (before after : List ℕ) (n r w : ℕ) → b ≡ true → Posted before after n r (w ∷ []) → Posted before after n r (cond b (w ∷ []) [])
-posted-if b before after n r w e d = rw e d
-
-pub posted-not : (b : Bool) (before after : List ℕ) (n r w : ℕ) → b ≡ false → Posted before after n r [] → Posted before after n r (cond b (w ∷ []) [])
-posted-not b before after n r w e d = rw e d

@@ -1,15 +1,15 @@
 -- What a response leaves in the lent words.
-use Rattle.std.specs.Prelude.{ℕ, ◌+◌, ◌<◌, ◌≡◌, ◌⊎◌, Bool, ◌&&◌, List, ◌++◌, length, take}
+use Rattle.std.specs.Prelude.{ℕ, ◌+◌, ◌<◌, ◌≡◌, Bool, ◌&&◌, List, ◌++◌, length, take}
 use Rattle.std.proofs.lemmas.List.Edits.{sets}
-use Rattle.base.specs.None.{none}
 use Rattle.base.specs.Limits.{max_links}
 use Rattle.format_message.specs.Listed.{Listed}
+use Rattle.format_message.specs.NodeMessage.{as_msg}
 use Rattle.format_word.specs.Word.{link_in}
 use Rattle.plan.specs.Links.{Plan, links_of}
 use Rattle.node.specs.Work.{Send, on_each, branches}
 use Rattle.node_response.specs.declared.Packet.{Packet}
 use Rattle.node_response.specs.declared.Response.{Response}
-use Rattle.node_response.specs.Response.{packet_for, packet_msg, packet_sends, copies_of}
+use Rattle.node_response.specs.Response.{packet_sends, copies_of}
 use Rattle.field.specs.Edges.{is_own, own_of, marks_in, link_of}
 use Rattle.field.specs.State.{msg_in, posted}
 use Rattle.field.specs.Held.{layout}
@@ -46,7 +46,7 @@ pub record Put (p : Plan) (v : ℕ) (sends : List Send) (before : List ℕ) (n :
   pub laid : Laid after r
   pub words : AtEnd before after n r (posted p v sends)
 
--- no message, or a listed one on a link
+-- a listed message on a link
 pub record PacketOk (x : Packet) : Type 0 where
-  pub formed : packet_for x.edge (packet_msg x) ≡ x
-  pub sends : (x.edge ≡ none) ⊎ ((x.edge < max_links) × Listed (packet_msg x))
+  pub edge : x.edge < max_links
+  pub listed : Listed (as_msg x.message)

@@ -2,35 +2,33 @@
 // any other words too.
 #![tactic(auto)]
 
-ghost use Rattle.std.specs.Prelude.{◌+◌, ◌<◌, ◌≤◌, ◌≡◌, true, cond, [], ◌∷◌, length};
+ghost use Rattle.std.specs.Prelude.{◌+◌, ◌<◌, ◌≤◌, ◌≡◌, length, IfSome};
 ghost use Rattle.base.specs.Limits.{max_modules, max_links};
 ghost use Rattle.format_message.proofs.laws.Means.{Means};
-ghost use Rattle.format_word.specs.Word.{packed, header_in, carried_in, link_in};
+ghost use Rattle.format_word.specs.Word.{header_in, carried_in, link_in};
 ghost use Rattle.plan.specs.Links.{links_of};
-ghost use Rattle.node_response.specs.Response.{packet_sends, copies_of};
-ghost use Rattle.field.specs.Edges.{end_of, link_of};
+ghost use Rattle.node_response.specs.Response.{packet_sends};
+ghost use Rattle.field.specs.Edges.{link_of};
 ghost use Rattle.field.specs.State.{msg_in, posted, put_node};
 ghost use Rattle.field_words.specs.Laid.{Laid};
 ghost use Rattle.field_cells.specs.Marks.{mark_put};
-ghost use Rattle.field_place.specs.Posted.{copied_at, copies_to, sends_by, Posted, Put, PacketOk};
+ghost use Rattle.field_place.specs.Posted.{copies_to, sends_by, Posted, Put, PacketOk};
 
-use base::NONE;
 use field::{Cells, Marks};
-use node::BRANCH;
+use node_edges::Edges;
 use node_response::{Packet, Response};
 use plan::Plan;
 
-// One message of module v, if there is one, is written at place n; the answer is the place behind it.
-fn post(plan: &Plan, lent: &mut [u64], n: usize, v: u16, x: Packet) -> usize
-    requires { PacketOk x × (n + length (packet_sends x) ≤ length lent.old) }
-    ensures { Posted lent.old lent.new n result (posted plan.now v (packet_sends x)) }
+// A message of a node, if there is one, is written at place n; the answer is the place behind it.
+fn post(edges: Edges, lent: &mut [u64], n: usize, x: Option<Packet>) -> usize
+    requires ok { IfSome x PacketOk }
+    requires room { n + length (packet_sends x) ≤ length lent.old }
+    ensures { Posted lent.old lent.new n result (posted edges.entry.plan.now edges.entry.v (packet_sends x)) }
 {
-    if x.edge == NONE {
+    let Some(Packet { edge, message }) = x else {
         return n;
-    }
-    let h = format_message::header(x.kind, x.level, x.find);
-    let w = format_word::pack(h, x.carried, node_edges::end_at(plan, v, x.edge));
-    lent[n] = w;
+    };
+    lent[n] = format_word::pack(message.header(), message.carried(), edges.end(edge));
     n + 1
 }
 
@@ -41,151 +39,64 @@ pub fn link_of(x: u64) -> u16
     format_word::link(x) / 2
 }
 
-// Whether link k gets a copy of the message that module v had as word x: another branch of v.
-fn is_copied<'a>(plan: &'a Plan, marks: &'a Marks, v: u16, x: u64, k: u16) -> bool
-    requires { (links_of plan.now ≤ max_links) × (k < links_of plan.now) }
-    ensures { result ≡ copied_at plan.now marks.now v x k }
-{
-    if !node_edges::owns(plan, v, k) {
-        return false;
-    }
-    if k == link_of(x) {
-        return false;
-    }
-    node_edges::mark_at(plan, marks, v, k) == BRANCH
-}
-
-// Word x once more, as module v sends it over link k.
-fn copy_of(plan: &Plan, v: u16, x: u64, k: u16) -> u64
-    requires { k < max_links }
-    ensures { result ≡ packed (header_in x) (carried_in x) (end_of plan.now v k) 0 }
-{
-    format_word::pack(
-        format_word::header(x),
-        format_word::carried(x),
-        node_edges::end_at(plan, v, k),
-    )
-}
-
-// The copy for link k, if it gets one, is written at place m; the answer is the place behind it.
-fn copy_to<'a>(
-    plan: &'a Plan,
-    marks: &'a Marks,
-    lent: &mut [u64],
-    m: usize,
-    v: u16,
-    x: u64,
-    k: u16,
-) -> usize
-    requires { (links_of plan.now ≤ max_links) × (k < links_of plan.now)
-        × (copied_at plan.now marks.now v x k ≡ true → m < length lent.old) }
-    ensures { Posted lent.old lent.new m result
-        (cond (copied_at plan.now marks.now v x k) (packed (header_in x) (carried_in x) (end_of plan.now v k) 0 ∷ []) []) }
-{
-    if is_copied(plan, marks, v, x, k) {
-        lent[m] = copy_of(plan, v, x, k);
-        return m + 1;
-    }
-    m
-}
-
 // The copies of word x from place n on, by rising link number.
-fn post_copies<'a>(
-    plan: &'a Plan,
-    marks: &'a Marks,
-    lent: &mut [u64],
-    n: usize,
-    v: u16,
-    x: u64,
-) -> usize
-    requires { (links_of plan.now ≤ max_links) × Means (header_in x) (carried_in x) (msg_in x)
-        × (n + length (copies_to plan.now marks.now v x (links_of plan.now)) ≤ length lent.old) }
+#[tactic(auto, using(crate::proofs::Turns::copying_room))]
+fn post_copies(edges: Edges, lent: &mut [u64], n: usize, x: u64) -> usize
+    requires says { Means (header_in x) (carried_in x) (msg_in x) }
+    requires room { n + length (copies_to edges.plan.now edges.marks.now edges.v x (links_of edges.plan.now)) ≤ length lent.old }
     ensures { Posted lent.old lent.new n result
-        (posted plan.now v (copies_to plan.now marks.now v x (links_of plan.now))) }
+        (posted edges.entry.plan.now edges.entry.v
+        (copies_to edges.entry.plan.now edges.entry.marks.now edges.entry.v x (links_of edges.entry.plan.now))) }
 {
-    let links = plan::links(plan);
     let mut m = n;
-    let mut k: u16 = 0;
-    while k < links {
-        m = copy_to(plan, marks, lent, m, v, x, k);
-        k += 1;
+    for k in 0..plan::links(edges.plan) {
+        if edges.is_other_branch(link_of(x), k) {
+            lent[m] = format_word::pack(
+                format_word::header(x),
+                format_word::carried(x),
+                edges.end(k),
+            );
+            m += 1;
+        }
     }
     m
-}
-
-// The copies, where the response tells so.
-fn post_told<'a>(
-    plan: &'a Plan,
-    marks: &'a Marks,
-    lent: &mut [u64],
-    n: usize,
-    v: u16,
-    x: u64,
-    copies: u8,
-) -> usize
-    requires { (links_of plan.now ≤ max_links) × Means (header_in x) (carried_in x) (msg_in x)
-        × (n + length (copies_of copies (copies_to plan.now marks.now v x (links_of plan.now))) ≤ length lent.old) }
-    ensures { Posted lent.old lent.new n result
-        (posted plan.now v (copies_of copies (copies_to plan.now marks.now v x (links_of plan.now)))) }
-{
-    if copies != 1 {
-        return n;
-    }
-    post_copies(plan, marks, lent, n, v, x)
 }
 
 // All messages of a response to word x from place n on, in their order: the copies, then the first and the second.
-pub fn post_all<'a>(
-    plan: &'a Plan,
-    marks: &'a Marks,
-    lent: &mut [u64],
-    n: usize,
-    v: u16,
-    x: u64,
-    a: Response,
-) -> usize
-    requires { (links_of plan.now ≤ max_links) × Means (header_in x) (carried_in x) (msg_in x) × PacketOk a.first × PacketOk a.second
-        × (n + length (sends_by plan.now marks.now v x a) ≤ length lent.old) }
+pub fn post_all(edges: Edges, lent: &mut [u64], n: usize, x: u64, a: Response) -> usize
+    requires says { Means (header_in x) (carried_in x) (msg_in x) }
+    requires first { IfSome a.first PacketOk }
+    requires second { IfSome a.second PacketOk }
+    requires room { n + length (sends_by edges.plan.now edges.marks.now edges.v x a) ≤ length lent.old }
     ensures { Posted lent.old lent.new n result
-        (posted plan.now v (sends_by plan.now marks.now v x a)) }
+        (posted edges.entry.plan.now edges.entry.v (sends_by edges.entry.plan.now edges.entry.marks.now edges.entry.v x a)) }
 {
-    let m = post_told(plan, marks, lent, n, v, x, a.copies);
-    let k = post(plan, lent, m, v, a.first);
-    post(plan, lent, k, v, a.second)
-}
-
-// 1 for a message, 0 for none.
-fn count_packet(x: Packet) -> u32
-    ensures { (result ≡ length (packet_sends x)) × (result ≤ 1) }
-{
-    if x.edge == NONE {
-        return 0;
-    }
-    1
-}
-
-// How many copies the response makes.
-fn count_copies<'a>(plan: &'a Plan, marks: &'a Marks, v: u16, x: u64, copies: u8) -> u32
-    requires { links_of plan.now ≤ max_links }
-    ensures { (result ≡ length (copies_of copies (copies_to plan.now marks.now v x (links_of plan.now)))) × (result ≤ max_links) }
-{
-    if copies != 1 {
-        return 0;
-    }
-    node_edges::branches(plan, marks, v, link_of(x)) as u32
+    let m = if a.copies {
+        post_copies(edges, lent, n, x)
+    } else {
+        n
+    };
+    let k = post(edges, lent, m, a.first);
+    post(edges, lent, k, a.second)
 }
 
 // How many messages a response to word x sends.
-pub fn count_sends<'a>(plan: &'a Plan, marks: &'a Marks, v: u16, x: u64, a: Response) -> u32
-    requires { links_of plan.now ≤ max_links }
-    ensures { (result ≡ length (sends_by plan.now marks.now v x a)) × (result ≤ max_links + 2) }
+#[tactic(auto, using(node::proofs::laws::Count::each_number, std::proofs::lemmas::Grind::common_steps))]
+pub fn count_sends(edges: Edges, x: u64, a: Response) -> u32
+    ensures count { result ≡ length (sends_by edges.entry.plan.now edges.entry.marks.now edges.entry.v x a) }
+    ensures small { result ≤ max_links + 2 }
 {
-    count_copies(plan, marks, v, x, a.copies) + count_packet(a.first) + count_packet(a.second)
+    let copies = if a.copies {
+        edges.branches(link_of(x))
+    } else {
+        0
+    };
+    copies as u32 + a.first.is_some() as u32 + a.second.is_some() as u32
 }
 
 // A response to word x in place: its messages behind the n words that wait, its node and its mark. Answers how many words then wait.
-pub fn place<'a>(
-    plan: &'a Plan,
+pub fn place(
+    plan: &Plan,
     cells: &mut Cells,
     marks: &mut Marks,
     lent: &mut [u64],
@@ -194,13 +105,23 @@ pub fn place<'a>(
     x: u64,
     a: Response,
 ) -> usize
-    requires { Laid lent.old n × (links_of plan.now ≤ max_links) × Means (header_in x) (carried_in x) (msg_in x) × PacketOk a.first × PacketOk a.second
-        × (n + length (sends_by plan.now marks.old v x a) ≤ length lent.old) × (v < max_modules) }
-    ensures { Put plan.now v (sends_by plan.now marks.old v x a) lent.old n lent.new result
-        × (cells.new ≡ put_node cells.old v a.node)
-        × (marks.new ≡ mark_put plan.now marks.old v a.newmark) }
+    requires laid { Laid lent.old n }
+    requires small { links_of plan.now ≤ max_links }
+    requires says { Means (header_in x) (carried_in x) (msg_in x) }
+    requires first { IfSome a.first PacketOk }
+    requires second { IfSome a.second PacketOk }
+    requires room { n + length (sends_by plan.now marks.old v x a) ≤ length lent.old }
+    requires node { v < max_modules }
+    ensures words { Put plan.now v (sends_by plan.now marks.old v x a) lent.old n lent.new result }
+    ensures cells { cells.new ≡ put_node cells.old v a.node }
+    ensures marks { marks.new ≡ mark_put plan.now marks.old v a.newmark }
 {
-    let r = post_all(plan, marks, lent, n, v, x, a);
+    let edges = Edges {
+        plan,
+        marks: &*marks,
+        v,
+    };
+    let r = post_all(edges, lent, n, x, a);
     field_cells::put_node(cells, v, a.node);
     field_cells::put_mark(plan, marks, v, a.newmark);
     r

@@ -12,6 +12,7 @@ use Rattle.base.specs.Loop.{After, taken_to}
 use Rattle.base.proofs.laws.Ceiling.{ceiling-most}
 use Rattle.plan.specs.Links.{Plan, modules_of, links_of}
 use Rattle.node.specs.Work.{Work}
+use Rattle.node_response.specs.Response.{answer_of}
 use Rattle.field.specs.State.{State, put_node, posted, placed}
 use Rattle.field.specs.Step.{without, back_of}
 use Rattle.field_laws.proofs.Keeps.{Sound}
@@ -59,7 +60,7 @@ module _ (p : Plan) (cells marks lent : List ℕ) (b : Done) (v : ℕ) (y : Verd
 
       pub out-placed : {cells' marks' mid last : List ℕ} {l k size : ℕ} → cells' ≡ put_node cells v y.response.node → marks' ≡ mark_put p marks v y.response.newmark
           → Holds mid l size (without y.at (take b.waiting lent) ++ posted p v (sends_by p marks v y.word y.response))
-          → ((w : Work) → w.answer ≡ y.response.answer → Holds last k (length mid) (take l mid ++ back_of w y.word))
+          → ((w : Work) → w.answer ≡ answer_of y.response.answer → Holds last k (length mid) (take l mid ++ back_of w y.word))
           → {d : Done} → d ≡ record { refusal = 0; waiting = k; sent = b.sent + y.sends } → CarriedOut p v y cells marks lent b d cells' marks' last
       out-placed e1 e2 t k q = rw q (record {
         is = ap taken_to (state-is e1 (e2 ∙ mark-put p x.ready.plan marks v x.ready.sound.sized.marks y.response.newmark) (holds_on _ t (k work refl)).waits

@@ -4,6 +4,7 @@
 
 ghost use Rattle.std.specs.Prelude.{◌<◌, ◌≡◌, ◌++◌, length, take};
 ghost use Rattle.node.specs.Work.{Work, BACK};
+ghost use Rattle.node_response.specs.Response.{answer_of};
 ghost use Rattle.field.specs.Step.{without, back_of, wake, serve};
 ghost use Rattle.field_words.specs.Laid.{Laid};
 ghost use Rattle.field_check.specs.Ready.{Ready};
@@ -12,8 +13,7 @@ ghost use Rattle.field_serve.specs.Lent.{Advances, Executable, CarriedOut};
 
 use field::{Cells, Marks};
 use field_verdict::Verdict;
-use node::BACK;
-use node_response::Response;
+use node_response::{NodeAnswer, Response};
 use plan::Plan;
 
 // refusal: its number, or 0. waiting, sent: the words that wait and the sent count afterwards.
@@ -55,15 +55,17 @@ fn take_out(lent: &mut [u64], n: usize, i: usize) -> usize
 }
 
 // The served word x once more, at the end, if the answer puts it back.
-fn requeue(lent: &mut [u64], n: usize, answer: u32, x: u64) -> usize
-    requires { Laid lent.old n × (answer ≡ BACK → n < length lent.old) }
-    ensures { (w : Work) → w.answer ≡ answer → Holds lent.new result (length lent.old) (take n lent.old ++ back_of w x) }
+fn requeue(lent: &mut [u64], n: usize, answer: NodeAnswer, x: u64) -> usize
+    requires { Laid lent.old n × (answer_of answer ≡ BACK → n < length lent.old) }
+    ensures { (w : Work) → w.answer ≡ answer_of answer → Holds lent.new result (length lent.old) (take n lent.old ++ back_of w x) }
 {
-    if answer != BACK {
-        return n;
+    match answer {
+        NodeAnswer::Taken | NodeAnswer::Refused => n,
+        NodeAnswer::Back => {
+            field_words::put(lent, n, x);
+            n + 1
+        }
     }
-    field_words::put(lent, n, x);
-    n + 1
 }
 
 // The verdict on module v is carried out: a refusal alters nothing, a response is put in place. b is what the step before left.

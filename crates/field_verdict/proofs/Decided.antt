@@ -12,7 +12,9 @@ use Rattle.base.specs.Loop.{After, taken_to, refused_by}
 use Rattle.base.proofs.laws.Cond.{eqb-cases}
 use Rattle.plan.specs.Links.{Plan}
 use Rattle.node.specs.Work.{Work, REFUSED}
+use Rattle.node_response.specs.declared.NodeAnswer.TheVariants.{Refused}
 use Rattle.node_response.specs.declared.Response.{Response}
+use Rattle.node_response.specs.Response.{answer_of}
 use Rattle.field.specs.Edges.{ceiling_of}
 use Rattle.field.specs.State.{State, placed}
 use Rattle.field.specs.Step.{without, carry_out, back_of}
@@ -61,11 +63,11 @@ module _ (p : Plan) (v : ℕ) (w : Work) (s : State) (words back : List ℕ) whe
 
 -- the code's judgement on a response
 module _ (p : Plan) (marks : List ℕ) (sent v i x : ℕ) (a : Response) where
-  pub judged-32 : a.answer ≡ REFUSED → {d : Verdict} → d.refusal ≡ REFUSED → Judged p marks sent v i x a d
-  judged-32 h q = record { decides = λ cells words f. refuses 32 (λ e. omega arith) (carry-32 p v _ _ _ _ h) q }
+  pub judged-32 : a.answer ≡ Refused → {d : Verdict} → d.refusal ≡ 32 → Judged p marks sent v i x a d
+  judged-32 h q = record { decides = λ cells words f. refuses 32 (λ e. omega arith) (carry-32 p v _ _ _ _ (ap answer_of h)) q }
 
   -- it sends c messages
-  module _ (r : a.answer ≢ REFUSED) (c : ℕ) (e : c ≡ length (sends_by p marks v x a)) where
+  module _ (r : answer_of a.answer ≢ REFUSED) (c : ℕ) (e : c ≡ length (sends_by p marks v x a)) where
     pub judged-33 : ceiling_of p < sent + c → {d : Verdict} → d.refusal ≡ 33 → Judged p marks sent v i x a d
     judged-33 h q = record { decides = λ cells words f. refuses 33 (λ e. omega arith) (carry-33 p v _ _ _ _ r (omega arith)) q }
 

@@ -1,4 +1,4 @@
--- The two steps, outcome by outcome, as the code meets them: `wake-41`, `wake-43`, `waking`; `serve-41`, `serve-45`, `serving`.
+-- The two steps, outcome by outcome, as the code meets them: `wake-41`, `wake-43`, `waking`; `serve-41`, `serve-45`, `serving`, `serving-listed`.
 use Prim.Native.Nat.{ℕ, ◌*◌, ◌≤◌, ◌<◌}
 use native.Mathlib.Omega.{arith}
 use mathlib.Core.Path.{◌≡◌, refl, sym, ap, subst, ◌∙◌}
@@ -14,7 +14,8 @@ use Rattle.base.specs.Keep.{place}
 use Rattle.base.proofs.laws.Keep.{FirstThat, first_passes, first_out, place-first}
 use Rattle.base.proofs.laws.Pool.{All-here}
 use Rattle.base.specs.None.{none}
-use Rattle.format_message.specs.Header.{kind_at, level_at, find_at}
+use Rattle.format_message.specs.Msg.{Msg}
+use Rattle.format_message.specs.Header.{level_at}
 use Rattle.format_message.specs.Listed.{bare, listed_as, listed}
 use Rattle.format_message.proofs.laws.Means.{Means, means}
 use Rattle.format_word.specs.Word.{header_in, carried_in, link_in, laid_out, shaped}
@@ -23,10 +24,9 @@ use Rattle.plan.proofs.laws.Accepted.{Accepted}
 use Rattle.node.specs.declared.Node.{Node}
 use Rattle.node.specs.Work.{Own, Work, Send, BACK, ASLEEP, TAKEN, earliest, any_edge}
 use Rattle.node.specs.Rules.{respond, wake_on, wakes}
-use Rattle.node_response.specs.declared.Packet.{Packet}
 use Rattle.node_response.specs.declared.Response.{Response}
-use Rattle.node_response.specs.Response.{packet_msg, work_of, Formed}
-use Rattle.node_joining.specs.laws.Copies.{copies_in}
+use Rattle.node_response.specs.Response.{answer_of, work_of}
+use Rattle.node_joining.specs.Copies.{copies_in}
 use Rattle.node_dispatch.specs.Receives.{Receives}
 use Rattle.field.specs.Edges.{own_of, link_of, limit_of}
 use Rattle.field.specs.State.{State, node_in, node_at, mark_at, msg_in}
@@ -39,7 +39,7 @@ use Rattle.field_words.proofs.Laid.{without-past}
 use Rattle.field_check.specs.Checked.{state_in}
 use Rattle.field_verdict.specs.declared.Verdict.{Verdict}
 use Rattle.field_verdict.specs.Verdict.{work_by, Decided, Feasible}
-use Rattle.field_verdict.specs.Judged.{packet_in, no_word, Responds, Judged}
+use Rattle.field_verdict.specs.Judged.{no_word, Responds, Judged}
 use Rattle.field_verdict.proofs.Decided.{decided-as}
 use Rattle.field_verdict.proofs.Packets.{first-ok, second-ok}
 
@@ -83,11 +83,6 @@ listed-none : listed (header_in no_word) (carried_in no_word) ≡ true
 unfolding listed listed_as bare
 listed-none = refl
 
--- the parts of a listed header are listed
-parts-listed : (x : ℕ) → listed (header_in x) (carried_in x) ≡ true → listed_as (kind_at (header_in x)) (level_at (header_in x)) (carried_in x) (find_at (header_in x)) ≡ true
-unfolding listed
-parts-listed x t = ((and-eq-true_iff (ltb (header_in x) 128) _).0 t).1
-
 -- what a word that passes 31 says
 word-listed : (p : Plan) (x : ℕ) → word_fits p x ≡ true → listed (header_in x) (carried_in x) ≡ true
 unfolding word_fits
@@ -98,13 +93,10 @@ word-listed p x e =
     ((and-eq-true_iff (shaped x) (listed (header_in x) (carried_in x))).0 c.0).1
 
 -- the same under equal names
-pub receives-as : {p : Plan} {v : ℕ} {x y : Packet} {m n : Node} → x ≡ y → m ≡ n → Receives p v y n → Receives p v x m
-receives-as e f h = rw (e, f) h
-
-pub responds-as : (o : Own) (m : ℕ → ℕ) (r : Response) (limit : ℕ) {x y : Packet} {n node : Node} → x ≡ y → n ≡ node
-    → work_of m (copies_in o x.edge (packet_msg x) m) r ≡ respond o limit (packet_msg x) x.edge n m
-    → work_of m (copies_in o y.edge (packet_msg y) m) r ≡ respond o limit (packet_msg y) y.edge node m
-responds-as o m r limit e f h = rw (← e, ← f) h
+pub responds-as : (o : Own) (m : ℕ → ℕ) (r : Response) (limit : ℕ) {x y : ℕ} {k l : Msg} {n node : Node} → x ≡ y → k ≡ l → n ≡ node
+    → work_of m (copies_in o x k m) r ≡ respond o limit k x n m
+    → work_of m (copies_in o y l m) r ≡ respond o limit l y node m
+responds-as o m r limit d e f h = rw (← d, ← e, ← f) h
 
 -- ---- in a field that passed 31
 
@@ -113,24 +105,24 @@ module _ (p : Plan) (cells marks words : List ℕ) (sent v : ℕ) (ok : Accepted
   before = state_in cells marks words sent
 
   -- a response that stays within the lists can be carried out
-  feasible : (i x : ℕ) (a : Response) → Formed a → Means (header_in x) (carried_in x) (msg_in x) → WorkOk (own_of p v) (limit_of p) (work_by p v x a before)
-      → (i < length words) ⊎ (a.answer ≢ BACK) → Feasible v (length words) i x a
-  feasible i x a f m w s =
+  feasible : (i x : ℕ) (a : Response) → Means (header_in x) (carried_in x) (msg_in x) → WorkOk (own_of p v) (limit_of p) (work_by p v x a before)
+      → (i < length words) ⊎ (answer_of a.answer ≢ BACK) → Feasible v (length words) i x a
+  feasible i x a m w s =
       let cs = copies_in (own_of p v) (link_of (link_in x)) (msg_in x) (mark_at p before v) in
       record {
         node = omega (arith, ok.modules_ok);
         says = m;
         served = s;
-        first = first-ok p ok v (mark_at p before v) cs a f w.sends;
-        second = second-ok p ok v (mark_at p before v) cs a f w.sends;
+        first = first-ok p ok v (mark_at p before v) cs a w.sends;
+        second = second-ok p ok v (mark_at p before v) cs a w.sends;
       }
 
-  module _ (o : Node) (eo : o ≡ node_in cells v) (h : o.status ≡ ASLEEP) (a : Response) (f : Formed a)
+  module _ (o : Node) (eo : o ≡ node_in cells v) (h : o.status ≡ ASLEEP) (a : Response)
       (e : (cs : List Send) → work_of (mark_at p before v) cs a ≡ wakes (own_of p v) o (mark_at p before v)) where
     is-wake : work_by p v no_word a before ≡ wake_work p v before
     is-wake = e _ ∙ ap (λ (y : Node). wakes (own_of p v) y (mark_at p before v)) eo
 
-    answers : a.answer ≡ TAKEN
+    answers : answer_of a.answer ≡ TAKEN
     answers = ap (λ (w : Work). w.answer) (e []) ∙ wake-taken (own_of p v) o (mark_at p before v)
 
     pub waking : {d : Verdict} → Judged p marks sent v (length words) no_word a d → Decided (wake p v before) (wake_work p v before) p v before d
@@ -142,7 +134,7 @@ module _ (p : Plan) (cells marks words : List ℕ) (sent v : ℕ) (ok : Accepted
         ∙ sym (wake-on p v before l (ap (λ (y : Node). y.status) (sym eo) ∙ h)))
         is-wake
         (j.decides cells words
-        (feasible (length words) no_word a f (means (header_in no_word) (carried_in no_word) listed-none)
+        (feasible (length words) no_word a (means (header_in no_word) (carried_in no_word) listed-none)
         (subst (WorkOk (own_of p v) (limit_of p)) (sym is-wake) (wake-ok p ok before sound v l)) (inr (λ q. omega (arith, answers)))))
       where
         w : Work
@@ -158,13 +150,15 @@ module _ (p : Plan) (cells marks words : List ℕ) (sent v : ℕ) (ok : Accepted
     fits : word_fits p (served_word p v before) ≡ true
     fits = All-here (first_out first) sound.fits.words
 
-    receives : Receives p v (packet_in (served_word p v before)) (node_in cells v)
+    is-listed : listed (header_in (served_word p v before)) (carried_in (served_word p v before)) ≡ true
+    is-listed = word-listed p (served_word p v before) fits
+
+    receives : Receives p v (link_of (link_in (served_word p v before))) (msg_in (served_word p v before)) (node_in cells v)
     receives =
         let o = sound.fits.nodes v l in
         record {
-          small = ok.links_ok;
           mine = served-own p ok before sound v (served_word p v before) fits (first_passes first);
-          message = parts-listed (served_word p v before) (word-listed p (served_word p v before) fits);
+          message = (means (header_in (served_word p v before)) (carried_in (served_word p v before)) is-listed).fits;
           best = o.best;
           weight = ⊎_elim (λ e. inr e) (λ c. inl (omega (arith, ok.links_ok))) o.weight;
         }
@@ -176,12 +170,15 @@ module _ (p : Plan) (cells marks words : List ℕ) (sent v : ℕ) (ok : Accepted
         let is = e.is words sent in
         decided-as (ap (λ (w : Work). carry_out p v w before (without here words) (back_of w x)) is ∙ sym (serve-on p v before l k)) is
         (j.decides cells words
-        (feasible here x a e.formed (means (header_in x) (carried_in x) (word-listed p x fits))
+        (feasible here x a (means (header_in x) (carried_in x) is-listed)
         (subst (WorkOk (own_of p v) (limit_of p)) (sym is) (serve-ok p ok before sound v x l fits (first_passes first))) (inl k)))
 
   -- the same where the search answered i
   module _ (i : ℕ) (ei : i ≡ here) (k : i < length words) where
-    pub serving-receives : Receives p v (packet_in (get_or words i 0)) (node_in cells v)
+    pub serving-listed : listed (header_in (get_or words i 0)) (carried_in (get_or words i 0)) ≡ true
+    serving-listed = rw ei (is-listed (omega arith))
+
+    pub serving-receives : Receives p v (link_of (link_in (get_or words i 0))) (msg_in (get_or words i 0)) (node_in cells v)
     serving-receives = rw ei (receives (omega arith))
 
     pub serving : {a : Response} {d : Verdict} → Responds p v (get_or words i 0) cells marks a → Judged p marks sent v i (get_or words i 0) a d

@@ -1,23 +1,22 @@
 -- How a step is decided: the served word as the rules get it, the response to it, and what comes of that.
 use Rattle.std.specs.Prelude.{ℕ, ◌≡◌, List, length}
 use Rattle.base.specs.Loop.{After}
-use Rattle.format_message.specs.Header.{kind_at, level_at, find_at}
-use Rattle.format_word.specs.Word.{header_in, carried_in, link_in}
+use Rattle.format_message.specs.NodeMessage.{as_msg}
+use Rattle.format_word.specs.Word.{link_in}
 use Rattle.plan.specs.Links.{Plan}
 use Rattle.node_response.specs.declared.Packet.{Packet}
 use Rattle.node_response.specs.declared.Response.{Response}
-use Rattle.node_response.specs.Response.{Formed}
 use Rattle.field.specs.Edges.{link_of}
-use Rattle.field.specs.State.{State}
+use Rattle.field.specs.State.{State, msg_in}
 use Rattle.field.specs.Step.{without, carry_out, back_of, serve_work}
 use Rattle.field_check.specs.Checked.{state_in}
 use Rattle.field_verdict.specs.declared.Verdict.{Verdict}
 use Rattle.field_verdict.specs.Verdict.{work_by, Feasible, Decided}
 
--- what a served word is to the rules
-abbrev pub packet_in : ℕ → Packet
-packet_in x =
-    record { edge = link_of (link_in x); kind = kind_at (header_in x); level = level_at (header_in x); carried = carried_in x; find = find_at (header_in x) }
+-- packet k is what a served word is to the rules
+pub record Received (x : ℕ) (k : Packet) : Type 0 where
+  pub edge : k.edge ≡ link_of (link_in x)
+  pub says : as_msg k.message ≡ msg_in x
 
 -- in place of a served word where there is none: a Change-root by link 0
 abbrev pub no_word : ℕ
@@ -26,7 +25,6 @@ no_word = 16776967
 -- a is module v's response to word x, whatever words wait
 pub record Responds (p : Plan) (v x : ℕ) (cells marks : List ℕ) (a : Response) : Type 0 where
   pub is : (words : List ℕ) (sent : ℕ) → let s = state_in cells marks words sent in work_by p v x a s ≡ serve_work p v x s
-  pub formed : Formed a
 
 -- it is carried out in state s; i past the last word: none is served
 abbrev pub carry_out_by : Plan → ℕ → ℕ → ℕ → Response → State → After State

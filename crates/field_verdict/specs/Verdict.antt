@@ -1,5 +1,5 @@
 -- What a step of a module comes to, decided before anything is written.
-use Rattle.std.specs.Prelude.{ℕ, ◌+◌, ◌≤◌, ◌<◌, ◌≡◌, ◌≢◌, ◌⊎◌, length}
+use Rattle.std.specs.Prelude.{ℕ, ◌+◌, ◌≤◌, ◌<◌, ◌≡◌, ◌≢◌, ◌⊎◌, length, IfSome}
 use Rattle.base.specs.Limits.{max_modules}
 use Rattle.base.specs.Loop.{After, answering}
 use Rattle.format_message.proofs.laws.Means.{Means}
@@ -7,8 +7,8 @@ use Rattle.format_word.specs.Word.{header_in, carried_in, link_in}
 use Rattle.plan.specs.Links.{Plan}
 use Rattle.node.specs.Work.{Work, BACK}
 use Rattle.node_response.specs.declared.Response.{Response}
-use Rattle.node_response.specs.Response.{work_of}
-use Rattle.node_joining.specs.laws.Copies.{copies_in}
+use Rattle.node_response.specs.Response.{answer_of, work_of}
+use Rattle.node_joining.specs.Copies.{copies_in}
 use Rattle.field.specs.Edges.{own_of, link_of, ceiling_of}
 use Rattle.field.specs.State.{State, mark_at, msg_in, placed}
 use Rattle.field.specs.Step.{without, back_of}
@@ -27,9 +27,9 @@ work_in p v s d = work_by p v d.word d.response s
 pub record Feasible (v n i x : ℕ) (a : Response) : Type 0 where
   pub node : v < max_modules
   pub says : Means (header_in x) (carried_in x) (msg_in x)
-  pub served : (i < n) ⊎ (a.answer ≢ BACK)
-  pub first : PacketOk a.first
-  pub second : PacketOk a.second
+  pub served : (i < n) ⊎ (answer_of a.answer ≢ BACK)
+  pub first : IfSome a.first PacketOk
+  pub second : IfSome a.second PacketOk
 
 -- verdict d holds module v's response w, which can be carried out in state s
 pub record Carries (w : Work) (p : Plan) (v : ℕ) (s : State) (d : Verdict) : Type 0 where

@@ -2,25 +2,27 @@
 // sends. A step carries it out, a preview shows it.
 #![tactic(auto)]
 
-ghost use Rattle.std.specs.Prelude.{◌<◌, ◌≤◌, ◌≡◌, length, leb};
-ghost use Rattle.base.specs.Limits.{max_modules, max_links};
-ghost use Rattle.plan.specs.Links.{modules_of, links_of, plan_size};
+ghost use Rattle.std.specs.Prelude.{◌<◌, ◌≤◌, ◌≡◌, true, length, leb};
+ghost use Rattle.base.specs.Limits.{max_modules};
+ghost use Rattle.plan.specs.Links.{modules_of, plan_size};
 ghost use Rattle.plan.proofs.laws.Accepted.{Accepted};
 ghost use Rattle.node_dispatch.specs.Receives.{Receives};
-ghost use Rattle.field.specs.Edges.{ceiling_of};
-ghost use Rattle.field.specs.State.{node_in};
+ghost use Rattle.format_message.specs.Listed.{listed};
+ghost use Rattle.format_word.specs.Word.{header_in, carried_in, link_in};
+ghost use Rattle.field.specs.Edges.{link_of, ceiling_of};
+ghost use Rattle.field.specs.State.{node_in, msg_in};
 ghost use Rattle.field.specs.Step.{wake_work, wake, serve_work, serve};
 ghost use Rattle.field_calls.specs.Trail.{served_word};
 ghost use Rattle.field_laws.proofs.Keeps.{Sound};
 ghost use Rattle.field_check.specs.Checked.{state_in};
 ghost use Rattle.field_verdict.specs.Verdict.{Decided};
-ghost use Rattle.field_verdict.specs.Judged.{packet_in, Responds, Judged};
+ghost use Rattle.field_verdict.specs.Judged.{Received, Responds, Judged};
 
-use base::NONE;
 use field::{Cells, Marks};
-use node::{ASLEEP, BASIC, REFUSED};
-use node_edges::NewMark;
-use node_response::{Packet, Response};
+use format_message::NodeMessage;
+use node::ASLEEP;
+use node_edges::Edges;
+use node_response::{NodeAnswer, Packet, Response};
 use plan::Plan;
 
 // refusal: its number, or 0. at, word: the place of the served word among those that wait, and the word; where a module wakes, the number of words and a
@@ -41,46 +43,25 @@ const NO_WORD: u64 = 0xffff07;
 fn refused(number: u32) -> Verdict
     ensures { result.refusal ≡ number }
 {
-    let n = field_cells::fresh_node();
-    let x = node_response::a_change(NONE);
-    let a = Response {
-        answer: REFUSED,
-        node: n,
-        newmark: NewMark {
-            edge: NONE,
-            mark: BASIC,
-        },
-        copies: 0,
-        first: x,
-        second: x,
-    };
     Verdict {
         refusal: number,
         at: 0,
         word: NO_WORD,
         sends: 0,
-        response: a,
+        response: Response::begin(field_cells::fresh_node()),
     }
 }
 
 // Response a of module v, to word x at place i: refused by 32 or 33, or it stands.
-fn judge<'a>(
-    plan: &'a Plan,
-    marks: &'a Marks,
-    sent: u32,
-    v: u16,
-    i: usize,
-    x: u64,
-    a: Response,
-) -> Verdict
-    requires { (links_of plan.now ≤ max_links) × (sent ≤ ceiling_of plan.now) }
-    ensures { Judged plan.now marks.now sent v i x a result }
+fn judge(edges: Edges, sent: u32, i: usize, x: u64, a: Response) -> Verdict
+    requires { sent ≤ ceiling_of edges.plan.now }
+    ensures { Judged edges.entry.plan.now edges.entry.marks.now sent edges.entry.v i x a result }
 {
-    if a.answer == REFUSED {
-        return refused(REFUSED);
+    if a.answer == NodeAnswer::Refused {
+        return refused(32);
     }
-    let c = field_place::count_sends(plan, marks, v, x, a);
-    if plan::ceiling_of(plan) - sent < c {
+    let c = field_place::count_sends(edges, x, a);
+    if plan::ceiling_of(edges.plan) - sent < c {
         return refused(33);
     }
     Verdict {
@@ -94,26 +75,24 @@ fn judge<'a>(
 
 // What a served word is to the rules.
 fn received(x: u64) -> Packet
-    ensures { result ≡ packet_in x }
+    requires { listed (header_in x) (carried_in x) ≡ true }
+    ensures { Received x result }
 {
-    let h = format_word::header(x);
+    let message = NodeMessage::read(format_word::header(x), format_word::carried(x)).unwrap();
     Packet {
         edge: field_place::link_of(x),
-        kind: format_message::kind(h),
-        level: format_message::level(h),
-        carried: format_word::carried(x),
-        find: format_message::find(h),
+        message,
     }
 }
 
-// Module v's response to word x, which came over a link of v.
-fn response<'a>(plan: &'a Plan, cells: &'a Cells, marks: &'a Marks, v: u16, x: u64) -> Response
-    requires { (v < max_modules) × Receives plan.now v (packet_in x) (node_in cells.now v) }
-    ensures { Responds plan.now v x cells.now marks.now result }
+// The response of the edges' node to word x, which came over one of them.
+fn response(edges: Edges, cells: &Cells, x: u64) -> Response
+    requires node { edges.v < max_modules }
+    requires listed { listed (header_in x) (carried_in x) ≡ true }
+    requires receives { Receives edges.plan.now edges.v (link_of (link_in x)) (msg_in x) (node_in cells.now edges.v) }
+    ensures { Responds edges.entry.plan.now edges.entry.v x cells.now edges.entry.marks.now result }
 {
-    let packet = received(x);
-    let node = field_cells::load(cells, v);
-    node_dispatch::respond(plan, marks, v, packet, node)
+    node_dispatch::respond(edges, received(x), field_cells::load(cells, edges.v))
 }
 
 // Number v is no module's: 41.
@@ -143,8 +122,9 @@ pub fn wake<'a>(
     if node.status != ASLEEP {
         return refused(43);
     }
-    let a = node_dispatch::wakes(plan, marks, v, node);
-    judge(plan, marks, sent, v, words.len(), NO_WORD, a)
+    let edges = Edges { plan, marks, v };
+    let a = node_dispatch::wakes(edges, node);
+    judge(edges, sent, words.len(), NO_WORD, a)
 }
 
 // Module v serves the first word of its queue, where these words wait: refused by 41, 45, 32 or 33, or its response.
@@ -167,6 +147,7 @@ pub fn serve<'a>(
         return refused(45);
     };
     let x = words[i];
-    let a = response(plan, cells, marks, v, x);
-    judge(plan, marks, sent, v, i, x, a)
+    let edges = Edges { plan, marks, v };
+    let a = response(edges, cells, x);
+    judge(edges, sent, i, x, a)
 }

@@ -1,3 +1,4 @@
 pub mod Msg
 pub mod Header
 pub mod Listed
+pub mod NodeMessage

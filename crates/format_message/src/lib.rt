@@ -1,11 +1,110 @@
-// Messages between neighbours: the header byte taken apart and put together, and which messages are listed.
+// Messages between neighbours: a message read from its header byte and carried number, and written as these; the header byte taken apart and put
+// together.
 #![tactic(auto)]
 
-ghost use Rattle.std.specs.Prelude.{◌≡◌};
-ghost use Rattle.format_message.specs.Header.{header_from, kind_at, level_at, find_at};
-ghost use Rattle.format_message.specs.Listed.{bare, listed_as, listed};
+ghost use Rattle.std.specs.Prelude.{◌≡◌, true, false, MatchOption};
+ghost use Rattle.base.specs.Cond.{bit};
+ghost use Rattle.format_message.specs.Header.{header_from, header_of, kind_at, level_at, find_at, carried_of, msg_of, meant};
+ghost use Rattle.format_message.specs.Listed.{listed_as, listed, Listed};
+ghost use Rattle.format_message.specs.NodeMessage.{as_msg};
 
 use base::{MAX_LINKS, NONE};
+
+// What one node says to a neighbour.
+#[derive(Clone, Copy, Debug, PartialEq, Eq)]
+pub enum NodeMessage {
+    Connect {
+        level: u16,
+    },
+    Initiate {
+        level: u16,
+        identity: u16,
+        find: bool,
+    },
+    Test {
+        level: u16,
+        identity: u16,
+    },
+    Accept,
+    Reject,
+    Report {
+        weight: u16,
+    },
+    ChangeRoot,
+}
+
+impl NodeMessage {
+    // The message that a header byte and a carried number mean, or none where they are not listed.
+    #[tactic(auto, unfolding(crate::specs::Listed::listed))]
+    pub fn read(header: u8, carried: u16) -> Option<NodeMessage>
+        ensures { MatchOption result (listed header carried ≡ false)
+            (λ m. (listed header carried ≡ true) × (as_msg m ≡ meant header carried)) }
+    {
+        if 128 <= header {
+            return None;
+        }
+        of_parts(kind(header), level(header), carried, find(header) == 1)
+    }
+
+    // The header byte that says it.
+    #[tactic(auto, unfolding(crate::specs::Header::parts_of, crate::specs::Header::header_from))]
+    pub fn header(self) -> u8
+        requires { Listed (as_msg self) }
+        ensures { result ≡ header_of (as_msg self) }
+    {
+        match self {
+            NodeMessage::Connect { level } => header(1, level, 0),
+            NodeMessage::Initiate { level, find, .. } => header(2, level, find as u8),
+            NodeMessage::Test { level, .. } => header(3, level, 0),
+            NodeMessage::Accept => header(4, 0, 0),
+            NodeMessage::Reject => header(5, 0, 0),
+            NodeMessage::Report { .. } => header(6, 0, 0),
+            NodeMessage::ChangeRoot => header(7, 0, 0),
+        }
+    }
+
+    // The number that it carries: an edge, or none.
+    #[tactic(auto, unfolding(crate::specs::Header::parts_of))]
+    pub fn carried(self) -> u16
+        ensures { result ≡ carried_of (as_msg self) }
+    {
+        match self {
+            NodeMessage::Initiate { identity, .. } | NodeMessage::Test { identity, .. } => identity,
+            NodeMessage::Report { weight } => weight,
+            NodeMessage::Connect { .. } | NodeMessage::Accept | NodeMessage::Reject | NodeMessage::ChangeRoot => {
+                NONE
+            }
+        }
+    }
+}
+
+// The message of a kind, level, carried number and Find bit, or none where they are not listed.
+#[tactic(auto, unfolding(crate::specs::Listed::listed_as, crate::specs::Listed::bare, crate::specs::Header::msg_of))]
+fn of_parts(kind: u8, level: u16, carried: u16, find: bool) -> Option<NodeMessage>
+    ensures { MatchOption result (listed_as kind level carried (bit find) ≡ false)
+        (λ m. (listed_as kind level carried (bit find) ≡ true) × (as_msg m ≡ msg_of kind level carried (bit find))) }
+{
+    let bare = level == 0 && !find && carried == NONE;
+    match kind {
+        1 if !find && carried == NONE => Some(NodeMessage::Connect { level }),
+        2 if 0 < level && carried < MAX_LINKS => Some(NodeMessage::Initiate {
+            level,
+            identity: carried,
+            find,
+        }),
+        3 if 0 < level && !find && carried < MAX_LINKS => Some(NodeMessage::Test {
+            level,
+            identity: carried,
+        }),
+        4 if bare => Some(NodeMessage::Accept),
+        5 if bare => Some(NodeMessage::Reject),
+        6 if level == 0 && !find && (carried < MAX_LINKS || carried == NONE) => {
+            Some(NodeMessage::Report { weight: carried })
+        }
+        7 if bare => Some(NodeMessage::ChangeRoot),
+        _ => None,
+    }
+}
 
 // The kind, bits 0 to 2 of a header.
 pub fn kind(header: u8) -> u8
@@ -44,35 +143,9 @@ pub fn header(kind: u8, level: u16, find: u8) -> u8
     kind | ((level as u8) << 3) | (find << 6)
 }
 
-// A message that is its kind alone: level and Find bit 0, no carried number.
-fn is_bare(level: u16, carried: u16, find: u8) -> bool
-    ensures { result ≡ bare level carried find }
-{
-    (level == 0) & (find == 0) & (carried == NONE)
-}
-
-// Which parts are listed, by the kind.
-fn listed_as(kind: u8, level: u16, carried: u16, find: u8) -> bool
-    ensures { result ≡ listed_as kind level carried find }
-{
-    match kind {
-        1 => (find == 0) & (carried == NONE),
-        2 => (0 < level) & (carried < MAX_LINKS),
-        3 => (0 < level) & (find == 0) & (carried < MAX_LINKS),
-        4 => is_bare(level, carried, find),
-        5 => is_bare(level, carried, find),
-        6 => (level == 0) & (find == 0) & ((carried < MAX_LINKS) | (carried == NONE)),
-        7 => is_bare(level, carried, find),
-        0 | 8..=255 => false,
-    }
-}
-
 // Whether a header byte and a carried number are those of a listed message.
 pub fn is_listed(header: u8, carried: u16) -> bool
     ensures { result ≡ listed header carried }
 {
-    if 128 <= header {
-        return false;
-    }
-    listed_as(kind(header), level(header), carried, find(header))
+    NodeMessage::read(header, carried).is_some()
 }

@@ -10,6 +10,7 @@ ghost use Rattle.host_preview.specs.Previews.{Showable, Previews};
 
 use field::{Cells, Field, Marks};
 use field_verdict::Verdict;
+use node_edges::Edges;
 use node_response::Response;
 use plan::Plan;
 use preview::Previewed;
@@ -36,7 +37,7 @@ fn show<'a>(plan: &'a Plan, marks: &'a Marks, buffer: &mut [u64], v: u16, d: Ver
         return told(75, 0);
     }
     let response: Response = d.response;
-    field_place::post_all(plan, marks, buffer, 0, v, d.word, response);
+    field_place::post_all(Edges { plan, marks, v }, buffer, 0, d.word, response);
     told(0, d.sends)
 }
 

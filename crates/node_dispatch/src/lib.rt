@@ -1,80 +1,73 @@
-// A node's response to a message, or to a wakeup: the dispatch by the message's kind.
+// A node's response to a message, or to a wakeup: the dispatch by the message.
 #![tactic(auto)]
 
-ghost use Rattle.std.specs.Prelude.{◌≡◌, not, ◌&&◌, List, ◌≤◌, eqb};
-ghost use Rattle.base.specs.Limits.{max_links};
-ghost use Rattle.plan.specs.Links.{links_of};
-ghost use Rattle.field.specs.Edges.{own_of, marks_in, limit_of};
-ghost use Rattle.node.specs.Work.{ASLEEP, Send};
+ghost use Rattle.std.specs.Prelude.{◌≡◌, List};
+ghost use Rattle.format_message.specs.NodeMessage.{as_msg};
+ghost use Rattle.field.specs.Edges.{limit_of};
+ghost use Rattle.node.specs.Work.{Send};
 ghost use Rattle.node.specs.Rules.{respond_to, respond, wakes};
-ghost use Rattle.node_response.specs.Response.{Does, Formed, packet_msg, work_of};
-ghost use Rattle.node_joining.specs.laws.Copies.{copies_in};
-ghost use Rattle.node_dispatch.specs.Receives.{Receives, Fresh};
+ghost use Rattle.node_edges.specs.Edges.{as_own, as_marks};
+ghost use Rattle.node_response.specs.Response.{work_of, Does, begun};
+ghost use Rattle.node_joining.specs.Copies.{copies_in};
+ghost use Rattle.node_dispatch.specs.Receives.{Receives};
 
 use base::NONE;
-use field::Marks;
+use format_message::NodeMessage;
 use node::{ASLEEP, Node};
-use node_response::{CONNECT, Packet, Response, TEST};
-use plan::Plan;
+use node_edges::Edges;
+use node_response::{Packet, Response};
 
-// Whether a node of this status refuses this kind: a sleeper takes Connect and Test only.
-fn deaf(status: u16, kind: u8) -> bool
-    ensures { result ≡ (eqb status ASLEEP && not (eqb kind 1) && not (eqb kind 3)) }
-{
-    (status == ASLEEP) & (kind != CONNECT) & (kind != TEST)
-}
-
-// The response to x, before which nothing was done.
-fn by_kind<'a>(plan: &'a Plan, marks: &'a Marks, v: u16, x: Packet, a: Response) -> Response
-    requires { Receives plan.now v x a.node × Fresh a }
-    ensures { Does (marks_in plan.now marks.now v)
-        (copies_in (own_of plan.now v) x.edge (packet_msg x) (marks_in plan.now marks.now v))
-        (respond_to (own_of plan.now v) (limit_of plan.now) (packet_msg x) x.edge) a result }
+// The response to x, before which nothing was done. A sleeper takes Connect and Test only.
+#[tactic(auto, using(field::proofs::laws::Edges::own_below), unfolding(node::specs::Rules::respond_to, node::specs::Rules::unless_asleep))]
+fn by_message(edges: Edges, x: Packet, a: Response) -> Response
+    requires receives { Receives edges.plan.now edges.v x.edge (as_msg x.message) a.node }
+    requires fresh { a ≡ begun a.node }
+    ensures { Does (as_marks edges.entry) (copies_in (as_own edges.entry) x.edge (as_msg x.message) (as_marks edges.entry))
+        (respond_to (as_own edges.entry) (limit_of edges.entry.plan.now) (as_msg x.message) x.edge) a result }
 {
     let j = x.edge;
-    let kind = x.kind;
-    if deaf(a.node.status, kind) {
-        return node_response::refuse(a);
+    let takes = matches!(
+        x.message,
+        NodeMessage::Connect { .. } | NodeMessage::Test { .. }
+    );
+    if a.node.status == ASLEEP && !takes {
+        return a.refuse();
     }
-    match kind {
-        1 => node_joining::on_connect(
-            plan,
-            marks,
-            v,
-            x,
-            node_procedures::awake(plan, marks, v, j, a),
+    match x.message {
+        NodeMessage::Connect { level } => {
+            node_joining::on_connect(edges, j, level, node_procedures::awake(edges, j, a))
+        }
+        NodeMessage::Initiate {
+            level,
+            identity,
+            find,
+        } => node_joining::on_initiate(edges, j, level, identity, find, a),
+        NodeMessage::Test { level, identity } => node_searching::on_test(
+            edges,
+            j,
+            level,
+            identity,
+            node_procedures::awake(edges, j, a),
         ),
-        2 => node_joining::on_initiate(plan, marks, v, x, a),
-        3 => node_searching::on_test(
-            plan,
-            marks,
-            v,
-            x,
-            node_procedures::awake(plan, marks, v, j, a),
-        ),
-        4 => node_searching::on_accept(plan, j, a),
-        5 => node_searching::on_reject(plan, marks, v, j, a),
-        6 => node_searching::on_report(plan, marks, v, x, a),
-        7 => node_procedures::change_root(plan, marks, v, a),
-        0 | 8..=255 => node_response::refuse(a),
+        NodeMessage::Accept => node_searching::on_accept(edges, j, a),
+        NodeMessage::Reject => node_searching::on_reject(edges, j, a),
+        NodeMessage::Report { weight } => node_searching::on_report(edges, j, weight, a),
+        NodeMessage::ChangeRoot => node_procedures::change_root(edges, a),
     }
 }
 
-// THE RESPONSE of node n, which is v, to the listed message x.
-pub fn respond<'a>(plan: &'a Plan, marks: &'a Marks, v: u16, x: Packet, n: Node) -> Response
-    requires { Receives plan.now v x n }
-    ensures { (work_of (marks_in plan.now marks.now v)
-        (copies_in (own_of plan.now v) x.edge (packet_msg x) (marks_in plan.now marks.now v)) result
-        ≡ respond (own_of plan.now v) (limit_of plan.now) (packet_msg x) x.edge n (marks_in plan.now marks.now v)) × Formed result }
+// THE RESPONSE of node n, with these edges, to the listed message x.
+pub fn respond(edges: Edges, x: Packet, n: Node) -> Response
+    requires { Receives edges.plan.now edges.v x.edge (as_msg x.message) n }
+    ensures { work_of (as_marks edges.entry) (copies_in (as_own edges.entry) x.edge (as_msg x.message) (as_marks edges.entry)) result
+        ≡ respond (as_own edges.entry) (limit_of edges.entry.plan.now) (as_msg x.message) x.edge n (as_marks edges.entry) }
 {
-    by_kind(plan, marks, v, x, node_response::begin(n))
+    by_message(edges, x, Response::begin(n))
 }
 
-// The response of node n, which is v, to a wakeup: no message woke it.
-pub fn wakes<'a>(plan: &'a Plan, marks: &'a Marks, v: u16, n: Node) -> Response
-    requires { links_of plan.now ≤ max_links }
-    ensures { ((cs : List Send) → work_of (marks_in plan.now marks.now v) cs result
-        ≡ wakes (own_of plan.now v) n (marks_in plan.now marks.now v)) × Formed result }
+// The response of node n, with these edges, to a wakeup: no message woke it.
+pub fn wakes(edges: Edges, n: Node) -> Response
+    ensures { (cs : List Send) → work_of (as_marks edges.entry) cs result ≡ wakes (as_own edges.entry) n (as_marks edges.entry) }
 {
-    node_procedures::wakeup(plan, marks, v, NONE, node_response::begin(n))
+    node_procedures::wakeup(edges, NONE, Response::begin(n))
 }

@@ -1,22 +1,18 @@
 // One node's own edges: which they are, their marks, the earliest of them, how many there are.
 #![tactic(auto)]
 
-ghost use Rattle.std.specs.Prelude.{◌≡◌, true, cond, ◌&&◌, ◌⊎◌, ◌<◌, ◌≤◌, eqb};
-ghost use Rattle.base.specs.Cond.{bit};
-ghost use Rattle.base.specs.None.{none, before_by};
+ghost use Rattle.std.specs.Prelude.{IfSome, ◌≡◌, ◌&&◌, ℕ, Bool, true, ◌<◌, ◌≤◌, eqb};
 ghost use Rattle.base.specs.Limits.{max_links};
 ghost use Rattle.plan.specs.Links.{links_of};
-ghost use Rattle.plan.specs.Weights.{earlier};
-ghost use Rattle.field.specs.Edges.{is_own, own_of, end_of, marks_in};
+ghost use Rattle.field.specs.Edges.{is_own, end_of};
 ghost use Rattle.node.specs.Work.{BASIC, earliest, number, any_edge, branches, degree};
-ghost use Rattle.node_edges.specs.Own.{marked, looked, counts};
+ghost use Rattle.node_edges.specs.Own.{marked, as_edge, Computes};
 
-use base::NONE;
 use field::Marks;
 use node::{BASIC, BRANCH};
 use plan::Plan;
 
-// Edge edge's mark is to become mark; edge none: no mark changes.
+// Edge edge's mark becomes mark.
 #[derive(Clone, Copy)]
 pub struct NewMark {
     pub edge: u16,
@@ -24,180 +20,139 @@ pub struct NewMark {
 }
 
 // Whether edge k ends at node v.
-pub fn owns<'a>(plan: &'a Plan, v: u16, k: u16) -> bool
-    requires { (links_of plan.now ≤ max_links) × (k < links_of plan.now) }
+#[tactic(auto, unfolding(field::specs::Edges::is_own))]
+pub fn owns(plan: &Plan, v: u16, k: u16) -> bool
+    requires { links_of plan.now ≤ max_links }
     ensures { result ≡ is_own plan.now v k }
 {
     let i = k as usize;
-    if plan::lower(plan, i) == v {
-        return true;
-    }
-    plan::higher(plan, i) == v
+    k < plan::links(plan) && (plan::lower(plan, i) == v || plan::higher(plan, i) == v)
 }
 
 // Node v's directed link over its edge k, which is also the place of its mark.
+#[tactic(auto, unfolding(field::specs::Edges::end_of))]
 pub fn end_at(plan: &Plan, v: u16, k: u16) -> u16
     requires { k < max_links }
     ensures { result ≡ end_of plan.now v k }
 {
-    let i = k as usize;
-    if plan::lower(plan, i) == v {
-        return 2 * k;
+    if plan::lower(plan, k as usize) == v {
+        2 * k
+    } else {
+        2 * k + 1
     }
-    2 * k + 1
 }
 
-// Node v's mark for its edge k.
-pub fn mark_at<'a>(plan: &'a Plan, marks: &'a Marks, v: u16, k: u16) -> u8
-    requires { k < max_links }
-    ensures { is_own plan.now v k ≡ true → result ≡ marks_in plan.now marks.now v k }
-{
-    let i = end_at(plan, v, k) as usize;
-    marks[i]
+// Node v's own edges, with their marks: what the rules take as `Own`.
+#[derive(Clone, Copy)]
+pub struct Edges<'a> {
+    pub plan: &'a Plan,
+    pub marks: &'a Marks,
+    pub v: u16,
+    pub ghost small: { links_of plan.now ≤ max_links },
 }
 
-// The same after the change c.
-pub fn mark_of<'a>(plan: &'a Plan, marks: &'a Marks, v: u16, c: NewMark, k: u16) -> u8
-    requires { k < max_links }
-    ensures { is_own plan.now v k ≡ true → result ≡ marked (marks_in plan.now marks.now v) c k }
-{
-    if c.edge == k {
-        return c.mark;
-    }
-    mark_at(plan, marks, v, k)
-}
+impl<'a> Edges<'a> {
+    ghost use Rattle.node_edges.specs.Edges.{as_own, as_marks};
 
-// Whether a search of node v's edges looks at k: an own edge, with mark Basic unless all are looked at.
-fn looks<'a>(plan: &'a Plan, marks: &'a Marks, v: u16, c: NewMark, all: bool, k: u16) -> bool
-    requires { (links_of plan.now ≤ max_links) × (k < links_of plan.now) }
-    ensures { result ≡ (is_own plan.now v k
-        && looked all (marked (marks_in plan.now marks.now v) c) k) }
-{
-    if !owns(plan, v, k) {
-        return false;
+    // Whether edge k is one of them.
+    pub fn owns(self, k: u16) -> bool
+        ensures { result ≡ (as_own self.entry).own k }
+    {
+        owns(self.plan, self.v, k)
     }
-    if all {
-        return true;
-    }
-    mark_of(plan, marks, v, c, k) == BASIC
-}
 
-// One turn of the search: the earlier of k and the best so far, if it looks at k.
-fn turn<'a>(
-    plan: &'a Plan,
-    marks: &'a Marks,
-    v: u16,
-    c: NewMark,
-    all: bool,
-    best: u16,
-    k: u16,
-) -> u16
-    requires { (links_of plan.now ≤ max_links) × (k < links_of plan.now) × ((best < max_links) ⊎ (best ≡ none)) }
-    ensures { (result ≡ cond (is_own plan.now v k
-        && looked all (marked (marks_in plan.now marks.now v) c) k
-        && before_by (earlier plan.now) k best) k best) × ((result < max_links) ⊎ (result ≡ none)) }
-{
-    if !looks(plan, marks, v, c, all, k) {
-        return best;
+    // The directed link over its edge k, which is also the place of its mark.
+    pub fn end(self, k: u16) -> u16
+        requires { k < max_links }
+        ensures { result ≡ end_of self.entry.plan.now self.entry.v k }
+    {
+        end_at(self.plan, self.v, k)
     }
-    if plan::before(plan, k, best) {
-        return k;
-    }
-    best
-}
 
-// The earliest own edge of node v, of all or of those with mark Basic after the change c, or none.
-fn find<'a>(plan: &'a Plan, marks: &'a Marks, v: u16, c: NewMark, all: bool) -> u16
-    requires { links_of plan.now ≤ max_links }
-    ensures { result ≡ earliest (own_of plan.now v)
-        (looked all (marked (marks_in plan.now marks.now v) c)) (links_of plan.now) }
-{
-    let links = plan::links(plan);
-    let mut best: u16 = NONE;
-    let mut k: u16 = 0;
-    while k < links {
-        best = turn(plan, marks, v, c, all, best, k);
-        k += 1;
+    // The mark of edge k, if it is one of them.
+    #[tactic(auto, unfolding(field::specs::Edges::end_of, field::specs::Edges::marks_in))]
+    pub fn mark(self, k: u16) -> u8
+        requires { k < max_links }
+        ensures { (as_own self.entry).own k ≡ true → result ≡ as_marks self.entry k }
+    {
+        self.marks[self.end(k) as usize]
     }
-    best
-}
 
-// The earliest own edge of node v, or none.
-pub fn earliest_own<'a>(plan: &'a Plan, marks: &'a Marks, v: u16) -> u16
-    requires { links_of plan.now ≤ max_links }
-    ensures { result ≡ earliest (own_of plan.now v) any_edge (links_of plan.now) }
-{
-    find(
-        plan,
-        marks,
-        v,
-        NewMark {
-            edge: NONE,
-            mark: BASIC,
-        },
-        true,
-    )
-}
-
-// The earliest own edge of node v with mark Basic after the change c, or none.
-pub fn earliest_basic<'a>(plan: &'a Plan, marks: &'a Marks, v: u16, c: NewMark) -> u16
-    requires { links_of plan.now ≤ max_links }
-    ensures { result ≡ earliest (own_of plan.now v)
-        (λ k. eqb (marked (marks_in plan.now marks.now v) c k) BASIC) (links_of plan.now) }
-{
-    find(plan, marks, v, c, false)
-}
-
-// 1 if a count of node v's edges counts k: an own edge, a branch other than j unless all are counted.
-fn one<'a>(plan: &'a Plan, marks: &'a Marks, v: u16, all: bool, j: u16, k: u16) -> u16
-    requires { (links_of plan.now ≤ max_links) × (k < links_of plan.now) }
-    ensures { (result ≡ bit (is_own plan.now v k
-        && counts all j (marks_in plan.now marks.now v) k)) × (result ≤ 1) }
-{
-    if !owns(plan, v, k) {
-        return 0;
+    // The same after a change.
+    #[tactic(auto, unfolding(base::specs::Cond::upd))]
+    pub fn mark_after(self, change: Option<NewMark>, k: u16) -> u8
+        requires { k < max_links }
+        ensures { (as_own self.entry).own k ≡ true → result ≡ marked (as_marks self.entry) change k }
+    {
+        match change {
+            Some(c) if c.edge == k => c.mark,
+            _ => self.mark(k),
+        }
     }
-    if all {
-        return 1;
-    }
-    if k == j {
-        return 0;
-    }
-    if mark_at(plan, marks, v, k) == BRANCH {
-        return 1;
-    }
-    0
-}
 
-// How many own edges node v has: all, or the branches other than j.
-fn count<'a>(plan: &'a Plan, marks: &'a Marks, v: u16, all: bool, j: u16) -> u16
-    requires { links_of plan.now ≤ max_links }
-    ensures { (result ≡ number (own_of plan.now v)
-        (counts all j (marks_in plan.now marks.now v)) (links_of plan.now)) × (result ≤ max_links) }
-{
-    let links = plan::links(plan);
-    let mut n: u16 = 0;
-    let mut k: u16 = 0;
-    while k < links {
-        n = n + one(plan, marks, v, all, j, k);
-        k += 1;
+    // Whether edge k is one of them, a branch, and another than j.
+    #[tactic(auto, using(field::proofs::laws::Edges::own_below))]
+    pub fn is_other_branch(self, j: u16, k: u16) -> bool
+        ensures { result ≡ ((as_own self.entry).own k && branches j (as_marks self.entry) k) }
+    {
+        self.owns(k) && k != j && self.mark(k) == BRANCH
     }
-    n
-}
 
-// The number of node v's own edges.
-pub fn degree<'a>(plan: &'a Plan, marks: &'a Marks, v: u16) -> u16
-    requires { links_of plan.now ≤ max_links }
-    ensures { (result ≡ degree (own_of plan.now v)) × (result ≤ max_links) }
-{
-    count(plan, marks, v, true, 0)
-}
+    // The earliest of those that pass the test.
+    #[tactic(auto, unfolding(node::specs::Work::earliest, base::specs::None::before_by))]
+    fn earliest_that<F: Fn(u16) -> bool>(self, test: F) -> Option<u16>
+        requires { (k : ℕ) → (as_own self).own k ≡ true → F.pre test k }
+        ensures found { (f : ℕ → Bool) → Computes ((as_own self.entry).own) (F.post test) f
+            → as_edge result ≡ earliest (as_own self.entry) f (as_own self.entry).edges }
+        ensures edge { IfSome result (λ k. k < max_links) }
+    {
+        let mut best = None;
+        for k in 0..plan::links(self.plan) {
+            if self.owns(k) && test(k) {
+                best = match best {
+                    Some(b) if !plan::earlier(self.plan, k, b) => best,
+                    _ => Some(k),
+                };
+            }
+        }
+        best
+    }
 
-// The number of node v's branches other than j.
-pub fn branches<'a>(plan: &'a Plan, marks: &'a Marks, v: u16, j: u16) -> u16
-    requires { links_of plan.now ≤ max_links }
-    ensures { (result ≡ number (own_of plan.now v)
-        (branches j (marks_in plan.now marks.now v)) (links_of plan.now)) × (result ≤ max_links) }
-{
-    count(plan, marks, v, false, j)
+    // The earliest of them.
+    pub fn earliest(self) -> Option<u16>
+        ensures found { as_edge result ≡ earliest (as_own self.entry) any_edge (as_own self.entry).edges }
+        ensures edge { IfSome result (λ k. k < max_links) }
+    {
+        self.earliest_that(|_k| true)
+    }
+
+    // The earliest of them with mark Basic after a change.
+    #[tactic(auto, using(field::proofs::laws::Edges::own_below))]
+    pub fn earliest_basic(self, change: Option<NewMark>) -> Option<u16>
+        ensures found { as_edge result ≡ earliest (as_own self.entry)
+            (λ k. eqb (marked (as_marks self.entry) change k) BASIC) (as_own self.entry).edges }
+        ensures edge { IfSome result (λ k. k < max_links) }
+    {
+        self.earliest_that(|k| self.mark_after(change, k) == BASIC)
+    }
+
+    // How many there are.
+    pub fn degree(self) -> u16
+        ensures count { result ≡ degree (as_own self.entry) }
+        ensures small { result ≤ max_links }
+    {
+        (0..plan::links(self.plan))
+            .filter(|k| self.owns(*k))
+            .count() as u16
+    }
+
+    // How many of them are branches other than j.
+    pub fn branches(self, j: u16) -> u16
+        ensures count { result ≡ number (as_own self.entry) (branches j (as_marks self.entry)) (as_own self.entry).edges }
+        ensures small { result ≤ max_links }
+    {
+        (0..plan::links(self.plan))
+            .filter(|k| self.is_other_branch(j, *k))
+            .count() as u16
+    }
 }

@@ -1,1 +1,1 @@
-pub mod laws
+pub mod Copies

@@ -1,119 +1,141 @@
-// The responses to Connect and Initiate, worked out by value. v is the node, x the message, a the response so far.
+// The responses to Connect and Initiate, worked out by value. `edges` are the node's, j the one that the message came by, a the response so far.
 #![tactic(auto)]
 
-ghost use Rattle.std.specs.Prelude.{◌≡◌, ◌≢◌, ◌⊎◌, true, List, ℕ, ◌≤◌};
-ghost use Rattle.base.specs.None.{none};
-ghost use Rattle.base.specs.Limits.{max_links};
+ghost use Rattle.std.specs.Prelude.{◌≡◌, ◌⊎◌, true, false, List, ℕ, None};
+ghost use Rattle.base.specs.Cond.{bit};
 ghost use Rattle.format_message.specs.Msg.{initiate};
-ghost use Rattle.plan.specs.Links.{links_of};
-ghost use Rattle.field.specs.Edges.{is_own, own_of, marks_in, limit_of};
+ghost use Rattle.field.specs.Edges.{limit_of};
 ghost use Rattle.node.specs.Work.{Send};
 ghost use Rattle.node.specs.Rules.{join_over, absorb, core_end, on_connect, on_initiate};
+ghost use Rattle.node_edges.specs.Edges.{as_own, as_marks};
 ghost use Rattle.node_response.specs.Response.{Does};
-ghost use Rattle.node_joining.specs.laws.Copies.{copies_in};
+ghost use Rattle.node_joining.specs.Copies.{copies_in};
 
 use base::NONE;
-use field::Marks;
+use format_message::NodeMessage;
 use node::{BASIC, BRANCH, FIND, FOUND, Node};
-use node_response::{Packet, Response};
-use plan::Plan;
+use node_edges::Edges;
+use node_response::Response;
 
 // Edge j becomes a branch and its other end is told, with the Find bit.
-fn join(j: u16, find: u8, a: Response) -> Response
-    requires { (j ≢ none) × (a.newmark.edge ≡ none) × (a.second.edge ≡ none) }
-    ensures { (m : ℕ → ℕ) (cs : List Send) → Does m cs (join_over j find) a result }
+fn join(j: u16, find: bool, a: Response) -> Response
+    requires mark { a.newmark ≡ None }
+    requires room { a.second ≡ None }
+    ensures { (m : ℕ → ℕ) (cs : List Send) → Does m cs (join_over j (bit find)) a result }
 {
-    let mut b = a;
-    b.newmark.edge = j;
-    b.newmark.mark = BRANCH;
-    node_response::say(
-        b,
-        node_response::an_initiate(j, a.node.level, a.node.identity, find),
+    let Node {
+        level,
+        identity,
+        ..
+    } = a.node;
+    a.with_mark(j, BRANCH).say(
+        j,
+        NodeMessage::Initiate {
+            level,
+            identity,
+            find,
+        },
     )
 }
 
-// A Connect of a lower level, on edge j.
-fn absorb<'a>(plan: &'a Plan, marks: &'a Marks, v: u16, j: u16, a: Response) -> Response
-    requires { (links_of plan.now ≤ max_links) × (j ≢ none) × (a.newmark.edge ≡ none) × (a.second.edge ≡ none) }
-    ensures { (m : ℕ → ℕ) (cs : List Send) → Does m cs (absorb (own_of plan.now v) j) a result }
+// A Connect of a lower level.
+#[tactic(auto, unfolding(node::specs::Rules::absorb, node::specs::Rules::count_up))]
+fn absorb(edges: Edges, j: u16, a: Response) -> Response
+    requires mark { a.newmark ≡ None }
+    requires room { a.second ≡ None }
+    ensures { (m : ℕ → ℕ) (cs : List Send) → Does m cs (absorb (as_own edges.entry) j) a result }
 {
     if a.node.status != FIND {
-        return join(j, 0, a);
+        return join(j, false, a);
     }
-    if node_edges::degree(plan, marks, v) <= a.node.count {
-        return node_response::refuse(join(j, 1, a));
+    if edges.degree() <= a.node.count {
+        return join(j, true, a).refuse();
     }
-    let mut b = a;
-    let c = a.node.count + 1;
-    b.node.count = c;
-    join(j, 1, b)
+    let counted = Node {
+        count: a.node.count + 1,
+        ..a.node
+    };
+    join(j, true, a.with_node(counted))
 }
 
-// A Connect of the own level on the branch j: the next level begins.
-fn core_end(plan: &Plan, j: u16, a: Response) -> Response
-    requires { (j ≢ none) × (a.second.edge ≡ none) }
-    ensures { (m : ℕ → ℕ) (cs : List Send) → Does m cs (core_end (limit_of plan.now) j) a result }
+// A Connect of the own level on a branch: the next level begins.
+#[tactic(auto, unfolding(node::specs::Rules::core_end))]
+fn core_end(edges: Edges, j: u16, a: Response) -> Response
+    requires { a.second ≡ None }
+    ensures { (m : ℕ → ℕ) (cs : List Send) → Does m cs (core_end (limit_of edges.entry.plan.now) j) a result }
 {
-    if plan::level_limit(plan) <= a.node.level {
-        return node_response::refuse(a);
+    let level = a.node.level;
+    if plan::level_limit(edges.plan) <= level {
+        return a.refuse();
     }
-    node_response::say(a, node_response::an_initiate(j, a.node.level + 1, j, 1))
+    a.say(
+        j,
+        NodeMessage::Initiate {
+            level: level + 1,
+            identity: j,
+            find: true,
+        },
+    )
 }
 
 // Connect, by an awake node: it may have been woken by it, and then its level is 0.
-pub fn on_connect<'a>(plan: &'a Plan, marks: &'a Marks, v: u16, x: Packet, a: Response) -> Response
-    requires { (links_of plan.now ≤ max_links) × (is_own plan.now v x.edge ≡ true) × (a.second.edge ≡ none)
-        × ((a.newmark.edge ≡ none) ⊎ (a.node.level ≡ 0)) }
-    ensures { (cs : List Send) → Does (marks_in plan.now marks.now v) cs
-        (on_connect (own_of plan.now v) (limit_of plan.now) x.level x.edge) a result }
+#[tactic(auto, using(field::proofs::laws::Edges::own_below), unfolding(node::specs::Rules::on_connect))]
+pub fn on_connect(edges: Edges, j: u16, level: u16, a: Response) -> Response
+    requires own { (as_own edges).own j ≡ true }
+    requires room { a.second ≡ None }
+    requires mark { (a.newmark ≡ None) ⊎ (a.node.level ≡ 0) }
+    ensures { (cs : List Send) → Does (as_marks edges.entry) cs
+        (on_connect (as_own edges.entry) (limit_of edges.entry.plan.now) level j) a result }
 {
-    if x.level < a.node.level {
-        return absorb(plan, marks, v, x.edge, a);
+    if level < a.node.level {
+        return absorb(edges, j, a);
     }
-    if node_edges::mark_of(plan, marks, v, a.newmark, x.edge) == BASIC {
-        return node_response::put_back(a);
+    if edges.mark_after(a.newmark, j) == BASIC {
+        return a.put_back();
     }
-    core_end(plan, x.edge, a)
-}
-
-fn wide(x: u16) -> u32
-    ensures { (result ≡ x) × (result ≤ 65535) }
-{
-    x as u32
+    core_end(edges, j, a)
 }
 
 // Initiate, by an awake node, before which nothing was done.
-pub fn on_initiate<'a>(plan: &'a Plan, marks: &'a Marks, v: u16, x: Packet, a: Response) -> Response
-    requires { (links_of plan.now ≤ max_links) × (a.newmark.edge ≡ none) × (a.copies ≡ 0) × (a.first.edge ≡ none) × (a.second.edge ≡ none) }
-    ensures { Does (marks_in plan.now marks.now v)
-        (copies_in (own_of plan.now v) x.edge (initiate x.level x.carried x.find) (marks_in plan.now marks.now v))
-        (on_initiate (own_of plan.now v) x.level x.carried x.find x.edge) a result }
+#[tactic(auto, unfolding(node::specs::Rules::on_initiate, node::specs::Rules::seek))]
+pub fn on_initiate(
+    edges: Edges,
+    j: u16,
+    level: u16,
+    identity: u16,
+    find: bool,
+    a: Response,
+) -> Response
+    requires mark { a.newmark ≡ None }
+    requires copies { a.copies ≡ false }
+    requires first { a.first ≡ None }
+    requires second { a.second ≡ None }
+    ensures { Does (as_marks edges.entry)
+        (copies_in (as_own edges.entry) j (initiate level identity (bit find)) (as_marks edges.entry))
+        (on_initiate (as_own edges.entry) level identity (bit find) j) a result }
 {
-    let mut n = Node {
-        status: FOUND,
-        level: x.level,
-        identity: x.carried,
+    let informed = Node {
+        status: if find { FIND } else { FOUND },
+        level,
+        identity,
         weight: NONE,
         best: NONE,
-        test: a.node.test,
-        branch: x.edge,
-        count: a.node.count,
-        halted: a.node.halted,
-        waking: a.node.waking,
+        branch: j,
+        ..a.node
     };
-    let mut b = a;
-    b.copies = 1;
-    if x.find != 1 {
-        b.node = n;
-        return b;
+    let told = Response {
+        node: informed,
+        copies: true,
+        ..a
+    };
+    if !find {
+        return told;
     }
-    n.status = FIND;
-    b.node = n;
-    let c = wide(a.node.count) + wide(node_edges::branches(plan, marks, v, x.edge));
-    if wide(node_edges::degree(plan, marks, v)) < c {
-        return node_response::refuse(b);
+    let degree = edges.degree();
+    match a.node.count.checked_add(edges.branches(j)) {
+        Some(count) if count <= degree => {
+            node_procedures::do_test(edges, told.with_node(Node { count, ..informed }))
+        }
+        _ => told.refuse(),
     }
-    let e = c as u16;
-    b.node.count = e;
-    node_procedures::do_test(plan, marks, v, b)
 }

@@ -1,71 +1,87 @@
-// The paper's procedures, worked out by value: report, test, wakeup, change-root. v is the node, whose response a is so far.
+// The paper's procedures, worked out by value: report, test, wakeup, change-root. `edges` are the node's, a its response so far.
 #![tactic(auto)]
 
-ghost use Rattle.std.specs.Prelude.{◌≡◌, ◌⊎◌, true, List, ℕ, ◌≤◌};
+ghost use Rattle.std.specs.Prelude.{◌≡◌, ◌⊎◌, ◌<◌, true, List, ℕ, None, IfSome};
 ghost use Rattle.base.specs.None.{none};
 ghost use Rattle.base.specs.Limits.{max_links};
-ghost use Rattle.plan.specs.Links.{links_of};
-ghost use Rattle.field.specs.Edges.{is_own, own_of, marks_in};
 ghost use Rattle.node.specs.Work.{Send};
 ghost use Rattle.node.specs.Rules.{do_report, test_on, do_test, wake_on, wakeup, awake, change_root};
+ghost use Rattle.node_edges.specs.Edges.{as_own, as_marks};
+ghost use Rattle.node_edges.specs.Own.{as_edge};
 ghost use Rattle.node_response.specs.Response.{Does};
 
 use base::NONE;
-use field::Marks;
+use format_message::NodeMessage;
 use node::{ASLEEP, BRANCH, FOUND, Node};
+use node_edges::Edges;
 use node_response::Response;
-use plan::Plan;
 
 // Procedure report.
+#[tactic(auto, unfolding(node::specs::Rules::do_report))]
 pub fn do_report(a: Response) -> Response
-    requires { a.second.edge ≡ none }
+    requires { a.second ≡ None }
     ensures { (m : ℕ → ℕ) (cs : List Send) → Does m cs do_report a result }
 {
-    if a.node.count != 0 {
-        return a;
-    }
-    if a.node.test != NONE {
+    if a.node.count != 0 || a.node.test != NONE {
         return a;
     }
     if a.node.branch == NONE {
-        return node_response::refuse(a);
+        return a.refuse();
     }
-    let mut b = a;
-    b.node.status = FOUND;
-    node_response::say(b, node_response::a_report(a.node.branch, a.node.weight))
+    let found = Node {
+        status: FOUND,
+        ..a.node
+    };
+    let weight = a.node.weight;
+    a.with_node(found)
+        .say(a.node.branch, NodeMessage::Report { weight })
 }
 
-// Procedure test, for the earliest own edge k with mark Basic, or none.
-fn test_on(k: u16, a: Response) -> Response
-    requires { a.second.edge ≡ none }
-    ensures { (m : ℕ → ℕ) (cs : List Send) → Does m cs (test_on k) a result }
+// Procedure test, for the earliest own edge with mark Basic.
+#[tactic(auto, unfolding(node::specs::Rules::test_on))]
+fn test_on(edge: Option<u16>, a: Response) -> Response
+    requires room { a.second ≡ None }
+    requires edge { IfSome edge (λ k. k < max_links) }
+    ensures { (m : ℕ → ℕ) (cs : List Send) → Does m cs (test_on (as_edge edge)) a result }
 {
-    let mut b = a;
-    if k == NONE {
-        b.node.test = NONE;
-        return do_report(b);
+    let Some(k) = edge else {
+        return do_report(a.with_node(Node {
+            test: NONE,
+            ..a.node
+        }));
+    };
+    let Node {
+        level,
+        identity,
+        ..
+    } = a.node;
+    if level == 0 {
+        return a.refuse();
     }
-    if a.node.level == 0 {
-        return node_response::refuse(a);
-    }
-    b.node.test = k;
-    node_response::say(b, node_response::a_test(k, a.node.level, a.node.identity))
+    a.with_node(Node { test: k, ..a.node })
+        .say(k, NodeMessage::Test { level, identity })
 }
 
 // Procedure test.
-pub fn do_test<'a>(plan: &'a Plan, marks: &'a Marks, v: u16, a: Response) -> Response
-    requires { (links_of plan.now ≤ max_links) × (a.second.edge ≡ none) }
-    ensures { (cs : List Send) → Does (marks_in plan.now marks.now v) cs (do_test (own_of plan.now v)) a result }
+pub fn do_test(edges: Edges, a: Response) -> Response
+    requires { a.second ≡ None }
+    ensures { (cs : List Send) → Does (as_marks edges.entry) cs (do_test (as_own edges.entry)) a result }
 {
-    test_on(node_edges::earliest_basic(plan, marks, v, a.newmark), a)
+    test_on(edges.earliest_basic(a.newmark), a)
 }
 
-// Procedure wakeup by a message that came over j, or by none, for the earliest own edge k, or none. Nothing was done before it.
-fn wake_on(j: u16, k: u16, a: Response) -> Response
-    requires { (a.newmark.edge ≡ none) × (a.first.edge ≡ none) × (a.second.edge ≡ none) }
-    ensures { ((m : ℕ → ℕ) (cs : List Send) → Does m cs (wake_on j k) a result) × (result.second.edge ≡ none) × (result.node.level ≡ 0) }
+// Procedure wakeup by a message that came over j, or by none, for the earliest own edge. Nothing was done before it.
+#[tactic(auto, unfolding(node::specs::Rules::wake_on))]
+fn wake_on(j: u16, edge: Option<u16>, a: Response) -> Response
+    requires mark { a.newmark ≡ None }
+    requires first { a.first ≡ None }
+    requires second { a.second ≡ None }
+    requires edge { IfSome edge (λ k. k < max_links) }
+    ensures does { (m : ℕ → ℕ) (cs : List Send) → Does m cs (wake_on j (as_edge edge)) a result }
+    ensures room { result.second ≡ None }
+    ensures level { result.node.level ≡ 0 }
 {
-    let mut n = Node {
+    let woken = Node {
         status: FOUND,
         level: 0,
         identity: NONE,
@@ -77,54 +93,63 @@ fn wake_on(j: u16, k: u16, a: Response) -> Response
         halted: a.node.halted,
         waking: j,
     };
-    let mut b = a;
-    if k == NONE {
-        n.halted = 1;
-        b.node = n;
-        return b;
+    match edge {
+        None => a.with_node(Node { halted: 1, ..woken }),
+        Some(k) => a
+            .with_node(woken)
+            .with_mark(k, BRANCH)
+            .say(k, NodeMessage::Connect { level: 0 }),
     }
-    b.node = n;
-    b.newmark.edge = k;
-    b.newmark.mark = BRANCH;
-    node_response::say(b, node_response::a_connect(k, 0))
 }
 
 // Procedure wakeup by a message that came over j, or by none. Nothing was done before it.
-pub fn wakeup<'a>(plan: &'a Plan, marks: &'a Marks, v: u16, j: u16, a: Response) -> Response
-    requires { (links_of plan.now ≤ max_links) × (a.newmark.edge ≡ none) × (a.first.edge ≡ none) × (a.second.edge ≡ none) }
-    ensures { ((m : ℕ → ℕ) (cs : List Send) → Does m cs (wakeup (own_of plan.now v) j) a result)
-        × (result.second.edge ≡ none) × (result.node.level ≡ 0) }
+pub fn wakeup(edges: Edges, j: u16, a: Response) -> Response
+    requires mark { a.newmark ≡ None }
+    requires first { a.first ≡ None }
+    requires second { a.second ≡ None }
+    ensures does { (m : ℕ → ℕ) (cs : List Send) → Does m cs (wakeup (as_own edges.entry) j) a result }
+    ensures room { result.second ≡ None }
+    ensures level { result.node.level ≡ 0 }
 {
-    wake_on(j, node_edges::earliest_own(plan, marks, v), a)
+    wake_on(j, edges.earliest(), a)
 }
 
 // A sleeper wakes, by a message that came over j.
-pub fn awake<'a>(plan: &'a Plan, marks: &'a Marks, v: u16, j: u16, a: Response) -> Response
-    requires { (links_of plan.now ≤ max_links) × (a.newmark.edge ≡ none) × (a.first.edge ≡ none) × (a.second.edge ≡ none) }
-    ensures { ((m : ℕ → ℕ) (cs : List Send) → Does m cs (awake (own_of plan.now v) j) a result)
-        × (result.second.edge ≡ none) × ((result.newmark.edge ≡ none) ⊎ (result.node.level ≡ 0)) }
+#[tactic(auto, unfolding(node::specs::Rules::awake))]
+pub fn awake(edges: Edges, j: u16, a: Response) -> Response
+    requires mark { a.newmark ≡ None }
+    requires first { a.first ≡ None }
+    requires second { a.second ≡ None }
+    ensures does { (m : ℕ → ℕ) (cs : List Send) → Does m cs (awake (as_own edges.entry) j) a result }
+    ensures room { result.second ≡ None }
+    ensures level { (result.newmark ≡ None) ⊎ (result.node.level ≡ 0) }
 {
     if a.node.status == ASLEEP {
-        return wakeup(plan, marks, v, j, a);
+        wakeup(edges, j, a)
+    } else {
+        a
     }
-    a
 }
 
 // Procedure change-root. No mark was changed before it.
-pub fn change_root<'a>(plan: &'a Plan, marks: &'a Marks, v: u16, a: Response) -> Response
-    requires { (links_of plan.now ≤ max_links) × (a.newmark.edge ≡ none) × (a.second.edge ≡ none)
-        × ((a.node.best ≡ none) ⊎ (is_own plan.now v a.node.best ≡ true)) }
-    ensures { (cs : List Send) → Does (marks_in plan.now marks.now v) cs change_root a result }
+#[tactic(auto, using(field::proofs::laws::Edges::own_below), unfolding(node::specs::Rules::change_root))]
+pub fn change_root(edges: Edges, a: Response) -> Response
+    requires mark { a.newmark ≡ None }
+    requires second { a.second ≡ None }
+    requires best { (a.node.best ≡ none) ⊎ ((as_own edges).own a.node.best ≡ true) }
+    ensures { (cs : List Send) → Does (as_marks edges.entry) cs change_root a result }
 {
-    let e = a.node.best;
-    if e == NONE {
-        return node_response::refuse(a);
+    let best = a.node.best;
+    if best == NONE {
+        return a.refuse();
     }
-    if node_edges::mark_of(plan, marks, v, a.newmark, e) == BRANCH {
-        return node_response::say(a, node_response::a_change(e));
+    if edges.mark(best) == BRANCH {
+        return a.say(best, NodeMessage::ChangeRoot);
     }
-    let mut b = a;
-    b.newmark.edge = e;
-    b.newmark.mark = BRANCH;
-    node_response::say(b, node_response::a_connect(e, a.node.level))
+    a.with_mark(best, BRANCH).say(
+        best,
+        NodeMessage::Connect {
+            level: a.node.level,
+        },
+    )
 }

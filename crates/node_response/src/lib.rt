@@ -1,177 +1,115 @@
 // A response worked out by value: what it answers, the new node, at most one new mark, and what it sends.
 #![tactic(auto)]
 
-ghost use Rattle.std.specs.Prelude.{◌≡◌, List, ℕ};
-ghost use Rattle.format_message.specs.Msg.{none, connect, initiate, test, accept, reject, report, change};
-ghost use Rattle.node.specs.Work.{Send, put_back, refused};
-ghost use Rattle.node_response.specs.Response.{Does, Says, packet_for, begun};
+ghost use Rattle.std.specs.Prelude.{◌≡◌, List, ℕ, None};
+ghost use Rattle.format_message.specs.NodeMessage.{as_msg};
+ghost use Rattle.node.specs.Work.{Send, put_back, refused, send, set_mark, with_node};
+ghost use Rattle.node_response.specs.Response.{Does, begun};
 
-use base::NONE;
-use node::{BACK, BASIC, Node, REFUSED, TAKEN};
+use format_message::NodeMessage;
+use node::Node;
 use node_edges::NewMark;
 
-// The kinds, numbered as in document 01.
-pub const CONNECT: u8 = 1;
+// What a response answers: the message is taken, put back behind those that wait, or refused by 32.
+#[derive(Clone, Copy, Debug, PartialEq, Eq)]
+pub enum NodeAnswer {
+    Taken,
+    Back,
+    Refused,
+}
 
-pub const INITIATE: u8 = 2;
-
-pub const TEST: u8 = 3;
-
-pub const ACCEPT: u8 = 4;
-
-pub const REJECT: u8 = 5;
-
-pub const REPORT: u8 = 6;
-
-pub const CHANGE_ROOT: u8 = 7;
-
-// A message and the own edge that it goes or came by, none for no message.
+// A message and the own edge that it goes or came by.
 #[derive(Clone, Copy)]
 pub struct Packet {
     pub edge: u16,
-    pub kind: u8,
-    pub level: u16,
-    pub carried: u16,
-    pub find: u8,
+    pub message: NodeMessage,
 }
 
-// answer: TAKEN, BACK or REFUSED. copies: 1 if the served message is copied to every other
-// branch. The copies go out first, then first, then second.
+// copies: whether the served message is copied to every other branch. The copies go out first, then first, then second.
 #[derive(Clone, Copy)]
 pub struct Response {
-    pub answer: u32,
+    pub answer: NodeAnswer,
     pub node: Node,
-    pub newmark: NewMark,
-    pub copies: u8,
-    pub first: Packet,
-    pub second: Packet,
+    pub newmark: Option<NewMark>,
+    pub copies: bool,
+    pub first: Option<Packet>,
+    pub second: Option<Packet>,
 }
 
-pub fn a_connect(edge: u16, level: u16) -> Packet
-    ensures { result ≡ packet_for edge (connect level) }
-{
-    Packet {
-        edge: edge,
-        kind: CONNECT,
-        level: level,
-        carried: NONE,
-        find: 0,
+impl Response {
+    // Nothing done yet.
+    pub fn begin(node: Node) -> Response
+        ensures { result ≡ begun node }
+    {
+        Response {
+            answer: NodeAnswer::Taken,
+            node,
+            newmark: None,
+            copies: false,
+            first: None,
+            second: None,
+        }
     }
-}
 
-pub fn an_initiate(edge: u16, level: u16, identity: u16, find: u8) -> Packet
-    ensures { result ≡ packet_for edge (initiate level identity find) }
-{
-    Packet {
-        edge: edge,
-        kind: INITIATE,
-        level: level,
-        carried: identity,
-        find: find,
+    // Refused by 32: the caller drops the rest.
+    pub fn refuse(self) -> Response
+        ensures { (m : ℕ → ℕ) (cs : List Send) → Does m cs refused self result }
+    {
+        Response {
+            answer: NodeAnswer::Refused,
+            ..self
+        }
     }
-}
 
-pub fn a_test(edge: u16, level: u16, identity: u16) -> Packet
-    ensures { result ≡ packet_for edge (test level identity) }
-{
-    Packet {
-        edge: edge,
-        kind: TEST,
-        level: level,
-        carried: identity,
-        find: 0,
+    // The served message is put back behind those that wait.
+    pub fn put_back(self) -> Response
+        ensures { (m : ℕ → ℕ) (cs : List Send) → Does m cs put_back self result }
+    {
+        Response {
+            answer: NodeAnswer::Back,
+            ..self
+        }
     }
-}
 
-// A message that is its kind alone.
-fn bare(edge: u16, kind: u8) -> Packet
-    ensures { result ≡ record { edge = edge; kind = kind; level = 0; carried = none; find = 0 } }
-{
-    Packet {
-        edge: edge,
-        kind: kind,
-        level: 0,
-        carried: NONE,
-        find: 0,
+    // The node becomes another.
+    pub fn with_node(self, node: Node) -> Response
+        ensures does { (m : ℕ → ℕ) (cs : List Send) → Does m cs (with_node node) self result }
+        ensures same { result ≡ record self { node = node } }
+    {
+        Response { node, ..self }
     }
-}
 
-pub fn an_accept(edge: u16) -> Packet
-    ensures { result ≡ packet_for edge accept }
-{
-    bare(edge, ACCEPT)
-}
-
-pub fn a_reject(edge: u16) -> Packet
-    ensures { result ≡ packet_for edge reject }
-{
-    bare(edge, REJECT)
-}
-
-pub fn a_report(edge: u16, weight: u16) -> Packet
-    ensures { result ≡ packet_for edge (report weight) }
-{
-    Packet {
-        edge: edge,
-        kind: REPORT,
-        level: 0,
-        carried: weight,
-        find: 0,
+    // Edge k's mark becomes c. No mark was changed before it.
+    pub fn with_mark(self, k: u16, c: u8) -> Response
+        requires { self.newmark ≡ None }
+        ensures does { (m : ℕ → ℕ) (cs : List Send) → Does m cs (set_mark k c) self result }
+        ensures same { result ≡ record self { newmark = Some (record { edge = k; mark = c }) } }
+    {
+        Response {
+            newmark: Some(NewMark { edge: k, mark: c }),
+            ..self
+        }
     }
-}
 
-pub fn a_change(edge: u16) -> Packet
-    ensures { result ≡ packet_for edge change }
-{
-    bare(edge, CHANGE_ROOT)
-}
-
-// Nothing done yet.
-pub fn begin(n: Node) -> Response
-    ensures { result ≡ begun n }
-{
-    let x = a_change(NONE);
-    Response {
-        answer: TAKEN,
-        node: n,
-        newmark: NewMark {
-            edge: NONE,
-            mark: BASIC,
-        },
-        copies: 0,
-        first: x,
-        second: x,
+    // One message more, behind those that are sent already.
+    pub fn say(self, edge: u16, message: NodeMessage) -> Response
+        requires { self.second ≡ None }
+        ensures does { (m : ℕ → ℕ) (cs : List Send) → Does m cs (send edge (as_msg message)) self result }
+        ensures node { result.node ≡ self.node }
+        ensures mark { result.newmark ≡ self.newmark }
+        ensures room { self.first ≡ None → result.second ≡ None }
+    {
+        let packet = Some(Packet { edge, message });
+        if self.first.is_none() {
+            Response {
+                first: packet,
+                ..self
+            }
+        } else {
+            Response {
+                second: packet,
+                ..self
+            }
+        }
     }
-}
-
-// Refused by 32: the caller drops the rest.
-pub fn refuse(a: Response) -> Response
-    ensures { (m : ℕ → ℕ) (cs : List Send) → Does m cs refused a result }
-{
-    let mut r = a;
-    r.answer = REFUSED;
-    r
-}
-
-// The served message is put back behind those that wait.
-pub fn put_back(a: Response) -> Response
-    ensures { (m : ℕ → ℕ) (cs : List Send) → Does m cs put_back a result }
-{
-    let mut r = a;
-    r.answer = BACK;
-    r
-}
-
-// One message more, behind those that are sent already.
-pub fn say(a: Response, x: Packet) -> Response
-    requires { a.second.edge ≡ none }
-    ensures { (m : ℕ → ℕ) (cs : List Send) → Says m cs x a result }
-{
-    let mut r = a;
-    if a.first.edge == NONE {
-        r.first = x;
-        return r;
-    }
-    r.second = x;
-    r
 }

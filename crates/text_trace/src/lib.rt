@@ -13,6 +13,7 @@ use base::NONE;
 use field::{Cells, Field, Marks};
 use format_text::Page;
 use node::Node;
+use node_edges::Edges;
 use plan::Plan;
 
 // A blank and a number.
@@ -62,25 +63,25 @@ fn values(page: &mut Page, n: Node)
     other_values(page, n);
 }
 
-// Module v's mark for link k, if k is a link of v.
-fn mark(page: &mut Page, plan: &Plan, marks: &Marks, v: u16, k: u16)
-    requires { (links_of plan.now ≤ max_links) × (k < links_of plan.now) }
-    ensures { HasPut page.old page.new (mark_text plan.now marks.now v k) }
+// A module's mark for link k, if k is a link of it.
+fn mark(page: &mut Page, edges: Edges, k: u16)
+    requires { k < max_links }
+    ensures { HasPut page.old page.new (mark_text edges.entry.plan.now edges.entry.marks.now edges.entry.v k) }
 {
-    if !node_edges::owns(plan, v, k) {
+    if !edges.owns(k) {
         return;
     }
     item(page, k);
-    page.put_named(b":", node_edges::mark_at(plan, marks, v, k) as u64);
+    page.put_named(b":", edges.mark(k) as u64);
 }
 
-// Module v's marks for its own links, by number.
-fn own_marks(page: &mut Page, plan: &Plan, marks: &Marks, v: u16)
-    requires { links_of plan.now ≤ max_links }
-    ensures { HasPut page.old page.new (marks_text plan.now marks.now v (links_of plan.now)) }
+// A module's marks for its own links, by number.
+fn own_marks(page: &mut Page, edges: Edges)
+    ensures { HasPut page.old page.new
+        (marks_text edges.entry.plan.now edges.entry.marks.now edges.entry.v (links_of edges.entry.plan.now)) }
 {
-    for k in 0..plan::links(plan) {
-        mark(page, plan, marks, v, k);
+    for k in 0..plan::links(edges.plan) {
+        mark(page, edges, k);
     }
 }
 
@@ -92,7 +93,7 @@ fn module_line(page: &mut Page, plan: &Plan, cells: &Cells, marks: &Marks, v: u1
     let n = field_cells::load(cells, v);
     page.put_named(b"module ", v as u64);
     values(page, n);
-    own_marks(page, plan, marks, v);
+    own_marks(page, Edges { plan, marks, v });
     page.put(b"\n");
 }
 

@@ -1,34 +1,21 @@
--- field_place::post_all: copies, first and second message behind one another, by `lots`; each finds room, by `lots-first`, `lots-second` and
--- `lots-third`.
-use Rattle.field_place.proofs.Puts.{lots-first, lots-second, lots-third, lots}
+-- field_place::post_all: the copies, if there are any, and the two messages behind one another, by `lots`.
+use Rattle.plan.specs.Links.{links_of}
+use Rattle.field.specs.State.{posted}
+use Rattle.node_response.specs.Response.{copies_of}
+use Rattle.field_place.proofs.Puts.{lots}
+use Rattle.field_place.proofs.Words.{posted-none}
+use Rattle.field_place.specs.Posted.{Posted, copies_to}
 use Rattle.field_place.proofs.post_all.Goals as goal
-
-pub post_told-m-requires : goal.post_told-m-requires
-post_told-m-requires c =
-    let s = c.before.before in
-    let a = s.args in
-    (s.requires.0, s.requires.1, lots-first a.plan.now a.marks.now a.v a.x a.a a.lent.now a.n s.requires.4)
-
-pub post-k-requires : goal.post-k-requires
-post-k-requires c =
-    let t = c.before.before.before in
-    let s = t.before.before.before in
-    let a = s.args in
-    (s.requires.2, lots-second a.plan.now a.marks.now a.v a.x a.a a.lent.now a.n s.requires.4 _ _ t.post_told-m.ensures)
-
-pub post-requires : goal.post-requires
-post-requires c =
-    let f = c.before.before.before in
-    let t = f.before.before.before.before in
-    let s = t.before.before.before in
-    let a = s.args in
-    (s.requires.3, lots-third a.plan.now a.marks.now a.v a.x a.a a.lent.now a.n s.requires.4 _ _ t.post_told-m.ensures _ _ f.post-k.ensures)
+use Rattle.field_place.proofs.post_all.Goals.{then-a, else-a}
 
 pub returns : goal.returns
 returns c =
-    let g = c.before.before in
-    let f = g.before.before.before.before in
-    let t = f.before.before.before.before in
-    let s = t.before.before.before in
-    let a = s.args in
-    lots a.plan.now a.marks.now a.v a.x a.a a.lent.now a.n s.requires.4 _ _ t.post_told-m.ensures _ _ f.post-k.ensures _ _ g.post.ensures
+    let e = c.args.edges in
+    let a = c.args.a in
+    let copies : Posted c.args.lent.now c.if-a.lent c.args.n c.if-a.m
+    (posted e.plan.now e.v (copies_of a.copies (copies_to e.plan.now e.marks.now e.v c.args.x (links_of e.plan.now)))) =
+    elim c.if-a.branch [
+      | then-a w ↦ rw (w.if-a.true, w.lent-is, w.m-is) w.post_copies-m.ensures
+      | else-a w ↦ rw (w.if-a.false, w.lent-is, w.m-is) (posted-none c.args.lent.now c.args.n)
+    ] in
+    lots e.plan.now e.marks.now e.v c.args.x a copies c.post-k.ensures c.post.ensures

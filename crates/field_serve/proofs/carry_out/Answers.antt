@@ -14,13 +14,21 @@ pub place-m-requires : goal.place-m-requires
 place-m-requires c =
     let y = c.requires.can c.if-d-ne0.false in
     let room = room-place _ _ _ c.args.d.at _ c.args.d.sends c.requires.ready.laid c.take_out-l.ensures (out-fits _ _ _ _ _ _ _ c.requires c.if-d-ne0.false) in
-    (c.take_out-l.ensures.laid, c.requires.ready.plan.links_ok, y.feasible.says, y.feasible.first, y.feasible.second, omega (arith, room, y.count), y.feasible.node)
+    record {
+      laid = c.take_out-l.ensures.laid;
+      small = c.requires.ready.plan.links_ok;
+      says = y.feasible.says;
+      first = y.feasible.first;
+      second = y.feasible.second;
+      room = omega (arith, room, y.count);
+      node = y.feasible.node;
+    }
 
 pub requeue-w-requires : goal.requeue-w-requires
 requeue-w-requires c =
     let y = c.requires.can c.if-d-ne0.false in (
-      c.place-m.ensures.0.laid,
-      λ z. room_back _ _ _ _ _ c.args.d.sends c.requires.ready.laid c.take_out-l.ensures (out-fits _ _ _ _ _ _ _ c.requires c.if-d-ne0.false) _ c.place-m.ensures.0 y.count y.feasible.served z,
+      c.place-m.ensures.words.laid,
+      λ z. room_back _ _ _ _ _ c.args.d.sends c.requires.ready.laid c.take_out-l.ensures (out-fits _ _ _ _ _ _ _ c.requires c.if-d-ne0.false) _ c.place-m.ensures.words y.count y.feasible.served z,
     )
 
 pub overflow_add-b : goal.overflow_add-b
@@ -29,6 +37,6 @@ overflow_add-b c =
 
 pub returns : goal.returns
 returns c =
-    out-placed _ _ _ _ _ _ _ c.requires c.if-d-ne0.false c.place-m.ensures.1 c.place-m.ensures.2
-    (holds_on _ c.take_out-l.ensures (put_holds _ _ c.take_out-l.ensures.laid c.place-m.ensures.0))
+    out-placed _ _ _ _ _ _ _ c.requires c.if-d-ne0.false c.place-m.ensures.cells c.place-m.ensures.marks
+    (holds_on _ c.take_out-l.ensures (put_holds _ _ c.take_out-l.ensures.laid c.place-m.ensures.words))
     c.requeue-w.ensures c.left.ensures

@@ -26,18 +26,10 @@ returns-then-node-ne-ASLEEP c =
     (wake-43 _ _ _ (leb-false _ _ (sym e.no_module.ensures ∙ e.if-no_module.false)) (λ q. t.if-node-ne-ASLEEP.true (ap (λ (n : Node). n.status) o.load-node.ensures ∙ q)))
     c.refused-then-node-ne-ASLEEP.ensures
 
-pub wakes-a-requires : goal.wakes-a-requires
-wakes-a-requires c = c.requires.0.links_ok
-
 pub judge-requires : goal.judge-requires
-judge-requires c = let s = c.before.before.before.before.before.before.before in (s.requires.0.links_ok, s.requires.2.fits.ceiling)
+judge-requires c = c.requires.2.fits.ceiling
 
 pub returns : goal.returns
 returns c =
-    let w = c.before in
-    let t = w.before in
-    let o = t.before.before in
-    let e = o.before in
-    let s = e.before.before.before in
-    waking _ _ _ _ _ _ s.requires.0 s.requires.2 (leb-false _ _ (sym e.no_module.ensures ∙ e.if-no_module.false)) _ o.load-node.ensures t.if-node-ne-ASLEEP.false _ w.wakes-a.ensures.1
-    w.wakes-a.ensures.0 c.judge.ensures
+    waking _ _ _ _ _ _ c.requires.0 c.requires.2 (leb-false _ _ (sym c.no_module.ensures ∙ c.if-no_module.false)) _ c.load-node.ensures c.if-node-ne-ASLEEP.false _
+    c.wakes-a.ensures c.judge.ensures

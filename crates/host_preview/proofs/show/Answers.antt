@@ -13,7 +13,7 @@ returns-then-buffer-d c =
 pub post_all-requires : goal.post_all-requires
 post_all-requires c =
     let can = c.requires.1 c.if-d-ne0.false in
-    (c.requires.0, can.feasible.says, can.feasible.first, can.feasible.second, omega (arith, can.count, c.if-buffer-d.false))
+    record { says = can.feasible.says; first = can.feasible.first; second = can.feasible.second; room = omega (arith, can.count, c.if-buffer-d.false) }
 
 pub returns : goal.returns
 returns c =

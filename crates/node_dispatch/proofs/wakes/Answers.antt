@@ -1,13 +1,13 @@
--- node_dispatch::wakes: `wakeup` on a response that has done nothing (`begun_fresh`), by `from-begun`.
-use mathlib.Core.List.{[]}
-use Rattle.node_response.proofs.laws.Response.{from-begun}
-use Rattle.node_dispatch.proofs.laws.Dispatch.{begun_fresh}
+-- node_dispatch::wakes: what `wakeup` ensures, at a response that has done nothing.
+use Rattle.std.proofs.Common.{ap, ◌∙◌}
+use Rattle.base.specs.None.{none}
+use Rattle.node.specs.Rules.{wakeup}
+use Rattle.node_edges.specs.Edges.{as_own, as_marks}
+use Rattle.node_response.specs.declared.Response.{Response}
+use Rattle.node_response.specs.Response.{work_of}
 use Rattle.node_dispatch.proofs.wakes.Goals as goal
 
-pub wakeup-requires : goal.wakeup-requires
-wakeup-requires c =
-    let f = begun_fresh c.begin.ensures in
-    (c.requires, f.edge, f.first, f.second)
-
 pub returns : goal.returns
-returns c = (λ cs. (from-begun c.begin.ensures (c.wakeup.ensures.0 _ cs)).0, (from-begun c.begin.ensures (c.wakeup.ensures.0 (λ k. 0) [])).1)
+returns c = λ cs.
+    let e = c.args.edges in
+    (c.wakeup.ensures.does (as_marks e) cs).work ∙ ap (λ (a : Response). wakeup (as_own e) none (work_of (as_marks e) cs a)) c.begin.ensures

@@ -10,4 +10,4 @@ returns-then-not-owns c = has_put_as (sym (mark-none _ _ _ _ (sym c.owns.ensures
 pub returns : goal.returns
 returns c =
     let own = sym c.owns.ensures ∙ c.if-not-owns.false in
-    has_put_as (sym (mark-shown _ _ _ _ _ own (c.mark_at.ensures own))) (search (rules, has_put_two))
+    has_put_as (sym (mark-shown _ _ _ _ _ own (c.mark.ensures own))) (search (rules, has_put_two))

@@ -9,4 +9,4 @@ unfolding marks_text
 loop-k-init c = search (rules, has_put_none)
 
 pub loop-k-preserved : goal.loop-k-preserved
-loop-k-preserved c = has_put_as (marks-turn c.args.plan.now c.args.marks.now c.args.v c.loop-k.k) (search (rules, has_put_two))
+loop-k-preserved c = has_put_as (marks-turn c.args.edges.plan.now c.args.edges.marks.now c.args.edges.v c.loop-k.k) (search (rules, has_put_two))
