@@ -22,7 +22,7 @@ use Rattle.field_calls.specs.Call.{Call, after, refused_run, run_bytes, run_roun
 use Rattle.field_calls.specs.Trail.{trail}
 use Rattle.preview.specs.Preview.{preview, not_shown}
 use Rattle.cue.specs.declared.Cue.{Cue}
-use Rattle.cue.specs.declared.Delivery.TheVariants.{Refused}
+use Rattle.cue.specs.Delivery.{Refused}
 use Rattle.cue.specs.Calls.{start_cue, deliver_cue}
 use Rattle.host_job.specs.Job.{job_run}
 use Rattle.text_trace.specs.Text.{summary_text}

@@ -12,8 +12,7 @@ use Rattle.plan_tree.specs.Tree.{tree_link}
 use Rattle.field.specs.Edges.{is_own, end_of, dest}
 use Rattle.field.specs.Held.{Held, valid}
 use Rattle.cue.specs.declared.Cue.{Cue}
-use Rattle.cue.specs.declared.Delivery.{Delivery}
-use Rattle.cue.specs.declared.Delivery.TheVariants.{Refused, Idle, Heard}
+use Rattle.cue.specs.Delivery.{Delivery, Refused, Idle, Heard}
 use Rattle.cue.specs.Record.{unheard, record_of, has_heard, sender_record, heard_record, alike, begun_cues}
 use Rattle.cue.specs.Copies.{waits_on, delivered}
 

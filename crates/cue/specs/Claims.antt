@@ -10,8 +10,7 @@ use Rattle.plan_tree.specs.Claim.{TreePath}
 use Rattle.field.specs.Edges.{from, dest}
 use Rattle.field.specs.Held.{Held, valid}
 use Rattle.cue.specs.declared.Cue.{Cue}
-use Rattle.cue.specs.declared.Delivery.{Delivery}
-use Rattle.cue.specs.declared.Delivery.TheVariants.{Refused, Idle, Heard}
+use Rattle.cue.specs.Delivery.{Delivery, Refused, Idle, Heard}
 use Rattle.cue.specs.Record.{unheard, record_of, has_heard}
 use Rattle.cue.specs.Copies.{waits_on, copies_sent, copies_waiting}
 use Rattle.cue.specs.Calls.{branches_agree, left_by_sending, start_cue, deliver_cue, refusal_number}

@@ -4,3 +4,4 @@ pub mod Copies
 pub mod Calls
 pub mod Follow
 pub mod Claims
+pub mod Delivery

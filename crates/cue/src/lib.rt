@@ -20,12 +20,9 @@ pub struct Cue {
 // The first records by value, as many as a plan can have modules.
 pub type Row = [Cue; MAX_MODULES as usize];
 
-// What a delivery answers.
+// What a delivery that is not refused comes to: no copy waits there, or it is heard.
 #[derive(Clone, Copy)]
-pub enum Delivery {
-    // by the refusal of this number
-    Refused(u32),
-    // no copy waits there
+pub enum Arrival {
     Idle,
     Heard,
 }

@@ -8,7 +8,7 @@ use Rattle.base.proofs.laws.Cond.{bool_cases, ltb-cases}
 use Rattle.plan.specs.Links.{Plan, links_of}
 use Rattle.field.specs.Held.{Held}
 use Rattle.cue.specs.declared.Cue.{Cue}
-use Rattle.cue.specs.declared.Delivery.TheVariants.{Refused, Idle, Heard}
+use Rattle.cue.specs.Delivery.{Refused, Idle, Heard}
 use Rattle.cue.specs.Copies.{waits_on, arrival, delivered}
 use Rattle.cue.specs.Calls.{left_by_sending, delivery_refusal, Delivered, deliver_cue}
 use Rattle.cue.specs.Claims.{deliveries, says_heard, heard_over}

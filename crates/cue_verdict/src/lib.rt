@@ -2,35 +2,34 @@
 #![tactic(auto)]
 
 mod delivery;
-mod refusal;
+mod gate;
 mod start;
 
-ghost use Rattle.std.specs.Prelude.{◌*◌, ◌<◌, ◌≡◌, true};
+ghost use Rattle.std.specs.Prelude.{ℕ, Ok, ◌*◌, ◌<◌, ◌≡◌, true};
 ghost use Rattle.base.specs.None.{none};
 ghost use Rattle.plan.specs.Links.{links_of};
 ghost use Rattle.plan.proofs.laws.Accepted.{Accepted};
-ghost use Rattle.cue.specs.Record.{unheard, sender_record, heard_record};
+ghost use Rattle.cue.specs.Record.{sender_record, heard_record};
 ghost use Rattle.cue.specs.Calls.{branches_agree, left_by_sending};
-ghost use Rattle.cue_verdict.specs.Verdict.{opening, arriving, hearing};
+ghost use Rattle.cue_verdict.specs.Verdict.{opened_of, heard_of, opening, arriving, hearing};
 
 use base::NONE;
-use cue::{Cue, Delivery, Row};
+use cue::{Cue, Row};
 use field::{Field, Marks};
 use plan::Plan;
+use refusal::Refusal;
 
-// A start: the first `count` records become unheard, then record `at` becomes `found`, the sender's. Where it is refused, count is 0 and at the number of records.
+// A start that is taken: the first `count` records become unheard, then record `at` becomes `found`, the sender's.
 #[derive(Clone, Copy)]
-pub struct Opening {
-    pub refusal: u32,
+pub struct Opened {
     pub count: usize,
     pub at: usize,
     pub found: Cue,
 }
 
-// A delivery: record `at` becomes `found`. Where none changes, at is the number of records.
+// A copy that is heard: record `at` becomes `found`.
 #[derive(Clone, Copy)]
 pub struct Hearing {
-    pub answer: Delivery,
     pub at: usize,
     pub found: Cue,
 }
@@ -60,69 +59,42 @@ fn heard_record(near: Cue, k: u16) -> Cue
     }
 }
 
-// A delivery that changes no record, where so many are lent.
-fn unchanged(answer: Delivery, lent: usize) -> Hearing
-    ensures { result ≡ record { answer = answer; at = lent; found = unheard } }
-{
-    let c = cue_records::unheard();
-    Hearing {
-        answer: answer,
-        at: lent,
-        found: c,
-    }
-}
-
-// A delivery that is not refused: heard where a copy waits on directed link d, else idle.
-fn arriving<'a>(plan: &'a Plan, marks: &'a Marks, lent: usize, row: Row, d: u16) -> Hearing
+// A delivery that is not refused: heard where a copy waits on directed link d, else idle; so many records are lent.
+fn arriving(plan: &Plan, marks: &Marks, row: Row, d: u16) -> Option<Hearing>
     requires { Accepted plan.now × (branches_agree plan.now marks.now ≡ true) × (left_by_sending plan.now row ≡ true)
         × (d < 2 * links_of plan.now) }
-    ensures { result ≡ arriving plan.now lent row d }
+    ensures { (lent : ℕ) → heard_of lent (Ok result) ≡ arriving plan.now lent row d }
 {
     if !cue_check::waits(plan, marks, row, d) {
-        let a = Delivery::Idle;
-        return unchanged(a, lent);
+        return None;
     }
     let near = row[cue_check::near_end(plan, d) as usize];
-    let c = heard_record(near, d / 2);
-    let a = Delivery::Heard;
-    Hearing {
-        answer: a,
-        at: cue_check::far_end(plan, d) as usize,
-        found: c,
-    }
+    let at = cue_check::far_end(plan, d) as usize;
+    let found = heard_record(near, d / 2);
+    Some(Hearing { at, found })
 }
 
-// The verdict on a start.
-pub fn open(f: Field, words: &[u64], lent: usize, sender: u16, cue: u16) -> Opening
-    ensures { result ≡ opening (record { field = f; words = words.now }) lent sender cue }
+// The verdict on a start, where so many records are lent.
+pub fn open(f: &Field, words: &[u64], lent: usize, sender: u16, cue: u16) -> Result<Opened, Refusal>
+    ensures { opened_of lent cue result ≡ opening (record { field = f.now; words = words.now }) lent sender cue }
 {
-    let bad = start::refusal(&f.plan, &f.cells, &f.marks, f.sent, words, lent, sender);
-    let c = sender_record(cue);
-    if bad != 0 {
-        return Opening {
-            refusal: bad,
-            count: 0,
-            at: lent,
-            found: c,
-        };
-    }
-    let n = plan::modules(&f.plan) as usize;
-    Opening {
-        refusal: 0,
-        count: n,
-        at: sender as usize,
-        found: c,
-    }
+    start::refusal(f, words, lent, sender)?;
+    let count = plan::modules(&f.plan) as usize;
+    let at = sender as usize;
+    let found = sender_record(cue);
+    Ok(Opened { count, at, found })
 }
 
-// The verdict on a delivery; row are the first records.
-pub fn decide(f: Field, words: &[u64], lent: usize, row: Row, d: u16) -> Hearing
-    ensures { result ≡ hearing (record { field = f; words = words.now }) lent row d }
+// The verdict on a delivery, where so many records are lent and row are the first of them: what is heard, if a copy waits.
+pub fn decide(
+    f: &Field,
+    words: &[u64],
+    lent: usize,
+    row: Row,
+    d: u16,
+) -> Result<Option<Hearing>, Refusal>
+    ensures { heard_of lent result ≡ hearing (record { field = f.now; words = words.now }) lent row d }
 {
-    let bad = delivery::refusal(&f.plan, &f.cells, &f.marks, f.sent, words, lent, row, d);
-    if bad != 0 {
-        let a = Delivery::Refused(bad);
-        return unchanged(a, lent);
-    }
-    arriving(&f.plan, &f.marks, lent, row, d)
+    delivery::refusal(f, words, lent, row, d)?;
+    Ok(arriving(&f.plan, &f.marks, row, d))
 }

@@ -1,34 +1,23 @@
 // Whether a start is refused, "by the first number that applies".
 ghost use Rattle.std.specs.Prelude.{◌≡◌};
+ghost use Rattle.refusal.specs.Number.{refusal_in};
 ghost use Rattle.cue.specs.Calls.{start_refusal};
-ghost use Rattle.field.specs.Held.{held_from};
 
-use crate::refusal;
-use field::{Cells, Marks};
-use plan::Plan;
+use crate::gate;
+use field::Field;
+use refusal::Refusal;
 
 // 31, 71, 72, then 73: of a start, where so many records are lent.
-pub fn refusal<'a>(
-    plan: &'a Plan,
-    cells: &'a Cells,
-    marks: &'a Marks,
-    sent: u32,
-    words: &[u64],
-    lent: usize,
-    sender: u16,
-) -> u32
-    ensures { result ≡ start_refusal (held_from plan.now cells.now marks.now sent words.now) lent sender }
+pub fn refusal(f: &Field, words: &[u64], lent: usize, sender: u16) -> Result<(), Refusal>
+    ensures { refusal_in result ≡ start_refusal (record { field = f.now; words = words.now }) lent sender }
 {
-    let bad = refusal::of_field(plan, cells, marks, sent, words);
-    if bad != 0 {
-        return bad;
-    }
-    let n = plan::modules(plan) as usize;
+    gate::of_field(f, words)?;
+    let n = plan::modules(&f.plan) as usize;
     if n <= sender as usize {
-        return 72;
+        return Err(Refusal::NoSender);
     }
     if lent < n {
-        return 73;
+        return Err(Refusal::Cues);
     }
-    0
+    Ok(())
 }

@@ -2,7 +2,7 @@
 use Rattle.std.specs.Prelude.{ℕ, List}
 use Rattle.field.specs.Held.{Held}
 use Rattle.cue.specs.declared.Cue.{Cue}
-use Rattle.cue.specs.declared.Delivery.{Delivery}
+use Rattle.cue.specs.Delivery.{Delivery}
 use Rattle.cue.specs.Calls.{deliver_cue, refusal_number, heard_number}
 use Rattle.library_cue.specs.declared.Answered.{Answered}
 

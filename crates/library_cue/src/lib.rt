@@ -3,10 +3,12 @@
 
 ghost use Rattle.std.specs.Prelude.{◌≡◌};
 ghost use Rattle.cue.specs.Calls.{start_cue};
+ghost use Rattle.cue.specs.Delivery.{delivery_of};
 ghost use Rattle.library_cue.specs.Answered.{in_numbers, deliver_in_numbers};
 
-use cue::{Cue, Delivery};
+use cue::{Arrival, Cue};
 use field::Field;
+use refusal::{Refusal, refusal_in};
 
 // A cue from module `sender`: 31, 71 to 73, or 0.
 #[unsafe(no_mangle)]
@@ -20,7 +22,7 @@ pub extern "C" fn muruapy_cue_start_value(
     ensures { record { refusal = result; state = cues.new }
         ≡ start_cue (record { field = f; words = words.now }) cues.old sender cue }
 {
-    host_cue::start(f, words, cues, sender, cue)
+    refusal_in(host_cue::start(&f, words, cues, sender, cue))
 }
 
 // What a delivery answers: the refusal or 0, and 1 if the copy was heard.
@@ -32,18 +34,17 @@ pub struct Answered {
 }
 
 // The answer as these two numbers.
-fn in_numbers(a: Delivery) -> Answered
-    ensures { result ≡ in_numbers a }
+fn in_numbers(a: Result<Arrival, Refusal>) -> Answered
+    ensures { result ≡ in_numbers (delivery_of a) }
 {
     match a {
-        Delivery::Refused(refusal) => Answered { refusal, heard: 0 },
-        Delivery::Idle => Answered {
+        Ok(arrival) => Answered {
             refusal: 0,
-            heard: 0,
+            heard: u32::from(matches!(arrival, Arrival::Heard)),
         },
-        Delivery::Heard => Answered {
-            refusal: 0,
-            heard: 1,
+        Err(refusal) => Answered {
+            refusal: refusal.number(),
+            heard: 0,
         },
     }
 }
@@ -59,5 +60,5 @@ pub extern "C" fn muruapy_cue_deliver_value(
     ensures { record { answered = result; cues = cues.new }
         ≡ deliver_in_numbers (record { field = f; words = words.now }) cues.old d }
 {
-    in_numbers(host_cue::deliver(f, words, cues, d))
+    in_numbers(host_cue::deliver(&f, words, cues, d))
 }

@@ -30,7 +30,7 @@ use Rattle.field_calls.specs.Trail.{if_taken, round_steps}
 use Rattle.field_laws.proofs.Fits.{FieldFits, fits-facts, facts-fits}
 use Rattle.field_laws.proofs.Laid.{waiting-zeros, zeros-all, layout-back, valid-parts, held_same}
 use Rattle.cue.specs.declared.Cue.{Cue}
-use Rattle.cue.specs.declared.Delivery.TheVariants.{Refused}
+use Rattle.cue.specs.Delivery.{Refused}
 use Rattle.cue.specs.Record.{record_of}
 use Rattle.cue.specs.Calls.{branches_agree, is_sender, left_by_sending, start_refusal, start_cue, delivery_refusal, deliver_cue}
 use Rattle.blank.specs.Claim.{Blank, zero_words, blank_step, blank_run}

@@ -5,7 +5,7 @@ use Rattle.std.proofs.Common.{ne_eqb}
 use Rattle.plan.specs.Links.{modules_of}
 use Rattle.field.specs.Held.{Held}
 use Rattle.cue.specs.declared.Cue.{Cue}
-use Rattle.cue.specs.declared.Delivery.TheVariants.{Refused, Idle, Heard}
+use Rattle.cue.specs.Delivery.{Refused, Idle, Heard}
 use Rattle.cue.specs.Record.{begun_cues}
 use Rattle.cue.specs.Copies.{waits_on, arrival, delivered}
 use Rattle.cue.specs.Calls.{start_refusal, start_cue, delivery_refusal, deliver_cue}

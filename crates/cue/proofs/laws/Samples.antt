@@ -23,8 +23,7 @@ use Rattle.field.specs.Valid as field2
 use Rattle.field.specs.Held as field3
 use Rattle.field.specs.Held.{Held, fresh_cells}
 use Rattle.cue.specs.declared.Cue.{Cue}
-use Rattle.cue.specs.declared.Delivery.{Delivery}
-use Rattle.cue.specs.declared.Delivery.TheVariants.{Refused, Idle, Heard}
+use Rattle.cue.specs.Delivery.{Delivery, Refused, Idle, Heard}
 use Rattle.cue.specs.Record.{unheard}
 use Rattle.cue.specs.Copies as cue1
 use Rattle.cue.specs.Calls as cue2

@@ -14,7 +14,7 @@ use Rattle.plan.proofs.laws.Accepted.{Accepted}
 use Rattle.field.specs.Edges.{link_of, from, dest}
 use Rattle.field.specs.Held.{Held, valid}
 use Rattle.cue.specs.declared.Cue.{Cue}
-use Rattle.cue.specs.declared.Delivery.TheVariants.{Refused, Idle, Heard}
+use Rattle.cue.specs.Delivery.{Refused, Idle, Heard}
 use Rattle.cue.specs.Record.{unheard, record_of, sender_record, heard_record, begun_cues}
 use Rattle.cue.specs.Copies.{waits_on}
 use Rattle.cue.specs.Calls.{start_refusal, start_cue, delivery_refusal, Delivered, deliver_cue}
@@ -22,9 +22,7 @@ use Rattle.cue.proofs.laws.Refusals.{valid-accepted, ready-accepted, start-facts
 use Rattle.cue.proofs.laws.Calls.{delivery-keeps, delivery-heard, delivery-idle}
 use Rattle.field_laws.proofs.Places.{from-below}
 use Rattle.cue_check.proofs.laws.Within.{left-agrees, waits-agrees}
-use Rattle.cue_verdict.specs.declared.Opening.{Opening}
-use Rattle.cue_verdict.specs.declared.Hearing.{Hearing}
-use Rattle.cue_verdict.specs.Verdict.{opening, arriving, hearing, loaded}
+use Rattle.cue_verdict.specs.Verdict.{Opening, Hearing, opening, arriving, hearing, loaded}
 
 -- A START
 

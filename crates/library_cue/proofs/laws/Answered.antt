@@ -1,6 +1,6 @@
 -- The numbers that C gets for each answer, computed (`answered-samples`).
 use Rattle.std.specs.Prelude.{◌≡◌, refl, [], ◌∷◌, map}
-use Rattle.cue.specs.declared.Delivery.TheVariants.{Refused, Idle, Heard}
+use Rattle.cue.specs.Delivery.{Refused, Idle, Heard}
 use Rattle.library_cue.specs.Answered.{in_numbers}
 
 pub answered-samples :

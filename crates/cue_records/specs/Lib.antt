@@ -1,0 +1,2 @@
+-- The list that a loop over the records has written so far.
+pub mod Written
