@@ -1,7 +1,7 @@
 // Setup: the field of a plan, all modules asleep, no word waiting.
 #![tactic(auto)]
 
-ghost use Rattle.std.specs.Prelude.{◌≡◌, length, replicate, ◌≤◌};
+ghost use Rattle.std.specs.Prelude.{◌≡◌, ◌≤◌};
 ghost use Rattle.base.specs.Limits.{max_links};
 ghost use Rattle.plan.specs.Links.{links_of};
 ghost use Rattle.plan.specs.Trimmed.{trimmed};
@@ -20,7 +20,7 @@ fn unmarked(p: Plan, cells: Cells) -> Field
 {
     Field {
         plan: p,
-        cells: cells,
+        cells,
         marks: [BASIC; MAX_ENDS],
         sent: 0,
     }
@@ -36,17 +36,6 @@ fn fresh_field(p: &Plan) -> Field
     unmarked(plan::trimmed(p), cells)
 }
 
-// All lent words become zero.
-pub fn zero_all(words: &mut [u64])
-    ensures { words.new ≡ replicate (length words.old) 0 }
-{
-    let mut i: usize = 0;
-    while i < words.len() {
-        words[i] = 0;
-        i += 1;
-    }
-}
-
 // Setup of a plan in lent words: 14 to 18, then 21. A refusal leaves the words as they were.
 pub fn setup(p: &Plan, words: &mut [u64]) -> Result<Field, Refusal>
     ensures { made result words.new ≡ set_up p.now words.old }
@@ -55,6 +44,6 @@ pub fn setup(p: &Plan, words: &mut [u64]) -> Result<Field, Refusal>
     if words.len() < plan::ceiling_of(p) as usize {
         return Err(Refusal::TooFewWords);
     }
-    zero_all(words);
+    words.fill(0);
     Ok(fresh_field(p))
 }

@@ -142,7 +142,7 @@ fn bring_back<'a>(r: &'a [u8], plan: &'a Plan, words: &mut [u64]) -> Field
 {
     let mut cells = [0u16; CELLS];
     let mut marks = [0u8; MAX_ENDS];
-    host_setup::zero_all(words);
+    words.fill(0);
     let sent = store_check::take_record(r, plan, &mut cells, &mut marks, words);
     Field {
         plan: *plan,

@@ -1,4 +1,4 @@
-use Rattle.std.proofs.Common.{arith}
+use Rattle.std.proofs.Common.{◌≡◌, length, replicate, arith, rules}
 use Rattle.std.proofs.lemmas.Bool.Decides.{nat_tests}
 use Rattle.refusal.proofs.laws.Number.{positive}
 use Rattle.plan.proofs.laws.Accepted.{accepted}
@@ -18,4 +18,6 @@ fresh_field-requires c = (accepted c.args.p.now (grind arith)).links_ok
 
 pub returns : goal.returns
 unfolding set_up
-returns c = grind (arith, nat_tests)
+returns c =
+    let zeros : c.fill.new.self ≡ replicate (length c.args.words.now) 0 = search rules in
+    grind (arith, nat_tests)

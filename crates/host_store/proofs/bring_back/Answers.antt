@@ -24,12 +24,12 @@ whole f a b d e = rw (a, b, d, e) refl
 pub take_record-sent-requires : goal.take_record-sent-requires
 take_record-sent-requires c =
     let p = c.requires in
-    (p.0, p.1, refl, refl, omega (arith, room c.args.r.now _ c.args.words.now p.0 p.1 p.2, ap length c.zero_all.ensures, length-replicate {A = ℕ} (length c.args.words.now) 0))
+    (p.0, p.1, refl, refl, omega (arith, room c.args.r.now _ c.args.words.now p.0 p.1 p.2, ap length (c.fill.ensures.after (λ y e. e)), length-replicate {A = ℕ} (length c.args.words.now) 0))
 
 pub returns : goal.returns
 returns c =
     let e = c.take_record-sent.ensures in
     let r = c.args.r.now in (
       whole (held_in r).field c.requires.1 e.0 e.1 e.2,
-      e.3 ∙ ap (λ (l : List ℕ). sets l 0 (held_in r).words) c.zero_all.ensures ∙ zeros-set (length c.args.words.now) (held_in r).words (room r _ c.args.words.now c.requires.0 c.requires.1 c.requires.2),
+      e.3 ∙ ap (λ (l : List ℕ). sets l 0 (held_in r).words) (c.fill.ensures.after (λ y e. e)) ∙ zeros-set (length c.args.words.now) (held_in r).words (room r _ c.args.words.now c.requires.0 c.requires.1 c.requires.2),
     )
