@@ -18,10 +18,13 @@ pub struct Source {
     pub functions: Vec<Function>,
 }
 
+fn margin(line: &str) -> usize {
+    line.len() - line.trim_start().len()
+}
+
 /// The line after the one on which the brackets that `from` opens are closed again.
 fn block_end(lines: &[&str], from: usize) -> usize {
     let (mut depth, mut opened) = (0i32, false);
-    let margin = |line: &str| line.len() - line.trim_start().len();
     for (i, line) in lines.iter().enumerate().skip(from) {
         for c in line.chars() {
             depth += match c {
@@ -123,9 +126,8 @@ fn unnamed(all: Vec<Placed>) -> (Vec<Placed>, Vec<String>) {
 fn clauses(lines: &[&str], from: usize, to: usize) -> (usize, Vec<Placed>, Vec<String>, usize) {
     let is_clause = |l: &str| l.split_whitespace().next().is_some_and(|w| CLAUSES.contains(&w)) && l.contains('{');
     let first = (from..to).find(|&i| is_clause(lines[i])).unwrap_or(to);
-    let body = (from..to)
-        .find(|&i| lines[i].starts_with('{') || (lines[i].trim_end().ends_with('{') && i < first))
-        .unwrap_or(to);
+    let opens = |l: &str| l.trim_start().starts_with('{') && margin(l) == margin(lines[from]);
+    let body = (from..to).find(|&i| opens(lines[i]) || (lines[i].trim_end().ends_with('{') && i < first)).unwrap_or(to);
     let first = first.min(body);
     let (contract, ghosts) = unnamed(tokens(&lines[first..body].join("\n"), first + 1, Language::Antt));
     (first, contract, ghosts, body)
@@ -140,10 +142,22 @@ fn item(name: &str, line: usize, lines: usize, public: bool, sort: Sort) -> Item
     Item { name: name.to_string(), line, lines, public, open: true, sort, members, groups, aside }
 }
 
-/// A function: lines `from` up to `to`.
+/// The lemmas of `using(a::b::c)` in a function's attributes, by their names in antt.
+fn lemmas(attributes: &[Placed]) -> Vec<Placed> {
+    let behind = attributes.iter().skip_while(|t| !t.is("using")).take_while(|t| t.mark() != Some(')'));
+    let paths = behind.filter_map(|t| match &t.token {
+        Token::Word(path) if path.len() > 1 => Some((t, [&["Rattle".to_string()], &path[..]].concat())),
+        _ => None,
+    });
+    paths.map(|(t, path)| Placed { token: Token::Word(path), ..t.clone() }).collect()
+}
+
+/// A function: lines `from` up to `to`, the attributes above it.
 fn function(lines: &[&str], from: usize, to: usize, out: &mut Source) {
     let (first, contract, ghosts, body) = clauses(lines, from, to);
     let code = |a: usize, b: usize| tokens(&lines[a..b].join("\n"), a + 1, Language::Rattle);
+    let above = lines[..from].iter().rev().take_while(|l| l.trim_start().starts_with("#[")).count();
+    let attributes = code(from - above, from);
     let head = code(from, first.max(from + 1));
     let Some(name) = head.iter().skip_while(|t| !t.is("fn")).nth(1).and_then(Placed::name).map(str::to_string) else {
         return;
@@ -155,14 +169,14 @@ fn function(lines: &[&str], from: usize, to: usize, out: &mut Source) {
         &name,
         from + 1,
         first.max(from + 1) - from + body - first,
-        lines[from].starts_with("pub"),
+        lines[from].trim_start().starts_with("pub"),
         Sort::Function,
     );
     let header = binders(&head, ghosts);
     let own = header.len();
-    let contract = header.into_iter().chain(contract).collect();
+    let contract = header.into_iter().chain(contract).chain(lemmas(&attributes)).collect();
     found.groups = vec![plain_group(types, 0), plain_group(contract, own)];
-    found.aside = vec![plain_group(code(body, to), 0)];
+    found.aside = vec![plain_group(code(body, to), 0), plain_group(attributes, 0)];
     out.parsed.items.push(found);
 }
 
@@ -191,7 +205,7 @@ pub fn parse(text: &str) -> Source {
             lines[i].split_whitespace().skip_while(|w| ["pub", "extern", "ghost"].contains(w)).collect();
         let end = block_end(&lines, i).max(i + 1);
         match words.iter().find(|w| !w.is_empty()).copied() {
-            Some("use") if lines[i].starts_with("ghost") => {
+            Some("use") if lines[i].trim_start().starts_with("ghost") => {
                 out.ghosts.extend(ghost_import(&lines[i..end].join(" "), i + 1))
             }
             Some("use") => out.parsed.uses.extend(code_imports(&lines[i..end].join(" "), i + 1)),

@@ -1,4 +1,5 @@
 use crate::antt::{parse, Sort};
+use crate::words::Token;
 use crate::{rattle, Target, Tree};
 
 #[path = "made.rs"]
@@ -106,6 +107,20 @@ fn functions_and_contracts() {
     let made = Made::new(&[("crates/a/src/lib.rt", text)]);
     let tree = Tree::load(made.top());
     assert_eq!(named(&tree, "f"), ["M.spec"]);
+}
+
+#[test]
+fn methods_and_attributes() {
+    let text = "// head\nimpl S {\n    ghost use M.{spec, body, MOST};\n\n    // says\n    #[tactic(auto, using(crate::proofs::P::law, b::specs::B::f), unfolding(c::specs::C::g))]\n    pub fn f(self) -> u8\n        ensures { result ≡ spec }\n    {\n        body(0..d::MOST)\n    }\n}\n";
+    let made = Made::new(&[("crates/a/src/lib.rt", text)]);
+    let tree = Tree::load(made.top());
+    assert_eq!(named(&tree, "f"), ["M.spec", "Rattle.a.proofs.P.law", "Rattle.b.specs.B.f"]);
+    let words = tree.files[0].items[0].aside.iter().flat_map(|g| &g.tokens).filter_map(|t| match &t.token {
+        Token::Word(path) if path.len() > 1 => Some(path.join("::")),
+        _ => None,
+    });
+    let said = ["d::MOST", "crate::proofs::P::law", "b::specs::B::f", "c::specs::C::g"];
+    assert_eq!(words.collect::<Vec<_>>(), said);
 }
 
 #[test]

@@ -245,7 +245,10 @@ impl Tree {
         if path.len() > 1 {
             let module = match scope.modules.get(&path[0]) {
                 Some(module) => [module, &path[1..path.len() - 1]].concat(),
-                None if path[0] == "Rattle" => path[..path.len() - 1].to_vec(),
+                None if path[0] == "Rattle" => {
+                    let of = if path[1] == "crate" { &self.files[file].of } else { &path[1] };
+                    [&[path[0].clone(), of.clone()], &path[2..path.len() - 1]].concat()
+                }
                 None => return plain(&path[0]).unwrap_or_default(),
             };
             return vec![self.meaning(&module, &path[path.len() - 1])];

@@ -127,7 +127,8 @@ fn line_tokens(text: &str, line: usize, language: Language, out: &mut Vec<Placed
     let chars: Vec<char> = text.chars().collect();
     let mut i = 0;
     while i < chars.len() {
-        let field = chars[i] == '.' && chars.get(i + 1).is_some_and(|&c| in_name(c, language));
+        let range = i > 0 && chars[i - 1] == '.';
+        let field = chars[i] == '.' && !range && chars.get(i + 1).is_some_and(|&c| in_name(c, language));
         let start = if field { i + 1 } else { i };
         if in_name(chars[start], language) {
             let (path, end) = path_from(&chars, start, language);

@@ -14,7 +14,6 @@ use Rattle.base.specs.Keep.{place}
 use Rattle.base.proofs.laws.Keep.{FirstThat, first_passes, first_out, place-first}
 use Rattle.base.proofs.laws.Pool.{All-here}
 use Rattle.base.specs.None.{none}
-use Rattle.format_message.specs.Msg.{Msg}
 use Rattle.format_message.specs.Header.{level_at}
 use Rattle.format_message.specs.Listed.{bare, listed_as, listed}
 use Rattle.format_message.proofs.laws.Means.{Means, means}
@@ -23,7 +22,7 @@ use Rattle.plan.specs.Links.{Plan, modules_of, links_of}
 use Rattle.plan.proofs.laws.Accepted.{Accepted}
 use Rattle.node.specs.declared.Node.{Node}
 use Rattle.node.specs.Work.{Own, Work, Send, BACK, ASLEEP, TAKEN, earliest, any_edge}
-use Rattle.node.specs.Rules.{respond, wake_on, wakes}
+use Rattle.node.specs.Rules.{wake_on, wakes}
 use Rattle.node_response.specs.declared.Response.{Response}
 use Rattle.node_response.specs.Response.{answer_of, work_of}
 use Rattle.node_joining.specs.Copies.{copies_in}
@@ -91,12 +90,6 @@ word-listed p x e =
     let b = (and-eq-true_iff _ (ltb (link_in x) (2 * links_of p))).0 a.0 in
     let c = (and-eq-true_iff (laid_out x) (link_or_none p (carried_in x))).0 b.0 in
     ((and-eq-true_iff (shaped x) (listed (header_in x) (carried_in x))).0 c.0).1
-
--- the same under equal names
-pub responds-as : (o : Own) (m : ℕ → ℕ) (r : Response) (limit : ℕ) {x y : ℕ} {k l : Msg} {n node : Node} → x ≡ y → k ≡ l → n ≡ node
-    → work_of m (copies_in o x k m) r ≡ respond o limit k x n m
-    → work_of m (copies_in o y l m) r ≡ respond o limit l y node m
-responds-as o m r limit d e f h = rw (← d, ← e, ← f) h
 
 -- ---- in a field that passed 31
 
