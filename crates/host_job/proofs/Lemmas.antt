@@ -1,10 +1,10 @@
--- The schedule as the code writes it: a wake or none (`wake-none`, `wake-one`), those of the modules below v (`low-next`), all, with the head (`schedule-written`).
+-- The schedule as the code writes it: the wakes of the modules below v (`low_off`, `low-next`), all, with the head (`schedule-written`).
 use Prim.Native.Nat.{ℕ, suc, ◌+◌, ◌-◌, ◌*◌, ◌≤◌}
 use native.Mathlib.Omega.{arith}
 use native.Mathlib.Numerals.{add-one}
-use mathlib.Core.Path.{◌≡◌, refl, ap, ◌∙◌}
-use mathlib.Core.Bool.{Bool, true, false, cond}
-use mathlib.Core.List.{List, [], ◌∷◌, ◌++◌}
+use mathlib.Core.Path.{◌≡◌, sym, ap, ◌∙◌}
+use mathlib.Core.Bool.{true, false, cond}
+use mathlib.Core.List.{List, [], ◌∷◌, ◌++◌, append-nil}
 use lib.ListN.{length, length-append, set, take, drop}
 use lib.Seq.{sets, sets-eq, take-append_seam}
 use Rattle.base.proofs.laws.Sets.{sets-append}
@@ -19,13 +19,6 @@ use Rattle.field.specs.Step.{WAKE}
 use Rattle.host_job.specs.Job.{wake_steps, most_wakes, job_wakes}
 use Rattle.host_job.proofs.laws.Wakes.{length-wakes}
 
-module _ (s : List ℕ) (at v : ℕ) (due : Bool) where
-  pub wake-none : due ≡ false → (s ≡ sets s at (cond due (WAKE ∷ bytes16 v) [])) × (at ≡ at + length (cond due (WAKE ∷ bytes16 v) []))
-  wake-none e = rw e (refl, omega arith)
-
-  pub wake-one : due ≡ true → (put16 (set s at WAKE) (at + 1) v ≡ sets s at (cond due (WAKE ∷ bytes16 v) [])) × (at + 3 ≡ at + length (cond due (WAKE ∷ bytes16 v) []))
-  wake-one e = rw (e, add-one at, add-one (suc at)) (refl, omega arith)
-
 -- the wakes among the modules below v
 abbrev pub low_wakes : Graph → ℕ → List ℕ
 low_wakes g v = wake_steps (lowests g v)
@@ -33,16 +26,24 @@ low_wakes g v = wake_steps (lowests g v)
 pub low-room : (g : Graph) (v : ℕ) → length (low_wakes g v) ≤ 3 * v
 low-room g v = omega (arith, length-wakes (lowests g v), lowests-many g v)
 
-pub low-next : (g : Graph) (s t u : List ℕ) (at v r : ℕ) (due : Bool) → at ≡ 3 + length (low_wakes g v) → t ≡ sets s 3 (low_wakes g v) → due ≡ lowest g v
-    → u ≡ sets t at (cond due (WAKE ∷ bytes16 v) []) → r ≡ at + length (cond due (WAKE ∷ bytes16 v) [])
-    → (r ≡ 3 + length (low_wakes g (v + 1))) × (u ≡ sets s 3 (low_wakes g (v + 1)))
-unfolding wake_steps
-low-next g s t u at v r due a b d e f =
-    let x = cond due (WAKE ∷ bytes16 v) [] in
-    let n : low_wakes g v ++ x ≡ low_wakes g (v + 1) = rw (add-one v, d) (lowests-flat g (λ w. WAKE ∷ bytes16 w) v) in (
-      omega (arith, ap length n, length-append (low_wakes g v) x),
-      e ∙ rw (b, a) (sets-append s 3 (low_wakes g v) x) ∙ ap (sets s 3) n,
-    )
+-- a module that is no part's lowest, and one that is
+module _ (g : Graph) (v : ℕ) where
+  pub low_off : lowest g v ≡ false → low_wakes g v ≡ low_wakes g (v + 1)
+  unfolding wake_steps
+  low_off e = rw (add-one v) (sym (append-nil (low_wakes g v)) ∙ ap (λ b. low_wakes g v ++ cond b (WAKE ∷ bytes16 v) []) (sym e) ∙ lowests-flat g (λ w. WAKE ∷ bytes16 w) v)
+
+  low_on : lowest g v ≡ true → low_wakes g v ++ (WAKE ∷ bytes16 v) ≡ low_wakes g (v + 1)
+  unfolding wake_steps
+  low_on e = rw (add-one v) (ap (λ b. low_wakes g v ++ cond b (WAKE ∷ bytes16 v) []) (sym e) ∙ lowests-flat g (λ w. WAKE ∷ bytes16 w) v)
+
+  pub low-next : (s t u : List ℕ) (at : ℕ) → at ≡ 3 + length (low_wakes g v) → t ≡ sets s 3 (low_wakes g v) → lowest g v ≡ true
+      → u ≡ sets t at (WAKE ∷ bytes16 v) → (at + 3 ≡ 3 + length (low_wakes g (v + 1))) × (u ≡ sets s 3 (low_wakes g (v + 1)))
+  low-next s t u at a b d e =
+      let x = WAKE ∷ bytes16 v in
+      let n = low_on d in (
+        omega (arith, ap length n, length-append (low_wakes g v) x),
+        e ∙ rw (b, a) (sets-append s 3 (low_wakes g v) x) ∙ ap (sets s 3) n,
+      )
 
 -- the head before the steps
 headed : (s steps : List ℕ) → 3 + length steps ≤ length s

@@ -1,7 +1,7 @@
 // The whole job on one plan: setup, a wake of the lowest module of each part, rounds until the field is at rest.
 #![tactic(auto)]
 
-ghost use Rattle.std.specs.Prelude.{◌+◌, ◌≤◌, ◌<◌, ◌≡◌, cond, [], ◌∷◌, length, take};
+ghost use Rattle.std.specs.Prelude.{◌+◌, ◌≤◌, ◌<◌, ◌≡◌, ◌∷◌, length, take};
 ghost use Rattle.std.proofs.lemmas.List.Edits.{sets};
 ghost use Rattle.format_int16.specs.Int16.{bytes16};
 ghost use Rattle.graph.specs.Parts.{lowests};
@@ -30,18 +30,13 @@ pub struct JobDone {
     pub field: Field,
 }
 
-// A wake of module v from byte `at` on, if it is due; the place behind it.
-fn put_wake(out: &mut [u8], at: usize, v: u16, due: bool) -> usize
+// A wake of module v, from byte `at` on.
+fn put_wake(out: &mut [u8], at: usize, v: u16)
     requires { at + 2 < length out.old }
-    ensures { (out.new ≡ sets out.old at (cond due (WAKE ∷ bytes16 v) []))
-        × (result ≡ at + length (cond due (WAKE ∷ bytes16 v) [])) }
+    ensures { out.new ≡ sets out.old at (WAKE ∷ bytes16 v) }
 {
-    if !due {
-        return at;
-    }
     out[at] = WAKE;
     format_int16::put(out, at + 1, v);
-    at + 3
 }
 
 // The wakes of the lowest module of each part, from byte 3 on; the place behind them.
@@ -52,13 +47,12 @@ fn put_wakes(p: &Plan, out: &mut [u8]) -> usize
 {
     let mut parts = [0u8; LABELS];
     plan_labels::merge(p, &mut parts);
-    let end = plan::modules(p);
-    let mut at: usize = 3;
-    let mut v: u16 = 0;
-    while v < end {
-        let due = plan_labels::lowest(&parts, v as usize);
-        at = put_wake(out, at, v, due);
-        v += 1;
+    let mut at = 3;
+    for v in 0..plan::modules(p) {
+        if plan_labels::lowest(&parts, v as usize) {
+            put_wake(out, at, v);
+            at += 3;
+        }
     }
     at
 }
