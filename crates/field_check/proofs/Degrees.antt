@@ -1,4 +1,4 @@
--- Counting the links of each module: one link more raises the counts of its two modules (`counted-on`).
+-- Counting the links of each module: one link more raises the counts of its two modules (`degrees-on`).
 use Prim.Native.Nat.{ℕ, zero, suc, ◌+◌, ◌≤◌, ◌<◌}
 use native.Mathlib.Omega.{arith}
 use native.Mathlib.Numerals.{add-one}

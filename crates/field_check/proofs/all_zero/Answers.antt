@@ -1,3 +1,4 @@
+-- field_check::all_zero: the definition's test of all words, by `all_of-is`.
 use Rattle.std.proofs.Common.{rules, tests}
 use Rattle.std.proofs.lemmas.Iterator.{YieldsList-from_slice}
 use Rattle.std.proofs.lemmas.Iterator.Search.{all_from_yields_List}

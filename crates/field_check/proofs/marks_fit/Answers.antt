@@ -1,3 +1,4 @@
+-- field_check::marks_fit: the test of the first marks is that of all directed ends, by `every-front`.
 use Rattle.std.proofs.Common.{leb, take, rules, tests, arith, ◌*◌}
 use Rattle.std.proofs.lemmas.Iterator.{YieldsList-from_slice}
 use Rattle.std.proofs.lemmas.Iterator.Search.{all_from_yields_List}

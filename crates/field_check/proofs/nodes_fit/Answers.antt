@@ -1,3 +1,4 @@
+-- field_check::nodes_fit: the test of a range is that of all modules, by `every-is`.
 use Rattle.std.proofs.Common.{rules, tests, arith}
 use Rattle.std.proofs.lemmas.Iterator.{YieldsList-from_range}
 use Rattle.std.proofs.lemmas.Iterator.Search.{all_from_yields_List}

@@ -1,3 +1,4 @@
+-- field_check::waiting: the words before the first zero, counted, are those that wait, by `waiting-is`.
 use Rattle.std.proofs.Common.{eqb, not, rules, tests}
 use Rattle.std.proofs.lemmas.Iterator.{YieldsList-from_slice}
 use Rattle.std.proofs.lemmas.Iterator.Consumers.{count_from_yields_List}

@@ -1,3 +1,4 @@
+-- field_search::first_in_air: what position answers (`position_from_yields_List`) is the definition's place, by `first-is`.
 use Rattle.std.proofs.Common.{rules, tests}
 use Rattle.std.proofs.lemmas.Iterator.{YieldsList-from_slice}
 use Rattle.std.proofs.lemmas.Iterator.Search.{position_from_yields_List}

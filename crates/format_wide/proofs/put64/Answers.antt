@@ -1,3 +1,4 @@
+-- format_wide::put64: the library's bytes are the definition's (`eight-made`), and one copy is their run of stores (`part-set`).
 use Rattle.std.proofs.Common.{◌∙◌, arith}
 use Rattle.base.proofs.laws.Sets.{part-set}
 use Rattle.format_wide.specs.Wide.{bytes64}

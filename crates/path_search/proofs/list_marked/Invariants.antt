@@ -1,4 +1,4 @@
--- path_search::list_marked: the first k bytes' marks are listed, by `marked_more` and `marked-skip`.
+-- path_search::list_marked: the marks of the first k bytes are listed.
 use Rattle.std.proofs.Common.{◌≤◌}
 use Rattle.path_search.specs.Spread.{ListsTree}
 use Rattle.path_search.proofs.list_marked.Given as goal

@@ -1,5 +1,5 @@
 -- A trimmed plan means the plan (`trimmed-same`), is accepted with it (`trimmed-taken`) and is trimmed (`trimmed-again`). A loop that fills a plan of zeros
--- leaves a padded one (`none_read`, `one-read`, `all_read`).
+-- leaves a padded one (`none_read`, `one-read`, `all_read`), as does one of which the rest became zero (`zeroed`).
 use Rattle.std.specs.Prelude.{ℕ, suc, ◌+◌, ◌*◌, ◌-◌, ◌≤◌, ◌<◌, ◌≡◌, ◌++◌, set}
 use Rattle.std.proofs.Common.{arith, ap, ◌∙◌, length-append, get_or-append-add}
 use Rattle.std.proofs.Math.Path.{sym}

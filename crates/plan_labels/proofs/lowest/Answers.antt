@@ -1,3 +1,4 @@
+-- plan_labels::lowest: that no label before v's is the same, by `none-is`, of all nodes below v, by `every-front`.
 use Rattle.std.proofs.Common.{eqb, not, ap, ◌∙◌, get_or, take, arith}
 use Rattle.base.proofs.laws.Chains.{every-front, none-is}
 use Rattle.plan_labels.proofs.lowest.Goals as goal

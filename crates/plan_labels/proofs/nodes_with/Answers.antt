@@ -1,3 +1,4 @@
+-- plan_labels::nodes_with: the labels that are the same, counted, are the definition's sum, by `sum-front`.
 use Rattle.std.proofs.Common.{eqb, get_or, rules, arith}
 use Rattle.base.proofs.laws.Chains.{sum-front}
 use Rattle.plan_labels.proofs.nodes_with.Goals as goal

@@ -1,4 +1,4 @@
--- plan_tree::scan: `Firsts` of the first k edges, and how many of them are apart (`sum-next`).
+-- plan_tree::scan: `Firsts` of the first k edges, and how many of them are apart (`apart_at`).
 use Rattle.std.proofs.Common.{◌≡◌}
 use Rattle.base.specs.Sum.{sum}
 use Rattle.plan.specs.Links.{graph_of}
