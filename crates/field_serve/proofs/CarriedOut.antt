@@ -7,6 +7,11 @@ use mathlib.Core.List.{List, ◌++◌}
 use lib.ListN.{length, take}
 use lib.Seq.{length-take-le}
 use borrow.Author.Tests.{ne_eqb}
+use Rattle.std.specs.Prelude.{Err}
+use Rattle.refusal.specs.declared.Refusal.{Refusal}
+use Rattle.refusal.specs.Number.{numbered}
+use Rattle.refusal.proofs.laws.Number.{positive}
+use Rattle.field.specs.declared.Field.{Field}
 use Rattle.base.specs.Limits.{max_words}
 use Rattle.base.specs.Loop.{After, taken_to}
 use Rattle.base.proofs.laws.Ceiling.{ceiling-most}
@@ -21,12 +26,10 @@ use Rattle.field_cells.proofs.Marks.{mark-put}
 use Rattle.field_place.specs.Posted.{sends_by}
 use Rattle.field_words.specs.Hands.{lent_state}
 use Rattle.field_check.specs.Ready.{Ready}
-use Rattle.field_verdict.specs.declared.Verdict.{Verdict}
-use Rattle.field_verdict.specs.Verdict.{work_in, outcome, Decided}
+use Rattle.field_verdict.specs.Verdict.{Verdict, verdict_of, work_in, outcome, Decided}
 use Rattle.field_verdict.proofs.Decided.{decided-own}
-use Rattle.field_serve.specs.declared.Done.{Done}
 use Rattle.field_serve.specs.Holds.{Holds}
-use Rattle.field_serve.specs.Lent.{Advances, Executable, CarriedOut}
+use Rattle.field_serve.specs.Lent.{Done, Advances, Executable, CarriedOut, Moves}
 use Rattle.field_serve.proofs.Holds.{holds_on}
 use Rattle.field_serve.proofs.Ready.{advances}
 
@@ -77,3 +80,9 @@ module _ (p : Plan) (cells marks lent : List ℕ) (b : Done) (v : ℕ) (y : Verd
     pub out-advances : Sound p (g p before).state → {d : Done} {cells' marks' lent' : List ℕ} → CarriedOut p v y cells marks lent b d cells' marks' lent'
         → length lent' ≡ length lent → Advances g p cells marks lent b d cells' marks' lent'
     out-advances h o = advances p cells marks lent b r g h (o.is ∙ sym (decided-own t).is) o.laid
+
+-- a step that was refused: nothing is altered
+module _ (f : Field) (lent : List ℕ) (n v : ℕ) (r : Ready f.plan f.cells f.marks lent n f.sent) (g : Plan → State → After State) {w : Work} (x : Refusal)
+    (t : Decided (g f.plan (lent_state f.cells f.marks lent n f.sent)) w f.plan v (lent_state f.cells f.marks lent n f.sent) (verdict_of (Err x))) where
+  pub refused-moves : Moves g f lent n (numbered x) f lent n
+  refused-moves = record { advances = record { is = sym (t.is ∙ rw (ne_eqb (numbered x) 0 (positive x))); ready = r }; plan = refl }

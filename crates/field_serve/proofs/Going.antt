@@ -12,8 +12,7 @@ use Rattle.plan.specs.Links.{Plan}
 use Rattle.field.specs.State.{State}
 use Rattle.field_words.specs.Hands.{lent_state}
 use Rattle.field_check.specs.Ready.{Ready}
-use Rattle.field_serve.specs.declared.Done.{Done}
-use Rattle.field_serve.specs.Lent.{Advances, Runs}
+use Rattle.field_serve.specs.Lent.{Done, Advances, Runs}
 
 -- s is what the last turn left: k turns of g are taken, and none found rest
 abbrev pub Going : (State → Bool) → (Plan → ℕ → State → After State) → Plan → List ℕ → List ℕ → List ℕ → Done → ℕ → Done → List ℕ → List ℕ → List ℕ → Type 0

@@ -12,8 +12,7 @@ use Rattle.field_laws.proofs.Keeps.{Sound, step_keeps}
 use Rattle.field_words.specs.Laid.{Laid}
 use Rattle.field_words.specs.Hands.{lent_state, Hands}
 use Rattle.field_check.specs.Ready.{Ready}
-use Rattle.field_serve.specs.declared.Done.{Done}
-use Rattle.field_serve.specs.Lent.{Advances}
+use Rattle.field_serve.specs.Lent.{Done, Advances}
 
 module _ (p : Plan) (cells marks lent : List ℕ) (b : Done) (r : Ready p cells marks lent b.waiting b.sent) where
   abbrev before : State

@@ -9,17 +9,21 @@ use lib.ListN.{length}
 use Rattle.base.specs.Loop.{After, taken_to, loop}
 use Rattle.base.proofs.laws.Loop.{loop-zero, loop-taken, loop-refused}
 use Rattle.plan.specs.Links.{Plan}
+use Rattle.field.specs.declared.Field.{Field}
 use Rattle.field.specs.State.{State}
 use Rattle.field_words.specs.Hands.{lent_state}
 use Rattle.field_check.specs.Ready.{Ready}
-use Rattle.field_serve.specs.declared.Done.{Done}
-use Rattle.field_serve.specs.Lent.{Advances}
+use Rattle.field_serve.specs.Lent.{Done, Advances, Moves}
 
 -- the same step under another name
 pub advances-as : {g h : Plan → State → After State} {p : Plan} {cells marks lent cells' marks' lent' : List ℕ} {b d : Done}
     → Advances g p cells marks lent b d cells' marks' lent' → g p (lent_state cells marks lent b.waiting b.sent) ≡ h p (lent_state cells marks lent b.waiting b.sent)
     → Advances h p cells marks lent b d cells' marks' lent'
 advances-as x e = record { is = x.is ∙ e; ready = x.ready }
+
+pub moves-as : {g h : Plan → State → After State} {f f' : Field} {lent lent' : List ℕ} {n n' refusal : ℕ} → Moves g f lent n refusal f' lent' n'
+    → g f.plan (lent_state f.cells f.marks lent n f.sent) ≡ h f.plan (lent_state f.cells f.marks lent n f.sent) → Moves h f lent n refusal f' lent' n'
+moves-as x e = record { advances = advances-as x.advances e; plan = x.plan }
 
 -- s is what the last turn left: k turns of g are taken
 abbrev pub Turned : (Plan → ℕ → State → After State) → Plan → List ℕ → List ℕ → List ℕ → Done → ℕ → Done → List ℕ → List ℕ → List ℕ → Type 0

@@ -6,9 +6,21 @@ use Rattle.field.specs.State.{State}
 use Rattle.field_words.specs.Laid.{Laid}
 use Rattle.field_words.specs.Hands.{lent_state}
 use Rattle.field_check.specs.Ready.{Ready}
-use Rattle.field_verdict.specs.declared.Verdict.{Verdict}
-use Rattle.field_verdict.specs.Verdict.{work_in, Carries, outcome}
-use Rattle.field_serve.specs.declared.Done.{Done}
+use Rattle.field_verdict.specs.Verdict.{Verdict, work_in, Carries, outcome}
+use Rattle.field.specs.declared.Field.{Field}
+
+-- what a step answers and leaves: the refusal's number or 0, the words that wait and the sent count afterwards
+pub record Done : Type 0 where
+  pub refusal : ℕ
+  pub waiting : ℕ
+  pub sent : ℕ
+
+-- where n words wait: nothing refused yet, and refused by this number or 0
+abbrev pub now : ℕ → Field → Done
+now n f = record { refusal = 0; waiting = n; sent = f.sent }
+
+abbrev pub ended : ℕ → ℕ → Field → Done
+ended refusal n f = record { refusal = refusal; waiting = n; sent = f.sent }
 
 -- what step g of plan p answers and leaves in lent arrays, which are ready for the next step; b is what the step before left
 pub record Advances (g : Plan → State → After State) (p : Plan) (cells marks lent : List ℕ) (b d : Done) (cells' marks' lent' : List ℕ) : Type 0 where
@@ -30,3 +42,13 @@ pub record CarriedOut (p : Plan) (v : ℕ) (y : Verdict) (cells marks lent : Lis
   pub is : let s = lent_state cells marks lent b.waiting b.sent in
       record { refusal = d.refusal; state = lent_state cells' marks' lent' d.waiting d.sent } ≡ outcome (work_in p v s y) p v s y
   pub laid : Laid lent' d.waiting
+
+-- Step g of a field in lent words, n of which wait, and what it leaves: the refusal's number or 0, and the same plan.
+pub record Moves (g : Plan → State → After State) (f : Field) (lent : List ℕ) (n refusal : ℕ) (f' : Field) (lent' : List ℕ) (n' : ℕ) : Type 0 where
+  pub advances : Advances g f.plan f.cells f.marks lent (now n f) (ended refusal n' f') f'.cells f'.marks lent'
+  pub plan : f'.plan ≡ f.plan
+
+-- the same of a run
+pub record MovesOn (g : Plan → State → Ran State) (f : Field) (lent : List ℕ) (n done refusal : ℕ) (f' : Field) (lent' : List ℕ) (n' : ℕ) : Type 0 where
+  pub runs : Runs g f.plan f.cells f.marks lent (now n f) done (ended refusal n' f') f'.cells f'.marks lent'
+  pub plan : f'.plan ≡ f.plan

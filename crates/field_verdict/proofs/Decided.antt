@@ -19,8 +19,7 @@ use Rattle.field.specs.Edges.{ceiling_of}
 use Rattle.field.specs.State.{State, placed}
 use Rattle.field.specs.Step.{without, carry_out, back_of}
 use Rattle.field_place.specs.Posted.{sends_by}
-use Rattle.field_verdict.specs.declared.Verdict.{Verdict}
-use Rattle.field_verdict.specs.Verdict.{work_in, Carries, outcome, Decided}
+use Rattle.field_verdict.specs.Verdict.{Verdict, work_in, Carries, outcome, Decided}
 use Rattle.field_verdict.specs.Judged.{Judged}
 
 -- a refusal leaves the same, whatever the response

@@ -36,8 +36,7 @@ use Rattle.field_laws.proofs.Lists.{WorkOk}
 use Rattle.field_laws.proofs.Keeps.{Sound, not_back, wake-ok, served-own, serve-ok}
 use Rattle.field_words.proofs.Laid.{without-past}
 use Rattle.field_check.specs.Checked.{state_in}
-use Rattle.field_verdict.specs.declared.Verdict.{Verdict}
-use Rattle.field_verdict.specs.Verdict.{work_by, Decided, Feasible}
+use Rattle.field_verdict.specs.Verdict.{Verdict, work_by, Decided, Feasible}
 use Rattle.field_verdict.specs.Judged.{no_word, Responds, Judged}
 use Rattle.field_verdict.proofs.Decided.{decided-as}
 use Rattle.field_verdict.proofs.Packets.{first-ok, second-ok}

@@ -10,8 +10,7 @@ use Rattle.field.specs.Edges.{link_of}
 use Rattle.field.specs.State.{State, msg_in}
 use Rattle.field.specs.Step.{without, carry_out, back_of, serve_work}
 use Rattle.field_check.specs.Checked.{state_in}
-use Rattle.field_verdict.specs.declared.Verdict.{Verdict}
-use Rattle.field_verdict.specs.Verdict.{work_by, Feasible, Decided}
+use Rattle.field_verdict.specs.Verdict.{Verdict, work_by, Feasible, Decided}
 
 -- packet k is what a served word is to the rules
 pub record Received (x : ℕ) (k : Packet) : Type 0 where

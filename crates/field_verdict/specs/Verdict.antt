@@ -1,19 +1,34 @@
 -- What a step of a module comes to, decided before anything is written.
-use Rattle.std.specs.Prelude.{ℕ, ◌+◌, ◌≤◌, ◌<◌, ◌≡◌, ◌≢◌, ◌⊎◌, length, IfSome}
+use Rattle.std.specs.Prelude.{ℕ, Result, Ok, Err, ◌+◌, ◌≤◌, ◌<◌, ◌≡◌, ◌≢◌, ◌⊎◌, length, IfSome}
 use Rattle.base.specs.Limits.{max_modules}
 use Rattle.base.specs.Loop.{After, answering}
 use Rattle.format_message.proofs.laws.Means.{Means}
 use Rattle.format_word.specs.Word.{header_in, carried_in, link_in}
 use Rattle.plan.specs.Links.{Plan}
-use Rattle.node.specs.Work.{Work, BACK}
+use Rattle.node.specs.Work.{Work, BACK, setup}
 use Rattle.node_response.specs.declared.Response.{Response}
-use Rattle.node_response.specs.Response.{answer_of, work_of}
+use Rattle.node_response.specs.Response.{answer_of, work_of, begun}
 use Rattle.node_joining.specs.Copies.{copies_in}
 use Rattle.field.specs.Edges.{own_of, link_of, ceiling_of}
 use Rattle.field.specs.State.{State, mark_at, msg_in, placed}
 use Rattle.field.specs.Step.{without, back_of}
 use Rattle.field_place.specs.Posted.{PacketOk}
-use Rattle.field_verdict.specs.declared.Verdict.{Verdict}
+use Rattle.refusal.specs.declared.Refusal.{Refusal}
+use Rattle.refusal.specs.Number.{numbered}
+use Rattle.field_verdict.specs.declared.Verdict as D
+
+-- what is decided on a step: the refusal's number, or 0 and what the step does
+pub record Verdict : Type 0 where
+  pub refusal : ℕ
+  pub at : ℕ
+  pub word : ℕ
+  pub sends : ℕ
+  pub response : Response
+
+-- the same from the code's answer; what stands beside a refusal says nothing
+abbrev pub verdict_of : Result D.Verdict Refusal → Verdict
+verdict_of (Ok d) = record { refusal = 0; at = d.at; word = d.word; sends = d.sends; response = d.response }
+verdict_of (Err r) = record { refusal = numbered r; at = 0; word = 0; sends = 0; response = begun setup }
 
 -- the response to word x that a says
 abbrev pub work_by : Plan → ℕ → ℕ → Response → State → Work

@@ -15,7 +15,7 @@ ghost use Rattle.field.specs.Step.{wake_work, wake, serve_work, serve};
 ghost use Rattle.field_calls.specs.Trail.{served_word};
 ghost use Rattle.field_laws.proofs.Keeps.{Sound};
 ghost use Rattle.field_check.specs.Checked.{state_in};
-ghost use Rattle.field_verdict.specs.Verdict.{Decided};
+ghost use Rattle.field_verdict.specs.Verdict.{verdict_of, Decided};
 ghost use Rattle.field_verdict.specs.Judged.{Received, Responds, Judged};
 
 use field::{Cells, Marks};
@@ -24,12 +24,12 @@ use node::ASLEEP;
 use node_edges::Edges;
 use node_response::{NodeAnswer, Packet, Response};
 use plan::Plan;
+use refusal::Refusal;
 
-// refusal: its number, or 0. at, word: the place of the served word among those that wait, and the word; where a module wakes, the number of words and a
+// A step that is not refused. at, word: the place of the served word among those that wait, and the word; where a module wakes, the number of words and a
 // word that nobody serves. sends: how many messages the response sends.
 #[derive(Clone, Copy)]
 pub struct Verdict {
-    pub refusal: u32,
     pub at: usize,
     pub word: u64,
     pub sends: u32,
@@ -39,38 +39,24 @@ pub struct Verdict {
 // In place of a served word where there is none: a Change-root by link 0. A wakeup puts no word back and sends no copy of one.
 const NO_WORD: u64 = 0xffff07;
 
-// Refused by this number: what stands beside it says nothing.
-fn refused(number: u32) -> Verdict
-    ensures { result.refusal ≡ number }
-{
-    Verdict {
-        refusal: number,
-        at: 0,
-        word: NO_WORD,
-        sends: 0,
-        response: Response::begin(field_cells::fresh_node()),
-    }
-}
-
 // Response a of module v, to word x at place i: refused by 32 or 33, or it stands.
-fn judge(edges: Edges, sent: u32, i: usize, x: u64, a: Response) -> Verdict
+fn judge(edges: Edges, sent: u32, i: usize, x: u64, a: Response) -> Result<Verdict, Refusal>
     requires { sent ≤ ceiling_of edges.plan.now }
-    ensures { Judged edges.entry.plan.now edges.entry.marks.now sent edges.entry.v i x a result }
+    ensures { Judged edges.entry.plan.now edges.entry.marks.now sent edges.entry.v i x a (verdict_of result) }
 {
     if a.answer == NodeAnswer::Refused {
-        return refused(32);
+        return Err(Refusal::Response);
     }
     let c = field_place::count_sends(edges, x, a);
     if plan::ceiling_of(edges.plan) - sent < c {
-        return refused(33);
+        return Err(Refusal::CeilingPassed);
     }
-    Verdict {
-        refusal: 0,
+    Ok(Verdict {
         at: i,
         word: x,
         sends: c,
         response: a,
-    }
+    })
 }
 
 // What a served word is to the rules.
@@ -110,17 +96,17 @@ pub fn wake<'a>(
     words: &[u64],
     sent: u32,
     v: u16,
-) -> Verdict
+) -> Result<Verdict, Refusal>
     requires { Accepted plan.now × (length plan.now ≡ plan_size) × Sound plan.now (state_in cells.now marks.now words.now sent) }
     ensures { let p = plan.now in let s = state_in cells.now marks.now words.now sent in
-        Decided (wake p v s) (wake_work p v s) p v s result }
+        Decided (wake p v s) (wake_work p v s) p v s (verdict_of result) }
 {
     if no_module(plan, v) {
-        return refused(41);
+        return Err(Refusal::NoModule);
     }
     let node = field_cells::load(cells, v);
     if node.status != ASLEEP {
-        return refused(43);
+        return Err(Refusal::Awake);
     }
     let edges = Edges { plan, marks, v };
     let a = node_dispatch::wakes(edges, node);
@@ -135,16 +121,16 @@ pub fn serve<'a>(
     words: &[u64],
     sent: u32,
     v: u16,
-) -> Verdict
+) -> Result<Verdict, Refusal>
     requires { Accepted plan.now × (length plan.now ≡ plan_size) × Sound plan.now (state_in cells.now marks.now words.now sent) }
     ensures { let p = plan.now in let s = state_in cells.now marks.now words.now sent in
-        Decided (serve p v s) (serve_work p v (served_word p v s) s) p v s result }
+        Decided (serve p v s) (serve_work p v (served_word p v s) s) p v s (verdict_of result) }
 {
     if no_module(plan, v) {
-        return refused(41);
+        return Err(Refusal::NoModule);
     }
     let Some(i) = field_search::first_in_queue(plan, words, v) else {
-        return refused(45);
+        return Err(Refusal::EmptyQueue);
     };
     let x = words[i];
     let edges = Edges { plan, marks, v };

@@ -7,12 +7,12 @@ use mathlib.Core.Logic.{◌≢◌}
 use mathlib.Core.List.{List, ◌++◌}
 use lib.ListN.{length, drop}
 use lib.Seq.{sets-eq}
+use Rattle.field_verdict.specs.Verdict.{Verdict}
 use Rattle.plan.specs.Links.{Plan}
 use Rattle.field.specs.State.{posted}
 use Rattle.field.specs.Held.{held_from}
 use Rattle.field_laws.proofs.Sends.{length-posted}
 use Rattle.field_place.specs.Posted.{sends_by, Posted}
-use Rattle.field_verdict.specs.declared.Verdict.{Verdict}
 use Rattle.preview.specs.declared.Previewed.{Previewed}
 use Rattle.preview.specs.Preview.{not_shown, shown}
 use Rattle.preview.proofs.laws.Outcomes.{preview-refused, preview-short, preview-shown}

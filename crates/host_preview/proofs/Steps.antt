@@ -18,8 +18,7 @@ use Rattle.field.proofs.laws.Step.{wake-is-step, hand-is-step, serve-is-step, ot
 use Rattle.field_calls.specs.Trail.{step_taken, served_word, sends_at}
 use Rattle.field_words.specs.Hands.{handable}
 use Rattle.field_words.proofs.Outcomes.{hand-is}
-use Rattle.field_verdict.specs.declared.Verdict.{Verdict}
-use Rattle.field_verdict.specs.Verdict.{Decided}
+use Rattle.field_verdict.specs.Verdict.{Verdict, Decided}
 use Rattle.preview.specs.Preview.{not_shown, shown, would_send, preview}
 use Rattle.preview.proofs.laws.Outcomes.{preview-refused}
 use Rattle.preview.proofs.laws.Claim.{hand-shows-none}

@@ -4,8 +4,7 @@ use Rattle.plan.specs.Links.{Plan}
 use Rattle.field.specs.State.{posted}
 use Rattle.field.specs.Held.{Held, step_alone, held_from}
 use Rattle.field_place.specs.Posted.{sends_by}
-use Rattle.field_verdict.specs.declared.Verdict.{Verdict}
-use Rattle.field_verdict.specs.Verdict.{Feasible}
+use Rattle.field_verdict.specs.Verdict.{Verdict, Feasible}
 use Rattle.preview.specs.declared.Previewed.{Previewed}
 use Rattle.preview.specs.Preview.{would_send, preview}
 

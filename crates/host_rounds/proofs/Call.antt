@@ -11,8 +11,7 @@ use Rattle.field_calls.specs.Rounds.{rounds_run}
 use Rattle.field_calls.specs.Call.{refused_run, laid_back, run_rounds}
 use Rattle.field_check.specs.declared.Checked.{Checked}
 use Rattle.field_check.specs.Checked.{check_of}
-use Rattle.field_serve.specs.declared.Done.{Done}
-use Rattle.field_serve.specs.Lent.{Runs}
+use Rattle.field_serve.specs.Lent.{Done, Runs}
 use Rattle.field_check.proofs.Admitted.{invalid, passes}
 use Rattle.field_serve.proofs.Call.{run-stands}
 

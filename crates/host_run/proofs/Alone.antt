@@ -1,9 +1,12 @@
 -- The calls of a host for a step alone and for a schedule: 31 (`step-31`, `run-31`), then the steps over the field's arrays, then the field put together
 -- again (`step-done`, `run-done`).
 use Prim.Native.Nat.{ℕ}
-use mathlib.Core.Path.{◌≡◌, refl, sym, ap, ◌∙◌}
+use mathlib.Core.Path.{◌≡◌, refl, ap, ◌∙◌}
 use mathlib.Core.Logic.{◌≢◌}
-use mathlib.Core.Bool.{true, false, not}
+use mathlib.Core.Bool.{true, false}
+use Rattle.std.specs.Prelude.{Ok, Err}
+use Rattle.refusal.specs.declared.Refusal.{Refusal}
+use Rattle.refusal.specs.Number.{numbered}
 use mathlib.Core.List.{List}
 use lib.ListN.{length}
 use borrow.Author.Tests.{ne_eqb, eq-eqb}
@@ -15,10 +18,8 @@ use Rattle.field.specs.Held as H
 use Rattle.field.proofs.laws.Step.{alone-31, alone-step}
 use Rattle.field_calls.specs.Schedule.{schedule_refusal, schedule_run}
 use Rattle.field_calls.specs.Call.{refused_run, laid_back, run_bytes}
-use Rattle.field_check.specs.declared.Checked.{Checked}
 use Rattle.field_check.specs.Checked.{check_of}
-use Rattle.field_serve.specs.declared.Done.{Done}
-use Rattle.field_serve.specs.Lent.{Advances, Runs}
+use Rattle.field_serve.specs.Lent.{Moves, MovesOn}
 use Rattle.field_check.proofs.Admitted.{invalid, passes}
 use Rattle.field_serve.proofs.Call.{step-stands, run-stands}
 
@@ -35,28 +36,27 @@ module _ (h : Held) where
   unfolding run_bytes
   run-goes bytes e z = simp (e, eq-eqb (schedule_refusal bytes) 0 z)
 
-module _ (f : Field) (lent : List ℕ) (c : Checked) (e : c ≡ check_of (record { field = f; words = lent })) where
+module _ (f : Field) (lent : List ℕ) where
   abbrev h : Held
   h = record { field = f; words = lent }
 
-  pub step-31 : (kind number : ℕ) → not c.ok ≡ true → refused_by 31 h ≡ step_alone kind number h
-  step-31 kind number n = alone-31 kind number h (invalid f lent c e n)
+  module _ {r : Refusal} (e : Err r ≡ check_of h) where
+    pub step-31 : (kind number : ℕ) → refused_by (numbered r) h ≡ step_alone kind number h
+    step-31 kind number = rw (invalid f lent e).0 (alone-31 kind number h (invalid f lent e).1)
 
-  pub run-31 : (bytes : List ℕ) → not c.ok ≡ true → refused_run 31 h ≡ run_bytes bytes h
-  run-31 bytes n = run-refused h bytes (invalid f lent c e n)
+    pub run-31 : (bytes : List ℕ) → refused_run (numbered r) h ≡ run_bytes bytes h
+    run-31 bytes = rw (invalid f lent e).0 (run-refused h bytes (invalid f lent e).1)
 
-  pub run-54 : not c.ok ≡ false → (bytes : List ℕ) (bad : ℕ) → bad ≡ schedule_refusal bytes → bad ≢ 0 → refused_run bad h ≡ run_bytes bytes h
-  run-54 y bytes bad q n = ap (λ (x : ℕ). refused_run x h) q ∙ run-bad h bytes (passes f lent c e y) (λ z. n (q ∙ z))
+  module _ {m : ℕ} (e : Ok m ≡ check_of h) where
+    pub run-54 : (bytes : List ℕ) (bad : ℕ) → bad ≡ schedule_refusal bytes → bad ≢ 0 → refused_run bad h ≡ run_bytes bytes h
+    run-54 bytes bad q n = ap (λ (x : ℕ). refused_run x h) q ∙ run-bad h bytes (passes f lent e) (λ z. n (q ∙ z))
 
-  module _ (y : not c.ok ≡ false) {b : Done} (eb : b ≡ record { refusal = 0; waiting = c.waiting; sent = f.sent }) where
-    pub step-done : (kind number : ℕ) (d : Done) (cells marks words : List ℕ)
-        → Advances (λ p. step p kind number) f.plan f.cells f.marks lent b d cells marks words → length words ≡ length lent
-        → record { refusal = d.refusal; state = record { field = record { plan = f.plan; cells = cells; marks = marks; sent = d.sent }; words = words } } ≡ step_alone kind number h
-    step-done kind number d cells marks words q k =
-        step-stands f lent c e eb (λ p. step p kind number) d cells marks words q k ∙ alone-step kind number h (passes f lent c e y)
+    pub step-done : (kind number refusal : ℕ) (f' : Field) (words : List ℕ) (n : ℕ)
+        → Moves (λ p. step p kind number) f lent m refusal f' words n → length words ≡ length lent
+        → record { refusal = refusal; state = record { field = f'; words = words } } ≡ step_alone kind number h
+    step-done kind number refusal f' words n q k = step-stands f lent e (λ p. step p kind number) refusal f' words n q k ∙ alone-step kind number h (passes f lent e)
 
-    pub run-done : (bytes : List ℕ) (bad : ℕ) → bad ≡ schedule_refusal bytes → bad ≡ 0 → (done : ℕ) (d : Done) (cells marks words : List ℕ)
-        → Runs (λ p. schedule_run p bytes) f.plan f.cells f.marks lent b done d cells marks words → length words ≡ length lent
-        → record { done = done; refusal = d.refusal; state = record { field = record { plan = f.plan; cells = cells; marks = marks; sent = d.sent }; words = words } } ≡ run_bytes bytes h
-    run-done bytes bad r z done d cells marks words q k =
-        run-stands f lent c e eb (λ p. schedule_run p bytes) done d cells marks words q k ∙ run-goes h bytes (passes f lent c e y) (sym r ∙ z)
+    pub run-done : (bytes : List ℕ) → schedule_refusal bytes ≡ 0 → (done refusal : ℕ) (f' : Field) (words : List ℕ) (n : ℕ)
+        → MovesOn (λ p. schedule_run p bytes) f lent m done refusal f' words n → length words ≡ length lent
+        → record { done = done; refusal = refusal; state = record { field = f'; words = words } } ≡ run_bytes bytes h
+    run-done bytes z done refusal f' words n q k = run-stands f lent e (λ p. schedule_run p bytes) done refusal f' words n q k ∙ run-goes h bytes (passes f lent e) z

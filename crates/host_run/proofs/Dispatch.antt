@@ -2,18 +2,17 @@
 use Prim.Native.Nat.{ℕ}
 use mathlib.Core.Path.{◌≡◌, ap, ◌∙◌}
 use mathlib.Core.List.{List}
-use Rattle.plan.specs.Links.{Plan}
+use Rattle.field.specs.declared.Field.{Field}
 use Rattle.field.specs.Step.{step}
 use Rattle.field_calls.specs.Schedule.{kind_of, number_of, step_at}
 use Rattle.field_words.specs.Hands.{lent_state}
-use Rattle.field_serve.specs.declared.Done.{Done}
-use Rattle.field_serve.specs.Lent.{Advances}
-use Rattle.field_serve.proofs.Turns.{advances-as}
+use Rattle.field_serve.specs.Lent.{Moves}
+use Rattle.field_serve.proofs.Turns.{moves-as}
 
 -- the step that was read from the bytes is the schedule's
-pub read_step : {p : Plan} (bytes : List ℕ) (k : ℕ) {kind number : ℕ} {cells marks lent cells' marks' lent' : List ℕ} {b d : Done}
-    → Advances (λ p. step p kind number) p cells marks lent b d cells' marks' lent' → kind ≡ kind_of bytes k → number ≡ number_of bytes k
-    → Advances (λ p. step_at p bytes k) p cells marks lent b d cells' marks' lent'
-read_step {p} bytes k {kind} {number} {cells} {marks} {lent} {b = z} x ek en =
-    let s = lent_state cells marks lent z.waiting z.sent in
-    advances-as x (ap (λ (y : ℕ). step p y number s) ek ∙ ap (λ (y : ℕ). step p (kind_of bytes k) y s) en)
+pub read_step : (bytes : List ℕ) (k : ℕ) {kind number : ℕ} {f f' : Field} {lent lent' : List ℕ} {n n' refusal : ℕ}
+    → Moves (λ p. step p kind number) f lent n refusal f' lent' n' → kind ≡ kind_of bytes k → number ≡ number_of bytes k
+    → Moves (λ p. step_at p bytes k) f lent n refusal f' lent' n'
+read_step bytes k {kind} {number} {f} {lent = l} {n} x ek en =
+    let s = lent_state f.cells f.marks l n f.sent in
+    moves-as x (ap (λ (y : ℕ). step f.plan y number s) ek ∙ ap (λ (y : ℕ). step f.plan (kind_of bytes k) y s) en)

@@ -1,84 +1,48 @@
-// Steps on lent arrays: one by its kind, and those of a schedule one after the other.
+// Steps on a field in lent words: one by its kind, and those of a schedule one after the other.
 ghost use Rattle.std.specs.Prelude.{◌≡◌};
+ghost use Rattle.refusal.specs.Number.{refusal_in};
 ghost use Rattle.field.specs.Step.{step};
 ghost use Rattle.field_calls.specs.Schedule.{steps_in, schedule_refusal, schedule_run};
 ghost use Rattle.field_check.specs.Ready.{Ready};
-ghost use Rattle.field_serve.specs.Lent.{Advances, Runs};
+ghost use Rattle.field_serve.specs.Lent.{Moves, MovesOn};
 
-use field::{Cells, Marks};
-use field_serve::Done;
-use plan::Plan;
+use field::Field;
+use field_calls::Kind;
+use refusal::Refusal;
 
-// done: steps done. last: what the last one answered and left.
-#[derive(Clone, Copy)]
-pub struct WentSteps {
-    pub done: usize,
-    pub last: Done,
-}
-
-// After so many steps.
-fn after(done: usize, last: Done) -> WentSteps
-    ensures { result ≡ record { done = done; last = last } }
-{
-    WentSteps {
-        done: done,
-        last: last,
-    }
-}
-
-// One step; b is what the step before left: 0, or refused by 54, 41 to 45, 32 or 33.
-pub fn step<'a>(
-    plan: &'a Plan,
-    cells: &mut Cells,
-    marks: &mut Marks,
+// One step, where n words wait: refused by 54, 41 to 45, 32 or 33, or done.
+pub fn step(
+    f: &mut Field,
     lent: &mut [u64],
-    b: Done,
+    n: &mut usize,
     kind: u8,
     number: u16,
-) -> Done
-    requires { Ready plan.now cells.old marks.old lent.old b.waiting b.sent }
-    ensures { Advances (λ p. step p kind number) plan.now
-        cells.old marks.old lent.old b result cells.new marks.new lent.new }
+) -> Result<(), Refusal>
+    requires { Ready f.old.plan f.old.cells f.old.marks lent.old n.old f.old.sent }
+    ensures { Moves (λ p. step p kind number) f.old lent.old n.old (refusal_in result) f.new lent.new n.new }
 {
-    match kind {
-        1 => field_serve::wake(plan, cells, marks, lent, b, number),
-        2 => field_serve::refused_by(field_words::hand(plan, lent, b.waiting, number), b),
-        3 => field_serve::serve(plan, cells, marks, lent, b, number),
-        0 | 4..=255 => field_serve::refused_by(54, b),
+    match Kind::try_from(kind)? {
+        Kind::Wake => field_serve::wake(f, lent, n, number),
+        Kind::HandOver => field_words::hand(&f.plan, lent, *n, number),
+        Kind::Serve => field_serve::serve(f, lent, n, number),
     }
 }
 
-// The steps of a schedule that 51 to 54 do not refuse, up to the first that is refused.
-pub fn steps<'a>(
-    plan: &'a Plan,
-    cells: &mut Cells,
-    marks: &mut Marks,
+// The steps of a schedule that 51 to 54 do not refuse, up to the first that is refused; `done` counts them.
+pub fn steps(
+    f: &mut Field,
     lent: &mut [u64],
-    b: Done,
+    n: &mut usize,
     bytes: &[u8],
-    count: usize,
-) -> WentSteps
-    requires { Ready plan.now cells.old marks.old lent.old b.waiting b.sent × (b.refusal ≡ 0)
-        × (schedule_refusal bytes.now ≡ 0) × (count ≡ steps_in bytes.now) }
-    ensures { Runs (λ p. schedule_run p bytes.now) plan.now
-        cells.old marks.old lent.old b result.done result.last cells.new marks.new lent.new }
+    done: &mut usize,
+) -> Result<(), Refusal>
+    requires { Ready f.old.plan f.old.cells f.old.marks lent.old n.old f.old.sent × (schedule_refusal bytes.now ≡ 0) × (done.old ≡ 0) }
+    ensures { MovesOn (λ p. schedule_run p bytes.now) f.old lent.old n.old done.new (refusal_in result) f.new lent.new n.new }
 {
-    let mut s = b;
-    let mut k: usize = 0;
-    while k < count {
-        s = step(
-            plan,
-            cells,
-            marks,
-            lent,
-            s,
-            host_schedule::kind(bytes, k),
-            host_schedule::number(bytes, k),
-        );
-        if s.refusal != 0 {
-            return after(k, s);
-        }
-        k += 1;
+    for k in 0..(bytes.len() - 3) / 3 {
+        let kind = host_schedule::kind(bytes, k);
+        step(f, lent, n, kind, host_schedule::number(bytes, k))?;
+        *done += 1;
     }
-    after(k, s)
+    Ok(())
 }

@@ -70,3 +70,10 @@ pub fn refusal_in(answer: Result<(), Refusal>) -> u32
         Err(refusal) => refusal.number(),
     }
 }
+
+// What a run answers: how many turns are done, and the refusal that ended it, if one did.
+#[derive(Clone, Copy)]
+pub struct Run<T> {
+    pub done: T,
+    pub ended: Result<(), Refusal>,
+}

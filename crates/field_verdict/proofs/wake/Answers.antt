@@ -1,6 +1,6 @@
 -- field_verdict::wake: one law for each return: `wake-41` and `wake-43`, by which it `refuses`, and `waking`.
 use native.Mathlib.Omega.{arith}
-use mathlib.Core.Path.{sym, ap, ◌∙◌}
+use mathlib.Core.Path.{refl, sym, ap, ◌∙◌}
 use borrow.Author.Tests.{leb-true, leb-false}
 use Rattle.node.specs.declared.Node.{Node}
 use Rattle.field_verdict.proofs.Decided.{refuses}
@@ -10,7 +10,7 @@ use Rattle.field_verdict.proofs.wake.Goals as goal
 pub returns-then-no_module : goal.returns-then-no_module
 returns-then-no_module c =
     let e = c.before in
-    refuses 41 (λ z. omega arith) (wake-41 _ _ _ (leb-true _ _ (sym e.no_module.ensures ∙ e.if-no_module.true))) c.refused.ensures
+    refuses 41 (λ z. omega arith) (wake-41 _ _ _ (leb-true _ _ (sym e.no_module.ensures ∙ e.if-no_module.true))) refl
 
 pub load-node-requires : goal.load-node-requires
 load-node-requires c =
@@ -24,7 +24,7 @@ returns-then-node-ne-ASLEEP c =
     let e = o.before in
     refuses 43 (λ z. omega arith)
     (wake-43 _ _ _ (leb-false _ _ (sym e.no_module.ensures ∙ e.if-no_module.false)) (λ q. t.if-node-ne-ASLEEP.true (ap (λ (n : Node). n.status) o.load-node.ensures ∙ q)))
-    c.refused-then-node-ne-ASLEEP.ensures
+    refl
 
 pub judge-requires : goal.judge-requires
 judge-requires c = c.requires.2.fits.ceiling

@@ -1,31 +1,24 @@
--- host_run::steps::step: one law for each arm: `wake-is-step`, `hand-is-step`, `serve-is-step`, `other-is-54`; the field stays ready, by `hands` and `stays`.
-use native.Mathlib.Omega.{arith}
-use borrow.Author.Rules.{rules}
+-- host_run::steps::step: one law for each arm.
+use Rattle.std.proofs.Common.{arith, rules}
+use Rattle.std.proofs.lemmas.Bool.Decides.{nat_tests}
+use Rattle.std.specs.Prelude.{◌≡◌, ◌≢◌, Err}
+use mathlib.Core.Path.{refl}
 use Rattle.field.specs.Step.{hand}
-use Rattle.field_serve.proofs.Ready.{stays, hands, hand-sound}
-use Rattle.field_serve.proofs.Turns.{advances-as}
 use Rattle.field.proofs.laws.Step.{wake-is-step, hand-is-step, serve-is-step, other-is-54}
-use Rattle.host_run.proofs.steps.step.Goals.{in-0-1, in_default-1}
+use Rattle.refusal.specs.declared.Refusal.TheVariants.{StepKind}
+use Rattle.field_serve.specs.Lent.{now}
+use Rattle.field_serve.proofs.Ready.{stays, hands, hand-sound}
+use Rattle.field_serve.proofs.Turns.{moves-as}
 use Rattle.host_run.proofs.steps.step.Goals as goal
 
-pub returns-in-1 : goal.returns-in-1
-returns-in-1 c =
-    advances-as c.wake.ensures (wake-is-step _ _ _ _ c.in-1.is)
+pub returns-in_err-try_from : goal.returns-in_err-try_from
+returns-in_err-try_from c = let q : c.from_residual.result ≡ Err StepKind = grind arith in let k : c.args.kind ≢ 1 = grind (arith, nat_tests) in let l : c.args.kind ≢ 2 = grind (arith, nat_tests) in let m : c.args.kind ≢ 3 = grind (arith, nat_tests) in let b = now c.args.n.now c.args.f.now in rw q (record { advances = stays _ _ _ _ b c.requires _ 54 (other-is-54 _ c.args.kind _ _ k l m) refl; plan = refl })
 
-pub returns-in-2 : goal.returns-in-2
-returns-in-2 c =
-    let r = c.requires in
-    advances-as (hands _ _ _ _ c.args.b r (λ p. hand p c.args.number) (hand-sound _ _ _ _ c.args.b r _) c.hand.ensures (search rules) c.refused_by.ensures) (hand-is-step _ _ _ _ c.in-2.is)
+pub returns-in-Wake : goal.returns-in-Wake
+returns-in-Wake c = let e : c.args.kind ≡ 1 = grind arith in moves-as c.wake.ensures (wake-is-step _ _ _ _ e)
 
-pub returns-in-3 : goal.returns-in-3
-returns-in-3 c =
-    advances-as c.serve.ensures (serve-is-step _ _ _ _ c.in-3.is)
+pub returns-in-HandOver : goal.returns-in-HandOver
+returns-in-HandOver c = let e : c.args.kind ≡ 2 = grind arith in let b = now c.args.n.now c.args.f.now in moves-as (record { advances = hands _ _ _ _ b c.requires (λ p. hand p c.args.number) (hand-sound _ _ _ _ b c.requires _) c.hand.ensures (search rules) refl; plan = refl }) (hand-is-step _ _ _ _ e)
 
-pub returns-in-0 : goal.returns-in-0
-returns-in-0 c =
-    stays _ _ _ _ c.args.b c.requires _ 54
-    (elim c.in-0-1.branch [
-      | in-0-1 w ↦ other-is-54 _ c.args.kind _ _ (λ e. omega arith) (λ e. omega arith) (λ e. omega arith)
-      | in_default-1 w ↦ other-is-54 _ c.args.kind _ _ (λ e. omega arith) (λ e. omega arith) (λ e. omega arith)
-    ])
-    c.refused_by-in-0.ensures
+pub returns-in-Serve : goal.returns-in-Serve
+returns-in-Serve c = let e : c.args.kind ≡ 3 = grind arith in moves-as c.serve.ensures (serve-is-step _ _ _ _ e)
