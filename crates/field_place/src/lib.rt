@@ -28,7 +28,7 @@ fn post(edges: Edges, lent: &mut [u64], n: usize, x: Option<Packet>) -> usize
     let Some(Packet { edge, message }) = x else {
         return n;
     };
-    lent[n] = format_word::pack(message.header(), message.carried(), edges.end(edge));
+    lent[n] = format_word::pack(message.header_byte(), message.carried(), edges.end(edge));
     n + 1
 }
 

@@ -48,7 +48,7 @@ impl NodeMessage {
 
     // The header byte that says it.
     #[tactic(auto, unfolding(crate::specs::Header::parts_of, crate::specs::Header::header_from))]
-    pub fn header(self) -> u8
+    pub fn header_byte(self) -> u8
         requires { Listed (as_msg self) }
         ensures { result ≡ header_of (as_msg self) }
     {
