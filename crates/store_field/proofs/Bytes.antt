@@ -1,4 +1,4 @@
--- Bytes written behind others (`sets-on`): a name's and words' one by one (`name-on`, `word_on`); words read one by one (`read-on`); a part that is put back (`part-back`).
+-- Bytes written behind others (`sets-on`): words' one by one (`word_on`); words read one by one (`read-on`); a part that is put back (`part-back`).
 use Prim.Native.Nat.{ℕ, zero, suc, ◌+◌, ◌*◌, ◌-◌, ◌≤◌, ◌<◌}
 use native.Mathlib.Numerals.{add-one}
 use native.Mathlib.Omega.{arith}
@@ -15,12 +15,6 @@ use Rattle.store_laws.proofs.Words.{length-words}
 
 pub sets-on : (s t : List ℕ) (a b : ℕ) (xs ys : List ℕ) → b ≡ a + length xs → t ≡ sets s a xs → sets t b ys ≡ sets s a (xs ++ ys)
 sets-on s t a b xs ys e h = ap₂ (λ (n : ℕ) l. sets l n ys) e h ∙ sets-append s a xs ys
-
--- A NAME
-
-pub name-on : (s t name : List ℕ) (i : ℕ) → i < length name → t ≡ sets s 6 (take i name) → set t (6 + i) (get_or name i 0) ≡ sets s 6 (take (i + 1) name)
-name-on s t name i l h = rw (add-one i, take-suc name i 0 l)
-    (sets-on s t 6 (6 + i) (take i name) (get_or name i 0 ∷ []) (ap (λ (n : ℕ). 6 + n) (sym (length-take-le i name (omega arith)))) h)
 
 -- WORDS
 

@@ -33,7 +33,7 @@ fn widened(x: u8) -> u16
 }
 
 // Writes module v's mark of link k as number q, if it has one; the number that comes next.
-fn put_own<'a>(plan: &'a Plan, marks: &'a Marks, v: u16, k: u16, out: &mut [u8], q: usize) -> usize
+fn put_own(plan: &Plan, marks: &Marks, v: u16, k: u16, out: &mut [u8], q: usize) -> usize
     requires { (links_of plan.now ≤ max_links) × (k < links_of plan.now) × (2 * (q + length (own_end plan.now v k)) ≤ length out.old) }
     ensures { (out.new ≡ sets out.old (2 * q) (bytes_of (map (entry marks.now) (own_end plan.now v k))))
         × (result ≡ q + length (own_end plan.now v k)) }
@@ -47,17 +47,14 @@ fn put_own<'a>(plan: &'a Plan, marks: &'a Marks, v: u16, k: u16, out: &mut [u8],
 }
 
 // Module v's marks by link number, from number q on; the number that comes next.
-fn put_marks<'a>(plan: &'a Plan, marks: &'a Marks, v: u16, out: &mut [u8], q: usize) -> usize
+fn put_marks(plan: &Plan, marks: &Marks, v: u16, out: &mut [u8], q: usize) -> usize
     requires { (links_of plan.now ≤ max_links) × (2 * (q + length (own_ends plan.now v (links_of plan.now))) ≤ length out.old) }
     ensures { (out.new ≡ sets out.old (2 * q) (bytes_of (map (entry marks.now) (own_ends plan.now v (links_of plan.now)))))
         × (result ≡ q + length (own_ends plan.now v (links_of plan.now))) }
 {
-    let links = plan::links(plan);
     let mut a = q;
-    let mut k: u16 = 0;
-    while k < links {
+    for k in 0..plan::links(plan) {
         a = put_own(plan, marks, v, k, out, a);
-        k += 1;
     }
     a
 }
@@ -68,22 +65,13 @@ fn put_values(cells: &Cells, v: u16, out: &mut [u8], q: usize)
     ensures { out.new ≡ sets out.old (2 * q) (bytes_of (tabulate WIDTH (λ j. entry cells.now (cell_of v j)))) }
 {
     let c = (v as usize) * WIDTH;
-    let mut j: usize = 0;
-    while j < WIDTH {
+    for j in 0..WIDTH {
         format_int16::put(out, 2 * (q + j), cells[c + j]);
-        j += 1;
     }
 }
 
 // Module v's values and marks, from number q on; the number that comes next.
-fn put_module<'a>(
-    plan: &'a Plan,
-    cells: &'a Cells,
-    marks: &'a Marks,
-    v: u16,
-    out: &mut [u8],
-    q: usize,
-) -> usize
+fn put_module(plan: &Plan, cells: &Cells, marks: &Marks, v: u16, out: &mut [u8], q: usize) -> usize
     requires { (links_of plan.now ≤ max_links) × (v < max_modules) × (2 * (q + length (module_places plan.now v)) ≤ length out.old) }
     ensures { (out.new ≡ sets out.old (2 * q) (bytes_of (map (parts_at cells.now marks.now) (module_places plan.now v))))
         × (result ≡ q + length (module_places plan.now v)) }
@@ -93,29 +81,20 @@ fn put_module<'a>(
 }
 
 // All modules' numbers, from number 1 on; the number that comes next.
-fn put_modules<'a>(plan: &'a Plan, cells: &'a Cells, marks: &'a Marks, out: &mut [u8]) -> usize
+fn put_modules(plan: &Plan, cells: &Cells, marks: &Marks, out: &mut [u8]) -> usize
     requires { (links_of plan.now ≤ max_links) × (modules_of plan.now ≤ max_modules) × (2 * field_numbers plan.now ≤ length out.old) }
     ensures { (out.new ≡ sets out.old 2 (bytes_of (map (parts_at cells.now marks.now) (places plan.now))))
         × (result ≡ field_numbers plan.now) }
 {
-    let n = plan::modules(plan);
-    let mut q: usize = 1;
-    let mut v: u16 = 0;
-    while v < n {
+    let mut q = 1;
+    for v in 0..plan::modules(plan) {
         q = put_module(plan, cells, marks, v, out, q);
-        v += 1;
     }
     q
 }
 
 // The sent count, then all modules' numbers; how many these are.
-fn put_numbers<'a>(
-    plan: &'a Plan,
-    cells: &'a Cells,
-    marks: &'a Marks,
-    sent: u16,
-    out: &mut [u8],
-) -> usize
+fn put_numbers(plan: &Plan, cells: &Cells, marks: &Marks, sent: u16, out: &mut [u8]) -> usize
     requires { (links_of plan.now ≤ max_links) × (modules_of plan.now ≤ max_modules) × (2 * field_numbers plan.now ≤ length out.old) }
     ensures { (out.new ≡ sets out.old 0
         (bytes_of (sent ∷ map (entry_at (field_from plan.now cells.now marks.now sent)) (places plan.now))))
@@ -126,13 +105,7 @@ fn put_numbers<'a>(
 }
 
 // A field at the front; how many bytes it takes.
-fn put_field<'a>(
-    plan: &'a Plan,
-    cells: &'a Cells,
-    marks: &'a Marks,
-    sent: u16,
-    out: &mut [u8],
-) -> usize
+fn put_field(plan: &Plan, cells: &Cells, marks: &Marks, sent: u16, out: &mut [u8]) -> usize
     requires { (links_of plan.now ≤ max_links) × (modules_of plan.now ≤ max_modules)
         × (7 + 8 * links_of plan.now + 2 * field_numbers plan.now ≤ length out.old) }
     ensures { (out.new
@@ -150,22 +123,13 @@ fn put_words(words: &[u64], out: &mut [u8])
     requires { 8 * length words.now ≤ length out.old }
     ensures { out.new ≡ sets out.old 0 (word_bytes words.now) }
 {
-    let mut i: usize = 0;
-    while i < words.len() {
-        format_wide::put64(out, 8 * i, words[i]);
-        i += 1;
+    for (i, word) in words.iter().enumerate() {
+        format_wide::put64(out, 8 * i, *word);
     }
 }
 
 // A field, then waiting words.
-fn put_body<'a>(
-    plan: &'a Plan,
-    cells: &'a Cells,
-    marks: &'a Marks,
-    sent: u16,
-    words: &[u64],
-    out: &mut [u8],
-)
+fn put_body(plan: &Plan, cells: &Cells, marks: &Marks, sent: u16, words: &[u64], out: &mut [u8])
     requires { (links_of plan.now ≤ max_links) × (modules_of plan.now ≤ max_modules)
         × (7 + 8 * links_of plan.now + 2 * field_numbers plan.now + 8 * length words.now ≤ length out.old) }
     ensures { out.new ≡ sets out.old 0
@@ -180,11 +144,7 @@ fn put_name(name: &[u8], out: &mut [u8])
     requires { 6 + length name.now ≤ length out.old }
     ensures { out.new ≡ sets out.old 6 name.now }
 {
-    let mut i: usize = 0;
-    while i < name.len() {
-        out[6 + i] = name[i];
-        i += 1;
-    }
+    out[6..6 + name.len()].copy_from_slice(name);
 }
 
 // A record's version, its length behind it, and its name.
@@ -217,10 +177,10 @@ pub fn record_size(plan: &Plan, letters: usize, waiting: usize) -> usize
 }
 
 // A record at the front: the name, the field and the words that wait.
-pub fn put_record<'a>(
-    plan: &'a Plan,
-    cells: &'a Cells,
-    marks: &'a Marks,
+pub fn put_record(
+    plan: &Plan,
+    cells: &Cells,
+    marks: &Marks,
     sent: u32,
     words: &[u64],
     name: &[u8],
@@ -243,19 +203,20 @@ pub fn put_record<'a>(
 type Starts = [usize; MAX_MODULES as usize];
 
 // The module that directed link d runs from.
-fn end_module<'a>(plan: &'a Plan, d: u16) -> u16
+fn end_module(plan: &Plan, d: u16) -> u16
     requires { Accepted plan.now × (d < 2 * links_of plan.now) }
     ensures { (result ≡ from plan.now d) × (result < max_modules) }
 {
     let k = (d / 2) as usize;
     if d % 2 == 0 {
-        return plan::lower(plan, k);
+        plan::lower(plan, k)
+    } else {
+        plan::higher(plan, k)
     }
-    plan::higher(plan, k)
 }
 
 // What that module has reached; it goes on by one.
-fn step_on<'a>(plan: &'a Plan, d: u16, starts: &mut Starts) -> usize
+fn step_on(plan: &Plan, d: u16, starts: &mut Starts) -> usize
     requires { Accepted plan.now × (d < 2 * links_of plan.now) × (length starts.old ≡ max_modules) × (entry starts.old (from plan.now d) < 65536) }
     ensures { (starts.new ≡ set starts.old (from plan.now d) (entry starts.old (from plan.now d) + 1))
         × (result ≡ entry starts.old (from plan.now d)) }
@@ -267,46 +228,37 @@ fn step_on<'a>(plan: &'a Plan, d: u16, starts: &mut Starts) -> usize
 }
 
 // Counts each module's ends, in one pass over them.
-fn count_ends<'a>(plan: &'a Plan, starts: &mut Starts)
+fn count_ends(plan: &Plan, starts: &mut Starts)
     requires { Accepted plan.now × (starts.old ≡ replicate max_modules 0) }
     ensures { starts.new ≡ tabulate max_modules (λ v. ends_below plan.now v (2 * links_of plan.now)) }
 {
-    let ends = 2 * plan::links(plan);
-    let mut d: u16 = 0;
-    while d < ends {
+    for d in 0..2 * plan::links(plan) {
         step_on(plan, d, starts);
-        d += 1;
     }
 }
 
 // From the counts, where each module's numbers begin.
-fn lay_starts<'a>(plan: &'a Plan, starts: &mut Starts)
+fn lay_starts(plan: &Plan, starts: &mut Starts)
     requires { Accepted plan.now × (starts.old ≡ tabulate max_modules (λ v. ends_below plan.now v (2 * links_of plan.now))) }
     ensures { starts.new ≡ laid_starts plan.now (modules_of plan.now) }
 {
-    let n = plan::modules(plan) as usize;
-    let mut s: usize = 1;
-    let mut v: usize = 0;
-    while v < n {
+    let mut s = 1;
+    for v in 0..plan::modules(plan) as usize {
         let m = starts[v];
         starts[v] = s;
         s += WIDTH + m;
-        v += 1;
     }
 }
 
 // The values of all modules.
-fn take_cells<'a>(plan: &'a Plan, numbers: &'a [u8], starts: &'a Starts, cells: &mut Cells)
+fn take_cells(plan: &Plan, numbers: &[u8], starts: &Starts, cells: &mut Cells)
     requires { Accepted plan.now × (2 * field_numbers plan.now ≤ length numbers.now) × (starts.now ≡ laid_starts plan.now (modules_of plan.now))
         × (length cells.old ≡ CELLS) }
     ensures { cells.new ≡ tabulate CELLS (upto (modules_of plan.now * WIDTH)
         (λ i. number_in numbers.now (cell_number plan.now i)) (entry cells.old)) }
 {
-    let n = (plan::modules(plan) as usize) * WIDTH;
-    let mut i: usize = 0;
-    while i < n {
+    for i in 0..(plan::modules(plan) as usize) * WIDTH {
         cells[i] = format_int16::at(numbers, 2 * (starts[i / WIDTH] + i % WIDTH));
-        i += 1;
     }
 }
 
@@ -314,30 +266,24 @@ fn take_cells<'a>(plan: &'a Plan, numbers: &'a [u8], starts: &'a Starts, cells: 
 fn cut_mark(x: u16) -> u8
     ensures { result ≡ cut_mark x }
 {
-    if 255 < x {
-        return 255;
-    }
-    x as u8
+    x.min(255) as u8
 }
 
 // The marks of all ends, in 8 bits: a module's come by link number, which is how the ends are gone through.
-fn take_marks<'a>(plan: &'a Plan, numbers: &'a [u8], starts: &mut Starts, marks: &mut Marks)
+fn take_marks(plan: &Plan, numbers: &[u8], starts: &mut Starts, marks: &mut Marks)
     requires { Accepted plan.now × (2 * field_numbers plan.now ≤ length numbers.now) × (starts.old ≡ laid_starts plan.now (modules_of plan.now))
         × (length marks.old ≡ max_ends) }
     ensures { marks.new ≡ tabulate max_ends (upto (2 * links_of plan.now)
         (λ d. cut_mark (number_in numbers.now (mark_number plan.now d))) (entry marks.old)) }
 {
-    let ends = 2 * plan::links(plan);
-    let mut d: u16 = 0;
-    while d < ends {
+    for d in 0..2 * plan::links(plan) {
         let a = step_on(plan, d, starts);
         marks[d as usize] = cut_mark(format_int16::at(numbers, 2 * (a + WIDTH)));
-        d += 1;
     }
 }
 
 // A field from its numbers: its cells, and its marks in 8 bits.
-pub fn take_field<'a>(plan: &'a Plan, numbers: &'a [u8], cells: &mut Cells, marks: &mut Marks)
+pub fn take_field(plan: &Plan, numbers: &[u8], cells: &mut Cells, marks: &mut Marks)
     requires { Accepted plan.now × (2 * field_numbers plan.now ≤ length numbers.now)
         × (cells.old ≡ fresh_cells max_modules) × (marks.old ≡ replicate max_ends 0) }
     ensures { (cells.new ≡ (field_in plan.now numbers.now).cells)
@@ -355,10 +301,7 @@ pub fn take_words(part: &[u8], words: &mut [u64])
     requires { length part.now / 8 ≤ length words.old }
     ensures { words.new ≡ sets words.old 0 (words_in part.now) }
 {
-    let n = part.len() / 8;
-    let mut i: usize = 0;
-    while i < n {
+    for i in 0..part.len() / 8 {
         words[i] = format_wide::at64(part, 8 * i);
-        i += 1;
     }
 }

@@ -1,15 +1,9 @@
 -- store_field::take_words: a loop; the first i words are read (`read-on`), in the end all.
-use Prim.Native.Nat.{◌*◌, ◌/◌, ◌-◌, ◌≤◌}
-use mathlib.Core.Path.{◌≡◌}
-use lib.ListN.{length}
-use lib.Seq.{sets}
+use Rattle.std.proofs.Common.{◌≡◌, ◌*◌}
+use Rattle.std.proofs.lemmas.List.Edits.{sets}
 use Rattle.base.specs.Table.{tabulate}
 use Rattle.format_wide.specs.Wide.{at64}
 use Rattle.store_field.proofs.take_words.Given as goal
 
 abbrev pub invariant-loop-i : goal.invariant-loop-i
-invariant-loop-i l =
-    (l.i ≤ l.n) × (l.n ≡ length l.part / 8) × (length l.words ≡ length l.initial.words) × (l.words ≡ sets l.initial.words 0 (tabulate l.i (λ j. at64 l.part (8 * j))))
-
-abbrev pub decreases-loop-i : goal.decreases-loop-i
-decreases-loop-i l = l.n - l.i
+invariant-loop-i l = l.words ≡ sets l.initial.words 0 (tabulate l.i (λ j. at64 l.part (8 * j)))
