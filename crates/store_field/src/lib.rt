@@ -25,13 +25,6 @@ use plan::Plan;
 
 // WRITING. Number q stands at byte 2 * q.
 
-// A mark in 16 bits.
-fn widened(x: u8) -> u16
-    ensures { result ≡ x }
-{
-    x as u16
-}
-
 // Writes module v's mark of link k as number q, if it has one; the number that comes next.
 fn put_own(plan: &Plan, marks: &Marks, v: u16, k: u16, out: &mut [u8], q: usize) -> usize
     requires { (links_of plan.now ≤ max_links) × (k < links_of plan.now) × (2 * (q + length (own_end plan.now v k)) ≤ length out.old) }
@@ -42,7 +35,7 @@ fn put_own(plan: &Plan, marks: &Marks, v: u16, k: u16, out: &mut [u8], q: usize)
         return q;
     }
     let d = node_edges::end_at(plan, v, k) as usize;
-    format_int16::put(out, 2 * q, widened(marks[d]));
+    format_int16::put(out, 2 * q, marks[d] as u16);
     q + 1
 }
 

@@ -1,9 +1,7 @@
 -- store_field::put_own: nothing where link k is not of v (`run_none`), else its mark (`run-one`).
-use Prim.Native.Nat.{◌*◌}
 use native.Mathlib.Omega.{arith}
 use mathlib.Core.Path.{sym, ap, ◌∙◌}
 use lib.ListN.{length}
-use Rattle.format_int16.specs.Int16.{put16}
 use Rattle.field.proofs.laws.Edges.{end-small}
 use Rattle.store_field.specs.Ends.{own_end, entry}
 use Rattle.store_field.proofs.Ends.{own-none, own-one}
@@ -29,4 +27,4 @@ pub returns : goal.returns
 returns c =
     let a = c.args in
     let r = run-one (entry a.marks.now) a.out.now a.q c.end_at-d.result (own_end a.plan.now a.v a.k) (own-one c.args.plan.now c.args.v c.args.k c.end_at-d.result (sym c.owns.ensures ∙ c.if-not-owns.false) c.end_at-d.ensures) in
-    (c.put.ensures ∙ ap (put16 a.out.now (2 * a.q)) c.widened.ensures ∙ r.0, r.1)
+    (c.put.ensures ∙ r.0, r.1)
