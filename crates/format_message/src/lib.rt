@@ -71,9 +71,10 @@ impl NodeMessage {
         match self {
             NodeMessage::Initiate { identity, .. } | NodeMessage::Test { identity, .. } => identity,
             NodeMessage::Report { weight } => weight,
-            NodeMessage::Connect { .. } | NodeMessage::Accept | NodeMessage::Reject | NodeMessage::ChangeRoot => {
-                NONE
-            }
+            NodeMessage::Connect { .. }
+            | NodeMessage::Accept
+            | NodeMessage::Reject
+            | NodeMessage::ChangeRoot => { NONE }
         }
     }
 }
@@ -128,6 +129,7 @@ pub fn find(header: u8) -> u8
 }
 
 // The header of a kind, level and Find bit; 255, which no message has, where one of them has more bits than its place.
+#[tactic(auto, unfolding(crate::specs::Header::header_from))]
 pub fn header(kind: u8, level: u16, find: u8) -> u8
     ensures { result ≡ header_from kind level find }
 {

@@ -10,20 +10,15 @@ pub const FIND: u16 = 1;
 
 pub const FOUND: u16 = 2;
 
-// A node's mark for an own edge.
+// A node's mark for an own edge: a byte, as a field holds it and 31 asks about it.
 pub const BASIC: u8 = 0;
 
 pub const BRANCH: u8 = 1;
 
 pub const REJECTED: u8 = 2;
 
-// What a response answers: the message is taken, put back, or refused by 32.
-pub const TAKEN: u32 = 0;
-
-pub const BACK: u32 = 1;
-
-pub const REFUSED: u32 = 32;
-
+// Each value is a number, a status too, and none is 65535: a field's cells may hold any numbers, and refusal 31 asks about them as they are
+// (`field_items::values_listed`).
 #[derive(Clone, Copy)]
 pub struct Node {
     // SN: 0 asleep, 1 Find, 2 Found

@@ -19,7 +19,7 @@ pub struct NewMark {
     pub mark: u8,
 }
 
-// Whether edge k ends at node v.
+// Whether edge k ends at node v: `Edges::owns` where no marks are at hand.
 #[tactic(auto, unfolding(field::specs::Edges::is_own))]
 pub fn owns(plan: &Plan, v: u16, k: u16) -> bool
     requires { links_of plan.now ≤ max_links }
@@ -29,7 +29,7 @@ pub fn owns(plan: &Plan, v: u16, k: u16) -> bool
     k < plan::links(plan) && (plan::lower(plan, i) == v || plan::higher(plan, i) == v)
 }
 
-// Node v's directed link over its edge k, which is also the place of its mark.
+// Node v's directed link over its edge k, which is also the place of its mark: `Edges::end` where no marks are at hand.
 #[tactic(auto, unfolding(field::specs::Edges::end_of))]
 pub fn end_at(plan: &Plan, v: u16, k: u16) -> u16
     requires { k < max_links }
