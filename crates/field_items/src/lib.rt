@@ -16,22 +16,23 @@ use plan::Plan;
 fn link_or_none(plan: &Plan, x: u16) -> bool
     ensures { result ≡ link_or_none plan.now x }
 {
-    (x == NONE) | (x < plan::links(plan))
+    x == NONE || x < plan::links(plan)
 }
 
 // Whether a word is as laid out, its carried link and directed link are the plan's and its level is within the limit.
+#[tactic(auto, unfolding(field::specs::Valid::word_fits))]
 pub fn word_fits(plan: &Plan, w: u64) -> bool
     requires { links_of plan.now ≤ max_links }
     ensures { result ≡ word_fits plan.now w }
 {
     format_word::laid_out(w)
-        & link_or_none(plan, format_word::carried(w))
-        & (format_word::link(w) < 2 * plan::links(plan))
-        & (format_message::level(format_word::header(w)) <= plan::level_limit(plan))
+        && link_or_none(plan, format_word::carried(w))
+        && format_word::link(w) < 2 * plan::links(plan)
+        && format_message::level(format_word::header(w)) <= plan::level_limit(plan)
 }
 
 // Whether x is an own link of module v or none.
-fn own_or_none<'a>(plan: &'a Plan, v: u16, x: u16) -> bool
+fn own_or_none(plan: &Plan, v: u16, x: u16) -> bool
     requires { links_of plan.now ≤ max_links }
     ensures { result ≡ own_or_none plan.now v x }
 {
@@ -39,18 +40,18 @@ fn own_or_none<'a>(plan: &'a Plan, v: u16, x: u16) -> bool
 }
 
 // Whether each value of a module is in its list.
-fn values_listed<'a>(plan: &'a Plan, v: u16, n: Node) -> bool
+fn values_listed(plan: &Plan, v: u16, n: Node) -> bool
     requires { links_of plan.now ≤ max_links }
     ensures { result ≡ values_listed plan.now v n }
 {
-    (n.status <= FOUND)
-        & link_or_none(plan, n.identity)
-        & link_or_none(plan, n.weight)
-        & own_or_none(plan, v, n.best)
-        & own_or_none(plan, v, n.test)
-        & own_or_none(plan, v, n.branch)
-        & (n.halted <= 1)
-        & own_or_none(plan, v, n.waking)
+    n.status <= FOUND
+        && link_or_none(plan, n.identity)
+        && link_or_none(plan, n.weight)
+        && own_or_none(plan, v, n.best)
+        && own_or_none(plan, v, n.test)
+        && own_or_none(plan, v, n.branch)
+        && n.halted <= 1
+        && own_or_none(plan, v, n.waking)
 }
 
 // Whether the identity is none exactly at level 0.
@@ -58,26 +59,28 @@ fn identity_fits(n: Node) -> bool
     ensures { result ≡ identity_fits n }
 {
     if n.level == 0 {
-        return n.identity == NONE;
+        n.identity == NONE
+    } else {
+        n.identity != NONE
     }
-    n.identity != NONE
 }
 
 // Whether a sleeper's waking link is none.
 fn waking_fits(n: Node) -> bool
     ensures { result ≡ waking_fits n }
 {
-    (n.status != ASLEEP) | (n.waking == NONE)
+    n.status != ASLEEP || n.waking == NONE
 }
 
 // Whether module v's values fit, where it has `ends` links.
-pub fn node_fits<'a>(plan: &'a Plan, ends: u16, v: u16, n: Node) -> bool
+#[tactic(auto, unfolding(field::specs::Valid::node_fits))]
+pub fn node_fits(plan: &Plan, ends: u16, v: u16, n: Node) -> bool
     requires { (links_of plan.now ≤ max_links) × (ends ≡ degree (own_of plan.now v)) }
     ensures { result ≡ node_fits plan.now v n }
 {
     values_listed(plan, v, n)
-        & (n.level <= plan::level_limit(plan))
-        & (n.count <= ends)
-        & identity_fits(n)
-        & waking_fits(n)
+        && n.level <= plan::level_limit(plan)
+        && n.count <= ends
+        && identity_fits(n)
+        && waking_fits(n)
 }
