@@ -2,7 +2,7 @@
 -- `turns-over`).
 use Prim.Native.Nat.{ℕ, ◌+◌, ◌≤◌, ◌<◌}
 use native.Mathlib.Omega.{arith}
-use mathlib.Core.Path.{◌≡◌, refl, sym, ap, ◌∙◌}
+use mathlib.Core.Path.{◌≡◌, refl, sym, ap, subst, ◌∙◌}
 use mathlib.Core.Logic.{◌≢◌}
 use mathlib.Core.List.{List}
 use lib.ListN.{length}
@@ -13,7 +13,7 @@ use Rattle.field.specs.declared.Field.{Field}
 use Rattle.field.specs.State.{State}
 use Rattle.field_words.specs.Hands.{lent_state}
 use Rattle.field_check.specs.Ready.{Ready}
-use Rattle.field_serve.specs.Lent.{Done, Advances, Moves}
+use Rattle.field_serve.specs.Lent.{Done, now, ended, Advances, Moves}
 
 -- the same step under another name
 pub advances-as : {g h : Plan → State → After State} {p : Plan} {cells marks lent cells' marks' lent' : List ℕ} {b d : Done}
@@ -24,6 +24,12 @@ advances-as x e = record { is = x.is ∙ e; ready = x.ready }
 pub moves-as : {g h : Plan → State → After State} {f f' : Field} {lent lent' : List ℕ} {n n' refusal : ℕ} → Moves g f lent n refusal f' lent' n'
     → g f.plan (lent_state f.cells f.marks lent n f.sent) ≡ h f.plan (lent_state f.cells f.marks lent n f.sent) → Moves h f lent n refusal f' lent' n'
 moves-as x e = record { advances = advances-as x.advances e; plan = x.plan }
+
+-- the same at an equal plan
+pub moves-at : {g : Plan → State → After State} {f f' : Field} {lent lent' : List ℕ} {n n' refusal : ℕ} → Moves g f lent n refusal f' lent' n' → {p : Plan} → f.plan ≡ p
+    → Advances g p f.cells f.marks lent (now n f) (ended refusal n' f') f'.cells f'.marks lent' × (f'.plan ≡ p)
+moves-at {g} {f} {f'} {lent} {lent'} {n} {n'} {refusal} x e =
+    (subst (λ (q : Plan). Advances g q f.cells f.marks lent (now n f) (ended refusal n' f') f'.cells f'.marks lent') e x.advances, x.plan ∙ e)
 
 -- s is what the last turn left: k turns of g are taken
 abbrev pub Turned : (Plan → ℕ → State → After State) → Plan → List ℕ → List ℕ → List ℕ → Done → ℕ → Done → List ℕ → List ℕ → List ℕ → Type 0

@@ -1,61 +1,31 @@
 // The second half of a round: "then lets each module in number order serve as many as its queue then held".
 ghost use Rattle.std.specs.Prelude.{◌≡◌};
+ghost use Rattle.refusal.specs.Number.{refusal_in};
 ghost use Rattle.field_calls.specs.Rounds.{serve_turn, serve_phase};
 ghost use Rattle.field_check.specs.Ready.{Ready};
-ghost use Rattle.field_serve.specs.Lent.{Advances};
+ghost use Rattle.field_serve.specs.Lent.{Moves};
 
-use field::{Cells, Marks};
-use field_serve::Done;
-use plan::Plan;
+use field::Field;
+use refusal::Refusal;
 
-// Module v serves as many as its queue holds; b is what the step before left.
-fn serve_turn<'a>(
-    plan: &'a Plan,
-    cells: &mut Cells,
-    marks: &mut Marks,
-    lent: &mut [u64],
-    b: Done,
-    v: u16,
-) -> Done
-    requires { Ready plan.now cells.old marks.old lent.old b.waiting b.sent × (b.refusal ≡ 0) }
-    ensures { Advances (λ p. serve_turn p v) plan.now
-        cells.old marks.old lent.old b result cells.new marks.new lent.new }
+// Module v serves as many as its queue holds, where n words wait.
+fn serve_turn(f: &mut Field, lent: &mut [u64], n: &mut usize, v: u16) -> Result<(), Refusal>
+    requires { Ready f.old.plan f.old.cells f.old.marks lent.old n.old f.old.sent }
+    ensures { Moves (λ p. serve_turn p v) f.old lent.old n.old (refusal_in result) f.new lent.new n.new }
 {
-    let n = b.waiting;
-    let q = field_search::many_in_queue(plan, &lent[..n], v);
-    let mut s = b;
-    let mut j: usize = 0;
-    while j < q {
-        s = field_serve::serve(plan, cells, marks, lent, s, v);
-        if s.refusal != 0 {
-            return s;
-        }
-        j += 1;
+    for _ in 0..field_search::many_in_queue(&f.plan, &lent[..*n], v) {
+        field_serve::serve(f, lent, n, v)?;
     }
-    s
+    Ok(())
 }
 
 // The turns of all modules.
-pub fn serve_phase<'a>(
-    plan: &'a Plan,
-    cells: &mut Cells,
-    marks: &mut Marks,
-    lent: &mut [u64],
-    b: Done,
-) -> Done
-    requires { Ready plan.now cells.old marks.old lent.old b.waiting b.sent × (b.refusal ≡ 0) }
-    ensures { Advances serve_phase plan.now
-        cells.old marks.old lent.old b result cells.new marks.new lent.new }
+pub fn serve_phase(f: &mut Field, lent: &mut [u64], n: &mut usize) -> Result<(), Refusal>
+    requires { Ready f.old.plan f.old.cells f.old.marks lent.old n.old f.old.sent }
+    ensures { Moves serve_phase f.old lent.old n.old (refusal_in result) f.new lent.new n.new }
 {
-    let mut s = b;
-    let modules = plan::modules(plan);
-    let mut v: u16 = 0;
-    while v < modules {
-        s = serve_turn(plan, cells, marks, lent, s, v);
-        if s.refusal != 0 {
-            return s;
-        }
-        v += 1;
+    for v in 0..plan::modules(&f.plan) {
+        serve_turn(f, lent, n, v)?;
     }
-    s
+    Ok(())
 }

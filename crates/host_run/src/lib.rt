@@ -31,9 +31,9 @@ fn run_on(
     ensures { record { done = done.new; refusal = refusal_in result; state = record { field = f.new; words = words.new } }
         ≡ run_bytes bytes.now (record { field = f.old; words = words.old }) }
 {
-    let mut n = field_check::admit(f, words)?;
+    let mut waiting = field_check::admit(f, words)?;
     host_schedule::check(bytes)?;
-    steps::steps(f, words, &mut n, bytes, done)
+    steps::steps(f, words, &mut waiting, bytes, done)
 }
 
 // A run of a schedule: 31, then 51 to 54, then its steps up to the first that is refused.

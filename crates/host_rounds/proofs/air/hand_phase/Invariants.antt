@@ -1,13 +1,7 @@
--- host_rounds::air::hand_phase: a loop; d links had their turn (`Handed`), one more by `handed-on`; all are the definition's phase, by `hand-phase`.
-use Prim.Native.Nat.{◌*◌, ◌-◌, ◌≤◌}
-use mathlib.Core.Path.{◌≡◌}
-use Rattle.plan.specs.Links.{links_of}
+-- host_rounds::air::hand_phase: d links had their turn (`Handed`), one more by `handed-on`; all are the definition's phase, by `hand-phase`.
 use Rattle.field_calls.specs.Rounds.{hand_turn}
 use Rattle.field_words.proofs.Hands.{Handed}
 use Rattle.host_rounds.proofs.air.hand_phase.Given as goal
 
 abbrev pub invariant-loop-d : goal.invariant-loop-d
-invariant-loop-d l = Handed (hand_turn l.plan) l.n l.initial.lent l.d l.lent × (l.d ≤ l.ends) × (l.ends ≡ 2 * links_of l.plan)
-
-abbrev pub decreases-loop-d : goal.decreases-loop-d
-decreases-loop-d l = l.ends - l.d
+invariant-loop-d l = Handed (hand_turn l.plan) l.n l.initial.lent l.d l.lent

@@ -1,28 +1,27 @@
-use mathlib.Core.Path.{sym}
-use lib.Seq.{length-take-le}
-use borrow.Author.Rules.{rules}
+use mathlib.Core.Path.{◌≡◌, refl, sym, ap, ◌∙◌}
+use Rattle.std.specs.Prelude.{ℕ, ◌*◌, Err}
+use Rattle.std.proofs.Common.{rules, arith}
+use Rattle.refusal.specs.Number.{refusal_in}
+use Rattle.refusal.proofs.laws.Number.{positive}
 use Rattle.field_words.proofs.Hands.{hands-as, none-handed, handed-on, handed-off, handed-all}
 use Rattle.host_rounds.proofs.Turns as T
 use Rattle.host_rounds.proofs.air.hand_turn.Goals as goal
 
-pub slice_bounds-many_in_air-end-2 : goal.slice_bounds-many_in_air-end-2
-slice_bounds-many_in_air-end-2 c = sym (length-take-le c.args.n c.args.lent.now c.requires.0.within)
+pub loop-init : goal.loop-init
+loop-init c = none-handed _ _ _ c.requires.0
 
-pub loop-j-init : goal.loop-j-init
-loop-j-init c = (none-handed _ _ _ c.requires.0, search rules)
+pub returns-in_err-hand : goal.returns-in_err-hand
+returns-in_err-hand c =
+    let x = c.in_err-hand.field-0.0 in
+    let e : c.hand.result ≡ Err x = grind rules in
+    let q : c.from_residual.result ≡ Err x = grind rules in
+    rw q (hands-as (handed-off _ _ _ _ c.loop.invariant (rw e at c.hand.ensures) _ c.loop-test.true (positive x)) (λ cells marks sent. T.hand-turn _ _ _ _ c.many_in_air-end.ensures))
 
-pub hand-a-requires : goal.hand-a-requires
-hand-a-requires c = (c.loop-j.invariant.0.1.laid, c.requires.1)
-
-pub returns-then-a-ne0 : goal.returns-then-a-ne0
-returns-then-a-ne0 c =
-    hands-as (handed-off _ _ _ _ c.loop-j.invariant.0 c.hand-a.ensures _ c.loop-j-test.true c.if-a-ne0.true)
-    (λ cells marks sent. T.hand-turn _ _ _ _ c.many_in_air-q.ensures)
-
-pub loop-j-preserved : goal.loop-j-preserved
-loop-j-preserved c =
-    (handed-on _ _ _ _ c.loop-j.invariant.0 c.hand-a.ensures c.hand-a.auto.lent c.if-a-ne0.false, search rules)
+pub loop-preserved : goal.loop-preserved
+loop-preserved c =
+    let e : refusal_in c.hand.result ≡ 0 = grind rules in
+    handed-on _ _ _ _ c.loop.invariant c.hand.ensures c.hand.auto.lent e
 
 pub returns : goal.returns
 returns c =
-    hands-as (handed-all _ _ _ _ c.loop-j.invariant.0 _ c.loop-j-test.false c.loop-j.invariant.1) (λ cells marks sent. T.hand-turn _ _ _ _ c.many_in_air-q.ensures)
+    hands-as (handed-all _ _ _ _ c.loop.invariant _ c.loop-test.false (omega arith)) (λ cells marks sent. T.hand-turn _ _ _ _ c.many_in_air-end.ensures)

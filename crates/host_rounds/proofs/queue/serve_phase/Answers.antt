@@ -1,21 +1,32 @@
-use borrow.Author.Rules.{rules}
-use Rattle.field_serve.proofs.Turns.{advances-as, no-turn, turn_on, turn-off, turns-over}
+use mathlib.Core.Path.{◌≡◌, refl, sym, ap, ◌∙◌}
+use Rattle.std.specs.Prelude.{ℕ, ◌*◌, Err}
+use Rattle.std.proofs.Common.{rules, arith}
+use Rattle.refusal.specs.Number.{refusal_in}
+use Rattle.refusal.proofs.laws.Number.{positive}
+use Rattle.field_serve.proofs.Turns.{advances-as, moves-at, no-turn, turn_on, turn-off, turns-over}
 use Rattle.host_rounds.proofs.Turns as T
 use Rattle.host_rounds.proofs.queue.serve_phase.Goals as goal
 
 pub loop-v-init : goal.loop-v-init
-loop-v-init c = (no-turn _ _ _ _ _ _ c.requires.0 c.requires.1, search rules, c.modules-modules.ensures)
+loop-v-init c = (no-turn _ _ _ _ _ _ c.requires refl, refl)
 
-pub serve_turn-s-requires : goal.serve_turn-s-requires
-serve_turn-s-requires c = let i = c.loop-v.invariant.0 in (i.2.ready, i.0)
-
-pub returns-then-s-ne0 : goal.returns-then-s-ne0
-returns-then-s-ne0 c =
-    advances-as (turn-off _ _ _ _ _ _ _ c.loop-v.invariant.0 c.serve_turn-s.ensures _ c.loop-v-test.true c.if-s-ne0.true) (T.serve-phase _ _ _ c.loop-v.invariant.2)
+pub returns-in_err-serve_turn : goal.returns-in_err-serve_turn
+returns-in_err-serve_turn c =
+    let i = c.loop-v.invariant in
+    let x = c.in_err-serve_turn.field-0.0 in
+    let e : c.serve_turn.result ≡ Err x = grind rules in
+    let q : c.from_residual.result ≡ Err x = grind rules in
+    let a = moves-at (rw e at c.serve_turn.ensures) i.1 in
+    rw q (record { advances = advances-as (turn-off _ _ _ _ _ _ _ i.0 a.0 _ c.loop-v-test.true (positive x)) (T.serve-phase _ _ _ c.modules-v-end.ensures); plan = a.1 })
 
 pub loop-v-preserved : goal.loop-v-preserved
 loop-v-preserved c =
-    (turn_on _ _ _ _ _ _ _ c.loop-v.invariant.0 c.serve_turn-s.ensures (search rules) c.if-s-ne0.false, search rules, c.loop-v.invariant.2)
+    let i = c.loop-v.invariant in
+    let e : refusal_in c.serve_turn.result ≡ 0 = grind rules in
+    let a = moves-at (rw e at c.serve_turn.ensures) i.1 in
+    (turn_on _ _ _ _ _ _ _ i.0 a.0 (search rules) refl, a.1)
 
 pub returns : goal.returns
-returns c = let i = c.loop-v.invariant in advances-as (turns-over _ _ _ _ _ _ _ i.0 _ c.loop-v-test.false i.1) (T.serve-phase _ _ _ i.2)
+returns c =
+    let i = c.loop-v.invariant in
+    record { advances = advances-as (turns-over _ _ _ _ _ _ _ i.0 _ c.loop-v-test.false (omega arith)) (T.serve-phase _ _ _ c.modules-v-end.ensures); plan = i.1 }

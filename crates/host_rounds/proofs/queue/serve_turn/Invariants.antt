@@ -1,12 +1,11 @@
--- host_rounds::queue::serve_turn: a loop; j words are served (`Turned`), one more by `turn_on`; all are the definition's turn, by `serve-turn`.
-use Prim.Native.Nat.{◌-◌, ◌≤◌}
+-- host_rounds::queue::serve_turn: so many services are done (`Turned`), one more by `turn_on`; all are the definition's turn, by `serve-turn`.
+use mathlib.Core.Path.{◌≡◌}
 use Rattle.field.specs.Step.{serve}
+use Rattle.field_serve.specs.Lent.{now}
 use Rattle.field_serve.proofs.Turns.{Turned}
 use Rattle.host_rounds.proofs.queue.serve_turn.Given as goal
 
-abbrev pub invariant-loop-j : goal.invariant-loop-j
-invariant-loop-j l =
-    Turned (λ p i. serve p l.v) l.plan l.initial.cells l.initial.marks l.initial.lent l.initial.s l.j l.s l.cells l.marks l.lent × (l.j ≤ l.q)
-
-abbrev pub decreases-loop-j : goal.decreases-loop-j
-decreases-loop-j l = l.q - l.j
+abbrev pub invariant-loop : goal.invariant-loop
+invariant-loop l =
+    Turned (λ p i. serve p l.v) l.initial.f.plan l.initial.f.cells l.initial.f.marks l.initial.lent (now l.initial.n l.initial.f) l.counter (now l.n l.f) l.f.cells l.f.marks l.lent
+    × (l.f.plan ≡ l.initial.f.plan)

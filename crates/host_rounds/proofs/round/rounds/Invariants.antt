@@ -1,12 +1,11 @@
--- host_rounds::round::rounds: a loop; k rounds are completed (`Going`), one more by `goes-on`. It ends by `goes-rest`, `goes-off` or `goes_over`.
-use Prim.Native.Nat.{◌-◌, ◌≤◌}
+-- host_rounds::round::rounds: so many rounds are completed (`Going`), one more by `goes-on`. It ends by `goes-rest`, `goes-off` or `goes_over`.
+use mathlib.Core.Path.{◌≡◌}
 use Rattle.field_calls.specs.Rounds.{at_rest, round}
+use Rattle.field_serve.specs.Lent.{now}
 use Rattle.field_serve.proofs.Going.{Going}
 use Rattle.host_rounds.proofs.round.rounds.Given as goal
 
-abbrev pub invariant-loop-k : goal.invariant-loop-k
-invariant-loop-k l =
-    Going at_rest (λ p i. round p) l.plan l.initial.cells l.initial.marks l.initial.lent l.initial.s l.k l.s l.cells l.marks l.lent × (l.k ≤ l.limit)
-
-abbrev pub decreases-loop-k : goal.decreases-loop-k
-decreases-loop-k l = l.limit - l.k
+abbrev pub invariant-loop : goal.invariant-loop
+invariant-loop l =
+    Going at_rest (λ p i. round p) l.initial.f.plan l.initial.f.cells l.initial.f.marks l.initial.lent (now l.initial.n l.initial.f) l.counter (now l.n l.f) l.f.cells l.f.marks l.lent
+    × (l.f.plan ≡ l.initial.f.plan) × (l.done ≡ l.counter)
