@@ -1,3 +1,4 @@
 pub mod Bytes
 pub mod Right
 pub mod Within
+pub mod Pass

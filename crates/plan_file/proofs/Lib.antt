@@ -1,2 +1,3 @@
 pub mod laws
+pub mod Head
 pub mod Stores

@@ -1,4 +1,5 @@
--- What the stores of the writer leave (`write-turn`, `write-end`, `written-front`).
+-- What the stores of the writer leave (`write-turn`, `write-end`, `written-front`), and its outcomes: a plan refused (`w-refused`), 22 (`w-short`),
+-- written (`w-written`).
 use Prim.Native.Nat.{ℕ, ◌+◌, ◌*◌, ◌≤◌}
 use native.Mathlib.Omega.{arith}
 use native.Mathlib.Numerals.{add-one}
@@ -17,6 +18,13 @@ use Rattle.plan.specs.Refusal.{plan_refusal}
 use Rattle.plan_file.specs.Layout.{plan_numbers, bytes_of, encode}
 use Rattle.plan_file.specs.Writing.{size}
 use Rattle.plan_file.proofs.laws.Lengths.{bytes_of-append, length-bytes_of, length-encode}
+use Prim.Native.Nat.{◌<◌}
+use mathlib.Core.Path.{sym}
+use mathlib.Core.Logic.{◌≢◌}
+use borrow.Author.Tests.{lt-ltb, le-ltb, ne_eqb}
+use Rattle.base.specs.Loop.{After, taken_to, answering}
+use Rattle.base.proofs.laws.Refuse.{answers-refused}
+use Rattle.plan_file.specs.Writing.{write_refusal, write_plan}
 
 -- no number yet, one more, all of them
 module _ (f : ℕ → ℕ) (s : List ℕ) where
@@ -43,3 +51,30 @@ taken-links p z = (accepted p z).links_ok
 pub written-front : (p : Plan) (s : List ℕ) → size p ≤ length s → sets s 0 (encode p) ≡ encode p ++ drop (size p) s
 written-front p s h =
     sets-eq (encode p) s 0 (omega (arith, length-encode p)) ∙ ap (λ n. encode p ++ drop n s) (let l : 0 + length (encode p) ≡ size p = omega (arith, length-encode p) in l)
+
+-- THE OUTCOMES
+
+pub w-links : (p : Plan) (r : ℕ) → r ≡ plan_refusal p → r ≡ 0 → links_of p ≤ max_links
+w-links p r e z = (accepted p (sym e ∙ z)).links_ok
+
+module _ (p : Plan) (s : List ℕ) (r : ℕ) (e : r ≡ plan_refusal p) where
+  -- the writer's answer, for each outcome of its tests
+  writes : (n : ℕ) → write_refusal p s ≡ n → answering n s (encode p ++ drop (size p) s) ≡ write_plan p s
+  unfolding write_plan
+  writes n q = ap (λ m. answering m s (encode p ++ drop (size p) s)) (sym q)
+
+  pub w-refused : r ≢ 0 → ◌≡◌ {A = After (List ℕ)} (record { refusal = r; state = s }) (write_plan p s)
+  unfolding write_refusal
+  w-refused d = answers-refused r s (encode p ++ drop (size p) s) d ∙ writes r (rw (← e, ne_eqb r 0 d))
+
+  module _ (z : r ≡ 0) where
+    pub w-short : length s < size p → ◌≡◌ {A = After (List ℕ)} (record { refusal = 22; state = s }) (write_plan p s)
+    unfolding write_refusal
+    w-short h = writes 22 (rw (← e, z, lt-ltb (length s) (size p) h))
+
+    pub w-written : size p ≤ length s → (t : List ℕ) → t ≡ sets s 0 (encode p) → ◌≡◌ {A = After (List ℕ)} (record { refusal = 0; state = t }) (write_plan p s)
+    unfolding write_refusal
+    w-written h t q = ap taken_to (q ∙ all) ∙ writes 0 (rw (← e, z, le-ltb (length s) (size p) h))
+      where
+        all : sets s 0 (encode p) ≡ encode p ++ drop (size p) s
+        all = sets-eq (encode p) s 0 (omega (arith, length-encode p)) ∙ ap (λ n. encode p ++ drop n s) (let l : 0 + length (encode p) ≡ size p = omega (arith, length-encode p) in l)

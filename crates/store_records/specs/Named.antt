@@ -1,4 +1,4 @@
--- Names: `same_list` is equality (`same-equal`, `equal-same`). Of the first records that pass (`first-`): one of a name
+-- Names: `same_list` is equality (`same-equal`, `equal-same`), by turns of a loop too (`same-`). Of the first records that pass (`first-`): one of a name
 -- that is saved is found, those of other names are found as before (`saved-own`, `saved-other`).
 use Rattle.std.specs.Prelude.{ℕ, ◌≡◌, ◌≢◌, Bool, true, false, not, eqb}
 use native.Mathlib.Omega.{arith}
@@ -16,6 +16,11 @@ use Rattle.base.specs.Test.{same_list}
 use Rattle.store.specs.Names.{name_in, is_named, without_first, held_among, shown_part}
 use Rattle.store_records.specs.Walk.{IsRecord, laid-back}
 use Rattle.store_records.specs.Spots.{first_of, NonePass, first-hit, first_next, spot-size, spot-part, without-keeps}
+use Rattle.std.specs.Prelude.{◌+◌, ◌≤◌, ◌<◌, get_or, drop}
+use Rattle.std.proofs.Math.Numerals.{add-one}
+use Rattle.std.proofs.Math.ListN.{drop_of_length-le}
+use Rattle.std.proofs.Math.Seq.{drop-cons}
+use borrow.Author.Tests.{eq-eqb, ne_eqb}
 
 pub same-equal : (a b : List ℕ) → same_list a b ≡ true → a ≡ b
 unfolding same_list
@@ -34,6 +39,25 @@ equal-same {a} {b} e = ap (λ x. same_list a x) (sym e) ∙ same_self a
 
 pub same-swap : (a b : List ℕ) → same_list a b ≡ false → same_list b a ≡ false
 same-swap a b e = bool_cases (same_list b a) (λ t. absurd (true≢false (sym (equal-same (sym (same-equal b a t))) ∙ e))) (λ f. f)
+
+-- A LOOP OVER BOTH, from byte i on
+
+pub same-lengths : (a b : List ℕ) → length a ≢ length b → false ≡ same_list a b
+same-lengths a b d = bool_cases (same_list a b) (λ t. absurd (d (ap length (same-equal a b t)))) (λ f. sym f)
+
+module _ (a b : List ℕ) (i : ℕ) (k : length a ≡ length b) (e : same_list a b ≡ same_list (drop i a) (drop i b)) where
+  pub same_over : length a ≤ i → true ≡ same_list a b
+  unfolding same_list
+  same_over h = sym (e ∙ rw (drop_of_length-le a h, drop_of_length-le b (let l : length b ≤ i = omega arith in l)))
+
+  module _ (l : i < length a) where
+    pub same-on : get_or a i 0 ≡ get_or b i 0 → same_list a b ≡ same_list (drop (i + 1) a) (drop (i + 1) b)
+    unfolding same_list
+    same-on h = e ∙ rw (drop-cons a i 0 l, drop-cons b i 0 (omega arith), eq-eqb (get_or a i 0) (get_or b i 0) h, add-one i)
+
+    pub same-off : get_or a i 0 ≢ get_or b i 0 → false ≡ same_list a b
+    unfolding same_list
+    same-off h = sym (e ∙ rw (drop-cons a i 0 l, drop-cons b i 0 (omega arith), ne_eqb (get_or a i 0) (get_or b i 0) h))
 
 -- THE FIRST THAT PASSES
 

@@ -1,6 +1,6 @@
 -- The records of a store: they are the store's front (`front-is`), each is a record (`all-records`), and records laid out are read back (`laid-back`);
--- one turn of a walk over them (`walk-`).
-use Rattle.std.specs.Prelude.{ℕ, zero, suc, ◌+◌, ◌-◌, ◌≤◌, ◌<◌, ◌≡◌, refl, ◌≢◌, true, false, List, [], ◌∷◌, ◌++◌, length, get_or, take, drop, replicate, eqb, leb}
+-- what stands at the front (`none-`, `splits-whole`), and its size (`front-`); one turn of a walk over them (`walk-`).
+use Rattle.std.specs.Prelude.{ℕ, zero, suc, ◌+◌, ◌-◌, ◌≤◌, ◌<◌, ◌≡◌, refl, ◌≢◌, true, false, cond, List, [], ◌∷◌, ◌++◌, length, get_or, take, drop, replicate, eqb, leb}
 use Rattle.std.proofs.Common.{arith, sym, ap, ap₂, ◌∙◌, append_assoc, length-append, length-drop, take-append-drop, length-take-le, get_or-take, take_at, drop_at, drop-drop}
 use Rattle.std.proofs.Math.Bool.{and-eq-true_iff}
 use Rattle.std.proofs.lemmas.List.{length-replicate}
@@ -16,6 +16,10 @@ use Rattle.store.specs.Records.{size_at, whole, records_by, records_in, joined, 
 pub record IsRecord (r : List ℕ) : Type 0 where
   pub version : get_or r 0 0 ≡ 1
   pub sized : size_at r ≡ length r
+
+-- the size of the whole record at the front, 0 where there is none
+unfoldable pub front_size : List ℕ → ℕ
+front_size s = cond (whole s) (size_at s) 0
 
 -- s is a record at the front and the rest
 pub record SplitsOff (s r rest : List ℕ) : Type 0 where
@@ -155,21 +159,21 @@ laid-back n {rs} h = back (n - length (joined rs)) h
     back k nil = no-records k
     back k (con {x} {xs} h t) = ap records_in (append_assoc x (joined xs) (replicate k 0)) ∙ record-first x (joined xs ++ replicate k 0) h ∙ ap (λ l. x ∷ l) (back k t)
 
--- ONE TURN OF A WALK: what stands at the front
+-- WHAT STANDS AT THE FRONT: no record, or one and the rest
 
 module _ (s : List ℕ) where
-  pub front-short : length s < 5 → records_in s ≡ []
-  front-short l = records-none s (bool_cases (whole s) (λ e. absurd (omega (arith, (whole-facts s e).1))) (λ e. e))
+  pub none-short : length s < 5 → records_in s ≡ []
+  none-short l = records-none s (bool_cases (whole s) (λ e. absurd (omega (arith, (whole-facts s e).1))) (λ e. e))
 
-  pub front-version : get_or s 0 0 ≢ 1 → records_in s ≡ []
-  front-version v = records-none s (not-version s v)
+  pub none-version : get_or s 0 0 ≢ 1 → records_in s ≡ []
+  none-version v = records-none s (not-version s v)
 
-  pub front_long : 5 ≤ length s → get_or s 0 0 ≡ 1 → length s - 5 < at32 s 1 → records_in s ≡ []
-  front_long k v l = records-none s (not-long s v (omega arith))
+  pub none_long : 5 ≤ length s → get_or s 0 0 ≡ 1 → length s - 5 < at32 s 1 → records_in s ≡ []
+  none_long k v l = records-none s (not-long s v (omega arith))
 
-  pub front-whole : {n : ℕ} {r t : List ℕ} → 5 ≤ length s → get_or s 0 0 ≡ 1 → n ≡ at32 s 1 → n ≤ length s - 5
+  pub splits-whole : {n : ℕ} {r t : List ℕ} → 5 ≤ length s → get_or s 0 0 ≡ 1 → n ≡ at32 s 1 → n ≤ length s - 5
       → r ≡ take (5 + n) s → t ≡ drop (5 + n) s → SplitsOff s r t
-  front-whole {n} k v e l er et =
+  splits-whole {n} k v e l er et =
       let w = facts-whole s v (omega arith) in
       let z : 5 + n ≡ size_at s = omega arith in
       rw (er, et, z) (record {
@@ -177,3 +181,38 @@ module _ (s : List ℕ) where
         records = records-cons s w;
         some = omega (arith, length-take-le (size_at s) s (whole-facts s w).1);
       })
+
+-- ONE TURN OF A WALK, at byte a
+
+module _ (s : List ℕ) where
+  pub front-short : length s < 5 → 0 ≡ front_size s
+  unfolding front_size
+  front-short l = bool_cases (whole s) (λ e. absurd (omega (arith, (whole-facts s e).1))) (λ e. rw e)
+
+  pub front-version : get_or s 0 0 ≢ 1 → 0 ≡ front_size s
+  unfolding front_size
+  front-version v = rw (not-version s v)
+
+  pub front_long : 5 ≤ length s → get_or s 0 0 ≡ 1 → length s - 5 < at32 s 1 → 0 ≡ front_size s
+  unfolding front_size
+  front_long k v l = rw (not-long s v (omega arith))
+
+  pub front-whole : 5 ≤ length s → get_or s 0 0 ≡ 1 → at32 s 1 ≤ length s - 5 → size_at s ≡ front_size s
+  unfolding front_size
+  front-whole k v l = rw (facts-whole s v (omega arith))
+
+module _ (s : List ℕ) (a n : ℕ) (e : n ≡ front_size (drop a s)) where
+  walk-size : n ≢ 0 → (whole (drop a s) ≡ true) × (n ≡ size_at (drop a s))
+  unfolding front_size
+  walk-size d = bool_cases (whole (drop a s)) (λ w. (w, e ∙ rw w)) (λ w. absurd (d (e ∙ rw w)))
+
+  pub walk_ends : n ≡ 0 → records_in (drop a s) ≡ []
+  unfolding front_size
+  walk_ends z = bool_cases (whole (drop a s)) (λ w. absurd (let q : n ≡ size_at (drop a s) = e ∙ rw w in omega arith)) (records-none (drop a s))
+
+  pub walk-fits : n ≢ 0 → a + n ≤ length s
+  walk-fits d = let w = walk-size d in omega (arith, w.1, (whole-facts (drop a s) w.0).1, length-drop a s)
+
+  pub walk-cons : n ≢ 0 → records_in (drop a s) ≡ take n (drop a s) ∷ records_in (drop (a + n) s)
+  walk-cons d = let w = walk-size d in records-cons (drop a s) w.0
+      ∙ ap (λ k. take k (drop a s) ∷ records_in (drop k (drop a s))) (sym w.1) ∙ ap (λ t. take n (drop a s) ∷ records_in t) (drop-drop n a s)

@@ -1,8 +1,10 @@
--- `log2 n` is the place of the highest digit of n (`log2-is`).
-use Rattle.std.specs.Prelude.{ℕ, zero, suc, ◌^◌, ◌≤◌, ◌<◌, ◌≡◌, cond}
+-- `log2 n` is the place of the highest digit of n (`log2-is`), and what leading zeros leave (`leading`).
+use Rattle.std.specs.Prelude.{ℕ, zero, suc, ◌-◌, ◌^◌, ◌≤◌, ◌<◌, ◌≡◌, ◌≢◌, cond}
 use Rattle.std.proofs.Common.{arith, pow-suc, pow_mono}
 use Rattle.std.proofs.Math.Decide.{dec_le}
 use Rattle.std.proofs.Math.Logic.{by_cases}
+use Rattle.std.specs.Int.Count.{count_leading_zeros}
+use Rattle.std.proofs.lemmas.Nat.{leading_top}
 use Rattle.base.proofs.laws.Cond.{ltb-cases}
 use Rattle.base.specs.Log.{log2-to, log2}
 
@@ -42,3 +44,10 @@ log2-lt k (suc n) h l = by_cases (dec_le k (log2 (suc n))) (λ g. absurd (omega 
 -- the place of the highest digit
 pub log2-is : (j n : ℕ) → 2 ^ j ≤ n → n < 2 ^ suc j → log2 n ≡ j
 log2-is j n l h = omega (arith, level-le j n l, log2-lt (suc j) n (omega arith) h)
+
+-- of 32 digits: what the zeros above the highest leave of 31
+pub leading : (n : ℕ) → n ≢ 0 → n < 2 ^ 32 → (count_leading_zeros 32 n ≤ 31) × (31 - count_leading_zeros 32 n ≡ log2 n)
+leading n d h =
+    let t = leading_top 32 n (omega arith) h in
+    let e : log2 n ≡ t.0 = log2-is t.0 n t.2 t.3 in
+    (omega (arith, t.1), omega (arith, t.1))

@@ -1,8 +1,9 @@
 -- `every` holds exactly if all pass (`every-all`, `all-every`); the answer of a decision as a test, and back (`decides`, `dec-test`).
-use Prim.Native.Nat.{ℕ, zero, suc, ◌<◌}
+use Prim.Native.Nat.{ℕ, zero, suc, ◌-◌, ◌≤◌, ◌<◌}
 use native.Mathlib.Omega.{arith}
 use Rattle.std.proofs.Common.{not-suc-le-zero, sym, ◌∙◌, true≢false}
 use Rattle.std.specs.Prelude.{◌≡◌, refl, Bool, true, false}
+use Rattle.std.proofs.Math.Path.{ap}
 use Rattle.base.proofs.laws.Cond.{bool_cases}
 use Rattle.base.proofs.laws.Search.{lt-suc-cases}
 use Rattle.base.specs.Test.{every}
@@ -23,6 +24,21 @@ pub every-ext : (n : ℕ) (p q : ℕ → Bool) → ((k : ℕ) → k < n → p k 
 unfolding every
 every-ext zero p q h = refl
 every-ext (suc n) p q h = rw (h n (omega arith), every-ext n p q (λ k l. h k (omega arith)))
+
+-- as a loop tests, from the last down
+module _ (p : ℕ → Bool) (v : ℕ) (l : 0 < v) where
+  pub every-goes-on : p (v - 1) ≡ true → every v p ≡ every (v - 1) p
+  unfolding every
+  every-goes-on e = (let s : v ≡ suc (v - 1) = omega arith in ap (λ n. every n p) s) ∙ rw e
+
+  pub every-stops : p (v - 1) ≡ false → every v p ≡ false
+  unfolding every
+  every-stops e = (let s : v ≡ suc (v - 1) = omega arith in ap (λ n. every n p) s) ∙ rw e
+
+pub every-of-none : (p : ℕ → Bool) (v : ℕ) → v ≤ 0 → every v p ≡ true
+unfolding every
+every-of-none p zero l = refl
+every-of-none p (suc v) l = absurd (omega arith)
 
 -- the answer of a decision
 unfoldable pub decides : {A : Type 0} → Dec A → Bool

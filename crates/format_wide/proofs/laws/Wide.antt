@@ -1,14 +1,23 @@
 -- An integer and its bytes determine each other (`four-back`, `eight-back`, `first-four`, `first-eight`), at any place (`at32-behind`, `at32-drop`, ..).
--- The library makes these bytes (`four-made`, `eight-made`); what fits its width is bytes (`four_bytes`, `eight-bytes`).
-use Rattle.std.specs.Prelude.{ℕ, ◌+◌, ◌*◌, ◌/◌, ◌%◌, ◌≤◌, ◌<◌, ◌≡◌, List, [], ◌∷◌, ◌++◌, length, get_or, take, drop}
+-- Writing is a run of stores (`two-16`, `two-32`), or of the bytes that the library makes (`four-made`, `eight-made`); what fits its width is bytes
+-- (`four_bytes`, `eight-bytes`).
+use Rattle.std.specs.Prelude.{ℕ, ◌+◌, ◌*◌, ◌/◌, ◌%◌, ◌≤◌, ◌<◌, ◌≡◌, refl, List, [], ◌∷◌, ◌++◌, length, get_or, take, drop}
 use Rattle.std.proofs.Common.{arith, sym, ap, ap₂, ◌∙◌, length-drop, get_or-append-add, get_or-drop, take-add}
+use Rattle.std.proofs.Math.Numerals.{unary_clauses}
 use Rattle.std.specs.Int.{w32, w64, to_be_bytes}
 use Rattle.base.specs.Limits.{AllBytes}
 use Rattle.base.specs.Pool.{All, nil, con}
 use Rattle.base.proofs.laws.Pool.{All-app}
-use Rattle.format_int16.specs.Int16.{at16, bytes16}
+use Rattle.format_int16.specs.Int16.{at16, bytes16, put16}
 use Rattle.format_int16.proofs.laws.Int16.{high_byte, low_byte}
-use Rattle.format_wide.specs.Wide.{at32, at64, bytes32, bytes64}
+use Rattle.format_wide.specs.Wide.{at32, at64, bytes32, bytes64, put32, put64}
+
+-- two integers of half the width, one behind the other
+pub two-16 : (s : List ℕ) (i x : ℕ) → put16 (put16 s i (x / 65536)) (i + 2) (x % 65536) ≡ put32 s i x
+two-16 s i x = simp unary_clauses refl
+
+pub two-32 : (s : List ℕ) (i x : ℕ) → put32 (put32 s i (x / 4294967296)) (i + 4) (x % 4294967296) ≡ put64 s i x
+two-32 s i x = simp unary_clauses refl
 
 -- the bytes that the library makes
 pub four-made : (x : ℕ) → x < 4294967296 → to_be_bytes w32 x ≡ bytes32 x

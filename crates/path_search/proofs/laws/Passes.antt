@@ -1,4 +1,4 @@
--- The whole pass, branch by branch (`PassTo`: `pass-none`, `pass-next`), is one level more (`passed`).
+-- The whole pass, branch by branch (`PassTo`: `pass-none`, `pass-next`, `pass-or`), is one level more (`passed`).
 use Rattle.std.specs.Prelude.{ℕ, suc, ◌+◌, ◌<◌, ◌≡◌, refl, ◌≢◌, Bool, false, ◌||◌, List, get_or}
 use Rattle.std.proofs.Common.{arith, add-one, not-suc-le-zero, sym, ap, ◌∙◌}
 use Rattle.base.proofs.laws.Cond.{by-eq}
@@ -53,13 +53,19 @@ module _ (p : Plan) (list : List ℕ) (h : ℕ) (hops₀ by₀ : List ℕ) where
   pass-none s = record { goes = λ v. pass-start p v list h hops₀ by₀; none-new = λ e. refl; sized = s }
 
   -- one branch more; with nothing new there was nothing new before
-  pub pass-next : (i : ℕ) (hops by hops' by' : List ℕ) (any new : Bool) → PassTo p list h i hops₀ by₀ hops by any → BranchDone p (get_or list i 0) h hops by hops' by' new
-      → PassTo p list h (i + 1) hops₀ by₀ hops' by' (any || new)
-  pass-next i hops by hops' by' any new before b = record {
+  pub pass-next : (i : ℕ) (hops by hops' by' : List ℕ) (any new any' : Bool) → PassTo p list h i hops₀ by₀ hops by any → BranchDone p (get_or list i 0) h hops by hops' by' new
+      → (any' ≡ false → (new ≡ false) × (any ≡ false)) → PassTo p list h (i + 1) hops₀ by₀ hops' by' any'
+  pass-next i hops by hops' by' any new any' before b nothing = record {
     goes = λ v q. rw (add-one i) (b.done v list i refl (before.goes v q));
-    none-new = λ e. let f = or-false any new e in b.none-new f.1 ∙ before.none-new f.0;
+    none-new = λ e. let f = nothing e in b.none-new f.0 ∙ before.none-new f.1;
     sized = b.sized;
   }
+
+  -- the same where the code keeps whether any was new
+  pub pass-or : (i : ℕ) (hops by hops' by' : List ℕ) (any new : Bool) → PassTo p list h i hops₀ by₀ hops by any → BranchDone p (get_or list i 0) h hops by hops' by' new
+      → PassTo p list h (i + 1) hops₀ by₀ hops' by' (any || new)
+  pass-or i hops by hops' by' any new before b =
+      pass-next i hops by hops' by' any new (any || new) before b (λ e. let f = or-false any new e in (f.1, f.0))
 
   -- all of them
   pub passed : ((v : ℕ) → PathSteps p v) → (n : ℕ) (hops by : List ℕ) (any : Bool) → suc h < far → Branches p list n

@@ -3,7 +3,7 @@ use Rattle.std.proofs.Math.Seq.{get_or-take}
 use Rattle.plan.proofs.laws.Accepted.{accepted}
 use Rattle.path.proofs.laws.Steps.{path_steps}
 use Rattle.path_search.specs.Spread.{BranchDone}
-use Rattle.path_search.proofs.laws.Passes.{PassTo, pass-next, passed}
+use Rattle.path_search.proofs.laws.Passes.{PassTo, pass-or, passed}
 use Rattle.path_search.proofs.pass.Goals as goal
 
 pub loop-k-preserved : goal.loop-k-preserved
@@ -14,7 +14,7 @@ loop-k-preserved c =
     let few = length-take-le a.n a.list.now (omega (arith, c.requires.1.few)) in
     let done : BranchDone p (get_or a.list.now l.k-index 0) a.h l.hops l.by c.pass_branch-any.new.hops c.pass_branch-any.new.by c.pass_branch-any.result =
     rw (← get_or-take a.n a.list.now l.k-index 0 (omega arith)) c.pass_branch-any.ensures in
-    pass-next p a.list.now a.h a.hops.now a.by.now l.k-index l.hops l.by _ _ _ _ l.invariant done
+    pass-or p a.list.now a.h a.hops.now a.by.now l.k-index l.hops l.by _ _ _ _ l.invariant done
 
 pub returns : goal.returns
 returns c =

@@ -1,4 +1,4 @@
--- path_search::pass: the first branches are done (`PassTo`), one more by `pass-next`, all of them by `passed`.
+-- path_search::pass: the first branches are done (`PassTo`), one more by `pass-or`, all of them by `passed`.
 use Rattle.path_search.proofs.laws.Passes.{PassTo}
 use Rattle.path_search.proofs.pass.Given as goal
 
