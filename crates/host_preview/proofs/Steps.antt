@@ -1,4 +1,4 @@
--- A step by its kind, as its preview: 31 and 54 (`preview-31`, `preview-54`), a hand-over (`preview-hand`), a wakeup or a service that was decided (`wake-verdict`,
+-- A step by its kind, as its preview: 31 and 54 (`preview-31`, `preview-54`), a hand-over (`hand-refused`, `hand-shown`), a wakeup or a service that was decided (`wake-verdict`,
 -- `serve-verdict`).
 use Prim.Native.Nat.{ℕ}
 use native.Mathlib.Omega.{arith}
@@ -8,7 +8,10 @@ use mathlib.Core.Bool.{true, false}
 use mathlib.Core.List.{List, []}
 use lib.ListN.{length}
 use Rattle.base.specs.Loop.{After}
-use Rattle.base.proofs.laws.Cond.{by-eq}
+use Rattle.std.specs.Prelude.{Result, Ok, Err}
+use Rattle.refusal.specs.declared.Refusal.{Refusal}
+use Rattle.refusal.specs.Number.{numbered, refusal_in}
+use Rattle.refusal.proofs.laws.Number.{positive}
 use Rattle.plan.specs.Links.{Plan}
 use Rattle.node.specs.Work.{Work}
 use Rattle.field.specs.State.{State, posted}
@@ -17,7 +20,7 @@ use Rattle.field.specs.Held.{Held, state_of, valid, step_alone}
 use Rattle.field.proofs.laws.Step.{wake-is-step, hand-is-step, serve-is-step, other-is-54, alone-31, alone-step}
 use Rattle.field_calls.specs.Trail.{step_taken, served_word, sends_at}
 use Rattle.field_words.specs.Hands.{handable}
-use Rattle.field_words.proofs.Outcomes.{hand-is}
+use Rattle.field_words.proofs.Outcomes.{handed_by, hand-is}
 use Rattle.field_verdict.specs.Verdict.{Verdict, Decided}
 use Rattle.preview.specs.Preview.{not_shown, shown, would_send, preview}
 use Rattle.preview.proofs.laws.Outcomes.{preview-refused}
@@ -29,6 +32,11 @@ pub showable : {a : After State} {w : Work} {p : Plan} {v : ℕ} {s : State} {d 
 showable x z =
     let c = x.can z in
     record { count = c.count ∙ ap (λ (w : Work). length w.sends) (sym c.work); waiting = _; feasible = c.feasible }
+
+-- a hand-over carried out is refused as it was decided
+by-place : (s : State) (r : Result ℕ Refusal) → (handed_by r s).refusal ≡ refusal_in r
+by-place s (Ok a) = refl
+by-place s (Err r) = refl
 
 module _ (kind number : ℕ) (h : Held) (buffer : List ℕ) where
   -- a refusal that is known, told with nothing beside it
@@ -48,19 +56,22 @@ module _ (kind number : ℕ) (h : Held) (buffer : List ℕ) where
     pub preview-54 : kind ≢ 1 → kind ≢ 2 → kind ≢ 3 → not_shown 54 buffer ≡ preview kind number h buffer
     preview-54 a b c = refused-as (alone (sym (other-is-54 p kind number (state_of h) a b c))) (λ z. omega arith)
 
+    hand-tells : kind ≡ 2 → {r : Result ℕ Refusal} (words : List ℕ) → words ≡ (state_of h).words → r ≡ handable p number words → (step_alone kind number h).refusal ≡ refusal_in r
+    hand-tells e {r} words w q =
+        alone (hand-is-step p kind number (state_of h) e) ∙ ap (λ (x : After State). x.refusal) (hand-is p number (state_of h))
+        ∙ by-place (state_of h) (handable p number (state_of h).words) ∙ ap (λ (l : List ℕ). refusal_in (handable p number l)) (sym w) ∙ ap (λ (y : Result ℕ Refusal). refusal_in y) (sym q)
+
     shows-none : kind ≡ 2 → (step_alone kind number h).refusal ≡ 0 → preview kind number h buffer ≡ shown [] buffer
     shows-none e = rw e (hand-shows-none number h buffer)
 
     -- the words that the code passes on are those that wait
-    pub preview-hand : kind ≡ 2 → {r : ℕ} (words : List ℕ) → words ≡ (state_of h).words → r ≡ (handable p number words).refusal
-        → not_shown r buffer ≡ preview kind number h buffer
-    preview-hand e {r} words w q =
-        let f : (step_alone kind number h).refusal ≡ r =
-        alone (hand-is-step p kind number (state_of h) e) ∙ ap (λ (x : After State). x.refusal) (hand-is p number (state_of h))
-        ∙ ap (λ (l : List ℕ). (handable p number l).refusal) (sym w) ∙ sym q in
-        by-eq r 0
-        (λ z. ap (λ (x : ℕ). not_shown x buffer) z ∙ sym (shows-none e (f ∙ z)))
-        (refused-as f)
+    pub hand-refused : kind ≡ 2 → {r : Refusal} (words : List ℕ) → words ≡ (state_of h).words → Err r ≡ handable p number words
+        → not_shown (numbered r) buffer ≡ preview kind number h buffer
+    hand-refused e {r} words w q = refused-as (hand-tells e words w q) (positive r)
+
+    pub hand-shown : kind ≡ 2 → {a : ℕ} (words : List ℕ) → words ≡ (state_of h).words → Ok a ≡ handable p number words
+        → shown [] buffer ≡ preview kind number h buffer
+    hand-shown e words w q = sym (shows-none e (hand-tells e words w q))
 
     -- so is their state
     module _ (s : State) (same : s ≡ state_of h) {d : Verdict} where

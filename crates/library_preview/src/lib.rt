@@ -2,12 +2,26 @@
 #![tactic(auto)]
 
 ghost use Rattle.std.specs.Prelude.{◌≡◌};
-ghost use Rattle.preview.specs.Preview.{preview};
+ghost use Rattle.preview.specs.Preview.{previewed_of, preview};
 ghost use Rattle.field.specs.Held.{held_from};
 
 use field::{Cells, Marks};
 use plan::Plan;
 use preview::Previewed;
+use refusal::Refusal;
+
+// What a preview answers, in C's numbers.
+fn told(answer: Result<u32, Refusal>) -> Previewed
+    ensures { result ≡ previewed_of answer }
+{
+    match answer {
+        Ok(count) => Previewed { refusal: 0, count },
+        Err(refusal) => Previewed {
+            refusal: refusal.number(),
+            count: 0,
+        },
+    }
+}
 
 // A step shown and not taken: its refusal, 75, or 0 and the number of its words, which then stand at the front of the buffer.
 #[unsafe(no_mangle)]
@@ -24,5 +38,5 @@ pub extern "C" fn muruapy_preview_parts<'a>(
     ensures { record { answer = result; buffer = buffer.new }
         ≡ preview kind number (held_from plan.now cells.now marks.now sent words.now) buffer.old }
 {
-    host_preview::preview_parts(plan, cells, marks, sent, words, kind, number, buffer)
+    told(host_preview::preview_parts(plan, cells, marks, sent, words, kind, number, buffer))
 }

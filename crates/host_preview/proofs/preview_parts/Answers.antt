@@ -1,104 +1,147 @@
--- host_preview::preview_parts: one law for each way: `preview-31`, `wake-verdict`, `preview-hand`, `serve-verdict`, `preview-54`. What waits is the part of the words that is
--- passed on, by `starts`.
-use Prim.Native.Nat.{ℕ}
-use native.Mathlib.Omega.{arith}
-use mathlib.Core.Path.{◌≡◌, ap, sym}
-use mathlib.Core.Bool.{false, true, not}
-use mathlib.Core.List.{List}
-use lib.ListN.{length, take}
-use lib.Seq.{length-take-le}
-use borrow.Author.Tests.{not-false}
-use Rattle.plan.specs.Links.{Plan}
+-- host_preview::preview_parts: one law for each way: `preview-31`, `wake-verdict`, `hand-refused`, `hand-shown`, `serve-verdict`, `preview-54`. What waits is the
+-- part of the words that is passed on, by `starts`.
+use mathlib.Core.Path.{◌≡◌, refl, ap}
+use mathlib.Core.Logic.{◌≢◌}
+use lib.ListN.{take}
+use Rattle.std.specs.Prelude.{Ok, Err}
+use Rattle.std.proofs.Common.{rules, arith}
+use Rattle.std.proofs.lemmas.Bool.Decides.{nat_tests}
+use Rattle.refusal.specs.declared.Refusal.TheVariants.{StepKind}
+use Rattle.refusal.proofs.laws.Number.{positive}
 use Rattle.field.specs.State.{State}
-use Rattle.field.specs.Held.{state_of, valid, held_from, field_from}
-use Rattle.field_words.specs.declared.HandVerdict.{HandVerdict}
-use Rattle.field_words.specs.Hands.{lent_state}
-use Rattle.field_check.specs.declared.Checked.{Checked}
-use Rattle.field_check.specs.Checked.{check_of}
+use Rattle.field.specs.Held.{held_from}
+use Rattle.field_words.specs.Hands.{handable}
 use Rattle.field_check.specs.Ready.{Ready}
+use Rattle.field_check.specs.Checked.{check_of}
 use Rattle.field_check.proofs.Admitted.{invalid, passes, starts}
-use Rattle.host_preview.proofs.Steps.{showable, preview-31, preview-54, preview-hand, wake-verdict, serve-verdict}
-use Rattle.host_preview.proofs.preview_parts.Goals.{in-0-1, in_default-1}
+use Rattle.field_verdict.specs.Verdict.{verdict_of}
+use Rattle.host_preview.proofs.Shows.{shows-refused}
+use Rattle.host_preview.proofs.Steps.{showable, preview-31, preview-54, hand-refused, hand-shown, wake-verdict, serve-verdict}
 use Rattle.host_preview.proofs.preview_parts.Goals as goal
 
--- 31 has passed
-admitted : (p : Plan) (cells marks words : List ℕ) (sent : ℕ) (a : Checked) → a ≡ check_of (held_from p cells marks sent words) → not a.ok ≡ false
-    → valid (held_from p cells marks sent words) ≡ true
-admitted p cells marks words sent a e y = passes (field_from p cells marks sent) words a e y
-
-state : (p : Plan) (cells marks words : List ℕ) (sent : ℕ) (a : Checked) → a ≡ check_of (held_from p cells marks sent words)
-    → lent_state cells marks words a.waiting sent ≡ state_of (held_from p cells marks sent words)
-state p cells marks words sent a e = starts (field_from p cells marks sent) words a e
-
--- the words that wait are passed on
-part : (p : Plan) (cells marks words : List ℕ) (n sent : ℕ) → Ready p cells marks words n sent → n ≡ length (take n words)
-part p cells marks words n sent r = sym (length-take-le n words r.laid.within)
-
-pub returns-then-not-c : goal.returns-then-not-c
-returns-then-not-c c =
+pub returns-in_err-n : goal.returns-in_err-n
+returns-in_err-n c =
     let a = c.args in
     let h = held_from a.plan.now a.cells.now a.marks.now a.sent a.words.now in
-    rw c.told.ensures (preview-31 _ _ h _ (invalid h.field h.words _ c.admit_parts-c.ensures.0 c.if-not-c.true))
+    let x = c.in_err-n.field-0.0 in
+    let e : Err x ≡ check_of h = grind rules in
+    let q : c.from_residual.result ≡ Err x = grind rules in
+    rw (q, (invalid h.field h.words e).0) (preview-31 _ _ h _ (invalid h.field h.words e).1)
+
+pub returns-in_err-try_from : goal.returns-in_err-try_from
+returns-in_err-try_from c =
+    let a = c.args in
+    let h = held_from a.plan.now a.cells.now a.marks.now a.sent a.words.now in
+    let e : Ok c.in_ok-n.n ≡ check_of h = grind rules in
+    let v = passes h.field h.words e in
+    let q : c.from_residual-in_err-try_from.result ≡ Err StepKind = grind arith in
+    let k : c.args.kind ≢ 1 = grind (arith, nat_tests) in
+    let l : c.args.kind ≢ 2 = grind (arith, nat_tests) in
+    let m : c.args.kind ≢ 3 = grind (arith, nat_tests) in
+    rw q (preview-54 _ _ h _ v k l m)
 
 pub wake-requires : goal.wake-requires
-wake-requires c = let r = c.admit_parts-c.ensures.1 (not-false _ c.if-not-c.false) in (r.plan, r.whole, r.sound)
+wake-requires c =
+    let a = c.args in
+    let h = held_from a.plan.now a.cells.now a.marks.now a.sent a.words.now in
+    let e : Ok c.in_ok-n.n ≡ check_of h = grind rules in
+    let v = passes h.field h.words e in
+    let r : Ready a.plan.now a.cells.now a.marks.now a.words.now c.in_ok-n.n a.sent = grind rules in
+    (r.plan, r.whole, r.sound)
+
+pub returns-in_err-d-in-Wake : goal.returns-in_err-d-in-Wake
+returns-in_err-d-in-Wake c =
+    let a = c.args in
+    let h = held_from a.plan.now a.cells.now a.marks.now a.sent a.words.now in
+    let e : Ok c.in_ok-n.n ≡ check_of h = grind rules in
+    let v = passes h.field h.words e in
+    let k : c.args.kind ≡ 1 = grind arith in
+    let x = c.in_err-d-in-Wake.field-0.0 in
+    let d : c.wake.result ≡ Err x = grind rules in
+    let q : c.from_residual-in_err-d-in-Wake.result ≡ Err x = grind rules in
+    rw q ((shows-refused a.plan.now a.marks.now a.number (verdict_of (Err x)) a.buffer.now (positive x) refl).is _ _ _ _
+    (wake-verdict _ _ h a.buffer.now v _ (starts h.field h.words e) k (rw d at c.wake.ensures)))
 
 pub show-requires : goal.show-requires
-show-requires c = ((c.admit_parts-c.ensures.1 (not-false _ c.if-not-c.false)).plan.links_ok, showable c.wake.ensures)
+show-requires c =
+    let a = c.args in
+    let h = held_from a.plan.now a.cells.now a.marks.now a.sent a.words.now in
+    let e : Ok c.in_ok-n.n ≡ check_of h = grind rules in
+    let v = passes h.field h.words e in
+    let r : Ready a.plan.now a.cells.now a.marks.now a.words.now c.in_ok-n.n a.sent = grind rules in
+    let d : c.wake.result ≡ Ok c.in_ok-d-in-Wake.d = grind rules in
+    (r.plan.links_ok, showable (rw d at c.wake.ensures) refl)
 
-pub handable-requires : goal.handable-requires
-handable-requires c = (c.admit_parts-c.ensures.1 (not-false _ c.if-not-c.false)).plan.links_ok
+pub returns-in_ok-d-in-Wake : goal.returns-in_ok-d-in-Wake
+returns-in_ok-d-in-Wake c =
+    let a = c.args in
+    let h = held_from a.plan.now a.cells.now a.marks.now a.sent a.words.now in
+    let e : Ok c.in_ok-n.n ≡ check_of h = grind rules in
+    let v = passes h.field h.words e in
+    let k : c.args.kind ≡ 1 = grind arith in
+    let d : c.wake.result ≡ Ok c.in_ok-d-in-Wake.d = grind rules in
+    c.show.ensures.is _ _ _ _ (wake-verdict _ _ h a.buffer.now v _ (starts h.field h.words e) k (rw d at c.wake.ensures))
 
 pub serve-requires : goal.serve-requires
-serve-requires c = let r = c.admit_parts-c.ensures.1 (not-false _ c.if-not-c.false) in (r.plan, r.whole, r.sound)
-
-pub show-requires-in-3 : goal.show-requires-in-3
-show-requires-in-3 c = ((c.admit_parts-c.ensures.1 (not-false _ c.if-not-c.false)).plan.links_ok, showable c.serve.ensures)
-
-pub returns-in-1 : goal.returns-in-1
-returns-in-1 c =
+serve-requires c =
     let a = c.args in
-    let e = c.admit_parts-c.ensures.0 in
-    c.show.ensures.is _ _ _ _
-    (wake-verdict _ _ (held_from a.plan.now a.cells.now a.marks.now a.sent a.words.now) a.buffer.now
-    (admitted a.plan.now a.cells.now a.marks.now a.words.now a.sent c.admit_parts-c.result e c.if-not-c.false) _
-    (state a.plan.now a.cells.now a.marks.now a.words.now a.sent c.admit_parts-c.result e) c.in-1.is c.wake.ensures)
+    let h = held_from a.plan.now a.cells.now a.marks.now a.sent a.words.now in
+    let e : Ok c.in_ok-n.n ≡ check_of h = grind rules in
+    let v = passes h.field h.words e in
+    let r : Ready a.plan.now a.cells.now a.marks.now a.words.now c.in_ok-n.n a.sent = grind rules in
+    (r.plan, r.whole, r.sound)
 
-pub returns-in-2 : goal.returns-in-2
-returns-in-2 c =
+pub returns-in_err-d-in-Serve : goal.returns-in_err-d-in-Serve
+returns-in_err-d-in-Serve c =
     let a = c.args in
-    let e = c.admit_parts-c.ensures.0 in
-    rw c.told-in-2.ensures
-    (preview-hand _ _ (held_from a.plan.now a.cells.now a.marks.now a.sent a.words.now) _
-    (admitted a.plan.now a.cells.now a.marks.now a.words.now a.sent c.admit_parts-c.result e c.if-not-c.false) c.in-2.is _
-    (ap (λ (x : State). x.words) (state a.plan.now a.cells.now a.marks.now a.words.now a.sent c.admit_parts-c.result e))
-    (ap (λ (x : HandVerdict). x.refusal) c.handable.ensures))
+    let h = held_from a.plan.now a.cells.now a.marks.now a.sent a.words.now in
+    let e : Ok c.in_ok-n.n ≡ check_of h = grind rules in
+    let v = passes h.field h.words e in
+    let k : c.args.kind ≡ 3 = grind arith in
+    let x = c.in_err-d-in-Serve.field-0.0 in
+    let d : c.serve.result ≡ Err x = grind rules in
+    let q : c.from_residual-in_err-d-in-Serve.result ≡ Err x = grind rules in
+    rw q ((shows-refused a.plan.now a.marks.now a.number (verdict_of (Err x)) a.buffer.now (positive x) refl).is _ _ _ _
+    (serve-verdict _ _ h a.buffer.now v _ (starts h.field h.words e) k (rw d at c.serve.ensures)))
 
-pub returns-in-3 : goal.returns-in-3
-returns-in-3 c =
+pub show-requires-in-Serve : goal.show-requires-in-Serve
+show-requires-in-Serve c =
     let a = c.args in
-    let e = c.admit_parts-c.ensures.0 in
-    c.show-in-3.ensures.is _ _ _ _
-    (serve-verdict _ _ (held_from a.plan.now a.cells.now a.marks.now a.sent a.words.now) a.buffer.now
-    (admitted a.plan.now a.cells.now a.marks.now a.words.now a.sent c.admit_parts-c.result e c.if-not-c.false) _
-    (state a.plan.now a.cells.now a.marks.now a.words.now a.sent c.admit_parts-c.result e) c.in-3.is c.serve.ensures)
+    let h = held_from a.plan.now a.cells.now a.marks.now a.sent a.words.now in
+    let e : Ok c.in_ok-n.n ≡ check_of h = grind rules in
+    let v = passes h.field h.words e in
+    let r : Ready a.plan.now a.cells.now a.marks.now a.words.now c.in_ok-n.n a.sent = grind rules in
+    let d : c.serve.result ≡ Ok c.in_ok-d-in-Serve.d = grind rules in
+    (r.plan.links_ok, showable (rw d at c.serve.ensures) refl)
 
-pub returns-in-0 : goal.returns-in-0
-returns-in-0 c =
+pub returns-in_ok-d-in-Serve : goal.returns-in_ok-d-in-Serve
+returns-in_ok-d-in-Serve c =
     let a = c.args in
-    let other = preview-54 a.kind a.number (held_from a.plan.now a.cells.now a.marks.now a.sent a.words.now) a.buffer.now
-    (admitted a.plan.now a.cells.now a.marks.now a.words.now a.sent c.admit_parts-c.result c.admit_parts-c.ensures.0 c.if-not-c.false) in
-    rw c.told-in-0.ensures
-    (elim c.in-0-1.branch [
-      | in-0-1 w ↦ other (λ n. omega arith) (λ n. omega arith) (λ n. omega arith)
-      | in_default-1 w ↦ other (λ n. omega arith) (λ n. omega arith) (λ n. omega arith)
-    ])
+    let h = held_from a.plan.now a.cells.now a.marks.now a.sent a.words.now in
+    let e : Ok c.in_ok-n.n ≡ check_of h = grind rules in
+    let v = passes h.field h.words e in
+    let k : c.args.kind ≡ 3 = grind arith in
+    let d : c.serve.result ≡ Ok c.in_ok-d-in-Serve.d = grind rules in
+    c.show-in-Serve.ensures.is _ _ _ _ (serve-verdict _ _ h a.buffer.now v _ (starts h.field h.words e) k (rw d at c.serve.ensures))
 
-pub slice_bounds-wake-end : goal.slice_bounds-wake-end
-slice_bounds-wake-end c = part _ _ _ _ _ _ (c.admit_parts-c.ensures.1 (not-false _ c.if-not-c.false))
+pub returns-in_err-handable-in-HandOver : goal.returns-in_err-handable-in-HandOver
+returns-in_err-handable-in-HandOver c =
+    let a = c.args in
+    let h = held_from a.plan.now a.cells.now a.marks.now a.sent a.words.now in
+    let e : Ok c.in_ok-n.n ≡ check_of h = grind rules in
+    let v = passes h.field h.words e in
+    let k : c.args.kind ≡ 2 = grind arith in
+    let x = c.in_err-handable-in-HandOver.field-0.0 in
+    let q : c.from_residual-in_err-handable-in-HandOver.result ≡ Err x = grind rules in
+    let d : Err x ≡ handable a.plan.now a.number (take c.in_ok-n.n a.words.now) = grind rules in
+    rw q (hand-refused _ _ h a.buffer.now v k _ (ap (λ (t : State). t.words) (starts h.field h.words e)) d)
 
-pub slice_bounds-handable-end : goal.slice_bounds-handable-end
-slice_bounds-handable-end c = part _ _ _ _ _ _ (c.admit_parts-c.ensures.1 (not-false _ c.if-not-c.false))
-
-pub slice_bounds-serve-end : goal.slice_bounds-serve-end
-slice_bounds-serve-end c = part _ _ _ _ _ _ (c.admit_parts-c.ensures.1 (not-false _ c.if-not-c.false))
+pub returns-in_ok-handable-in-HandOver : goal.returns-in_ok-handable-in-HandOver
+returns-in_ok-handable-in-HandOver c =
+    let a = c.args in
+    let h = held_from a.plan.now a.cells.now a.marks.now a.sent a.words.now in
+    let e : Ok c.in_ok-n.n ≡ check_of h = grind rules in
+    let v = passes h.field h.words e in
+    let k : c.args.kind ≡ 2 = grind arith in
+    let d : Ok c.in_ok-handable-in-HandOver.field-0 ≡ handable a.plan.now a.number (take c.in_ok-n.n a.words.now) = grind rules in
+    hand-shown _ _ h a.buffer.now v k _ (ap (λ (t : State). t.words) (starts h.field h.words e)) d
