@@ -107,7 +107,7 @@ fn of_parts(kind: u8, level: u16, carried: u16, find: bool) -> Option<NodeMessag
     }
 }
 
-// The kind, bits 0 to 2 of a header.
+// The kind, bits 0 to 2 of a header. It and the other parts are numbers, as C asks for them (library_message).
 pub fn kind(header: u8) -> u8
     ensures { result ≡ kind_at header }
 {
