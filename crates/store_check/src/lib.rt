@@ -4,6 +4,7 @@
 ghost use Rattle.std.specs.Prelude.{◌*◌, ◌≤◌, ◌≡◌, true, not, ◌&&◌, map, length, replicate};
 ghost use Rattle.std.proofs.lemmas.List.Edits.{sets};
 ghost use Rattle.base.specs.Limits.{max_ends};
+ghost use Rattle.refusal.specs.Number.{refusal_in};
 ghost use Rattle.plan.specs.Links.{blank};
 ghost use Rattle.plan.proofs.laws.Accepted.{Accepted};
 ghost use Rattle.plan_file.specs.Reading.{Loaded};
@@ -18,6 +19,7 @@ ghost use Rattle.store_check.specs.Seen.{plan_size_in, PlanRead, NumbersThere, W
 use base::{MAX_ENDS, MAX_WORDS};
 use field::{CELLS, Cells, Marks};
 use plan::{NUMBERS, Plan};
+use refusal::Refusal;
 
 // THE PARTS OF A RECORD
 
@@ -84,10 +86,10 @@ fn words_part<'a>(r: &'a [u8], plan: &Plan) -> &'a [u8]
 
 // READING
 
-// A record's plan, into a plan of zeros: the first of 11 to 18 that applies, or 0.
-fn read_plan(r: &[u8], plan: &mut Plan) -> u32
+// A record's plan, into a plan of zeros: the first of 11 to 18 that applies.
+fn read_plan(r: &[u8], plan: &mut Plan) -> Result<(), Refusal>
     requires { plan.old ≡ blank }
-    ensures { Loaded (plan_bytes r.now) result plan.new }
+    ensures { Loaded (plan_bytes r.now) (refusal_in result) plan.new }
 {
     plan_file::load(plan_bytes(r), plan)
 }
@@ -117,12 +119,12 @@ fn read_words<'a>(r: &'a [u8], plan: &'a Plan, words: &mut [u64]) -> usize
     part.len() / 8
 }
 
-// The plan of a record that fits, into a plan of zeros.
+// The plan of a record that fits, into a plan of zeros: it is never refused.
 pub fn take_plan(r: &[u8], plan: &mut Plan)
     requires { (record_fits r.now ≡ true) × (plan.old ≡ blank) }
     ensures { plan.new ≡ (held_in r.now).field.plan }
 {
-    read_plan(r, plan);
+    let _ = read_plan(r, plan);
 }
 
 // The field and the words of a record that fits, with its plan: cells and marks, words at the front; the sent count.
@@ -187,10 +189,7 @@ pub fn record_fits(r: &[u8]) -> bool
         return false;
     }
     let mut plan = [0u16; NUMBERS];
-    if read_plan(r, &mut plan) != 0 {
-        return false;
-    }
-    sizes_fit(r, &plan)
+    read_plan(r, &mut plan).is_ok() && sizes_fit(r, &plan)
 }
 
 // Whether a record passes, and no record of the rest has its name.
