@@ -1,6 +1,6 @@
 -- The whole job on one plan: setup, a wake of the lowest module of each part, rounds. (Document 01: "The reporting program reads a plan on standard input, wakes
 -- module 0, runs rounds with limit 65535."; request 08: "The program wakes the lowest module of each part".)
-use Rattle.std.specs.Prelude.{ℕ, ◌+◌, ◌*◌, cond, not, length, eqb}
+use Rattle.std.specs.Prelude.{ℕ, Result, Ok, Err, ◌+◌, ◌*◌, cond, not, length, eqb}
 use mathlib.Core.List.{List, ◌∷◌, ◌++◌, flat_map}
 use Rattle.base.specs.Limits.{max_modules}
 use Rattle.base.specs.Loop.{Ran}
@@ -8,7 +8,10 @@ use Rattle.format_int16.specs.Int16.{bytes16}
 use Rattle.graph.specs.Parts.{lowests}
 use Rattle.plan.specs.Links.{Plan, modules_of, graph_of}
 use Rattle.field.specs.Step.{WAKE}
-use Rattle.field.specs.Held.{Held, set_up}
+use Rattle.refusal.specs.declared.Refusal.{Refusal}
+use Rattle.refusal.specs.Number.{numbered}
+use Rattle.host_job.specs.declared.Job.{Job}
+use Rattle.field.specs.Held.{Held, set_up, blank_field}
 use Rattle.field_calls.specs.Call.{refused_run, run_bytes, run_rounds}
 
 -- a wake of each of these modules, in this order, as a schedule
@@ -38,3 +41,8 @@ job_run p lent =
     cond (not (eqb s.refusal 0)) (refused_run s.refusal s.state)
     (cond (not (eqb w.refusal 0)) (refused_run w.refusal w.state)
     (run_rounds max_rounds w.state))
+
+-- the same from the code's answer: a job that is refused is refused by its setup, and has done no round
+abbrev pub job_told : Result Job Refusal → List ℕ → Ran Held
+job_told (Ok j) words = record { done = j.rounds; refusal = 0; state = record { field = j.field; words = words } }
+job_told (Err r) words = record { done = 0; refusal = numbered r; state = record { field = blank_field; words = words } }

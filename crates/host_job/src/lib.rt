@@ -8,13 +8,14 @@ ghost use Rattle.graph.specs.Parts.{lowests};
 ghost use Rattle.plan.specs.Links.{modules_of, graph_of};
 ghost use Rattle.plan.specs.Refusal.{plan_refusal};
 ghost use Rattle.field.specs.Step.{WAKE};
-ghost use Rattle.host_job.specs.Job.{wake_steps, job_wakes, most_wakes, job_run};
+ghost use Rattle.host_job.specs.Job.{wake_steps, job_wakes, most_wakes, job_told, job_run};
 
 use base::MAX_MODULES;
 use field::Field;
-use field_calls::WAKE;
+use field_calls::Kind;
 use plan::Plan;
 use plan_labels::LABELS;
+use refusal::Refusal;
 
 // "rounds with limit 65535"
 const MAX_ROUNDS: u16 = 65535;
@@ -22,12 +23,11 @@ const MAX_ROUNDS: u16 = 65535;
 // The bytes of the longest schedule: every module is a part of its own.
 const SCHEDULE: usize = 3 + 3 * MAX_MODULES as usize;
 
-// rounds: rounds completed. refusal: 14 to 18, 21 or 0; no other can occur (proofs/laws/Agrees).
+// What the job leaves, and the rounds completed.
 #[derive(Drop)]
-pub struct JobDone {
-    pub rounds: u16,
-    pub refusal: u32,
+pub struct Job {
     pub field: Field,
+    pub rounds: u16,
 }
 
 // A wake of module v, from byte `at` on.
@@ -35,7 +35,7 @@ fn put_wake(out: &mut [u8], at: usize, v: u16)
     requires { at + 2 < length out.old }
     ensures { out.new ≡ sets out.old at (WAKE ∷ bytes16 v) }
 {
-    out[at] = WAKE;
+    out[at] = Kind::Wake as u8;
     format_int16::put(out, at + 1, v);
 }
 
@@ -68,35 +68,16 @@ fn wakes(p: &Plan, out: &mut [u8]) -> usize
     end
 }
 
-pub fn run_job(p: &Plan, words: &mut [u64]) -> JobDone
-    ensures { record { done = result.rounds; refusal = result.refusal; state = record { field = result.field; words = words.new } }
-        ≡ job_run p.now words.old }
+// The job on a plan: refused by 14 to 18 or 21, as its setup is; neither the wakes nor the rounds can be refused (proofs/laws/Agrees).
+pub fn run_job(p: &Plan, words: &mut [u64]) -> Result<Job, Refusal>
+    ensures { job_told result words.new ≡ job_run p.now words.old }
 {
-    let s = host_setup::setup(p, words);
-    let start = s.field;
-    if s.refusal != 0 {
-        return JobDone {
-            rounds: 0,
-            refusal: s.refusal,
-            field: start,
-        };
-    }
+    let mut field = host_setup::setup(p, words)?;
     let mut schedule = [0u8; SCHEDULE];
     let n = wakes(p, &mut schedule);
-    let w = host_run::run(start, words, &schedule[..n]);
-    let woken = w.field;
-    if w.refusal != 0 {
-        return JobDone {
-            rounds: 0,
-            refusal: w.refusal,
-            field: woken,
-        };
-    }
-    let r = host_rounds::run(woken, words, MAX_ROUNDS);
-    let end = r.field;
-    JobDone {
-        rounds: r.rounds,
-        refusal: r.refusal,
-        field: end,
-    }
+    host_run::run(&mut field, words, &schedule[..n]).ended?;
+    let run = host_rounds::run(&mut field, words, MAX_ROUNDS);
+    run.ended?;
+    let rounds = run.done;
+    Ok(Job { field, rounds })
 }

@@ -10,31 +10,27 @@ ghost use Rattle.library_field.specs.Lent.{set_up_into};
 
 use field::{Cells, Field, Marks};
 use plan::Plan;
+use refusal::refusal_in;
 
 // The field of these parts.
 pub fn field_of(plan: &Plan, cells: &Cells, marks: &Marks, sent: u32) -> Field
     ensures { result ≡ field_from plan.now cells.now marks.now sent }
 {
-    let numbers = *plan;
-    let values = *cells;
-    let ends = *marks;
     Field {
-        plan: numbers,
-        cells: values,
-        marks: ends,
-        sent: sent,
+        plan: *plan,
+        cells: *cells,
+        marks: *marks,
+        sent,
     }
 }
 
 // The parts that a call on a field may have changed, handed back.
-pub fn hand_back(g: Field, cells: &mut Cells, marks: &mut Marks, sent: &mut u32)
-    ensures { (cells.new ≡ g.cells) × (marks.new ≡ g.marks) × (sent.new ≡ g.sent) }
+pub fn hand_back(f: &Field, cells: &mut Cells, marks: &mut Marks, sent: &mut u32)
+    ensures { (cells.new ≡ f.now.cells) × (marks.new ≡ f.now.marks) × (sent.new ≡ f.now.sent) }
 {
-    let values = g.cells;
-    let ends = g.marks;
-    *cells = values;
-    *marks = ends;
-    *sent = g.sent;
+    *cells = f.cells;
+    *marks = f.marks;
+    *sent = f.sent;
 }
 
 // Setup: 14 to 18, then 21. `held` is the plan's place in the field.
@@ -49,15 +45,14 @@ pub fn muruapy_setup_parts(
     ensures { record { refusal = result; state = held_from held.new cells.new marks.new sent.new words.new }
         ≡ set_up_into plan.now (held_from held.old cells.old marks.old sent.old words.old) }
 {
-    let s = host_setup::setup(plan, words);
-    let f = s.field;
-    let own = f.plan;
-    if s.refusal != 0 {
-        return s.refusal;
+    match host_setup::setup(plan, words) {
+        Ok(f) => {
+            *held = f.plan;
+            hand_back(&f, cells, marks, sent);
+            0
+        }
+        Err(refusal) => refusal.number(),
     }
-    *held = own;
-    hand_back(f, cells, marks, sent);
-    0
 }
 
 // 31 by itself.
@@ -70,11 +65,10 @@ pub fn muruapy_field_check_parts<'a>(
 ) -> u32
     ensures { result ≡ cond (valid (held_from plan.now cells.now marks.now sent words.now)) 0 31 }
 {
-    let c = field_check::check(plan, cells, marks, sent, words);
-    if c.ok {
-        return 0;
+    match field_check::check(plan, cells, marks, sent, words) {
+        Ok(_) => 0,
+        Err(r) => r.number(),
     }
-    31
 }
 
 // How many words wait.
@@ -97,10 +91,10 @@ pub fn muruapy_step_parts(
     ensures { record { refusal = result; state = held_from plan.now cells.new marks.new sent.new words.new }
         ≡ step_alone kind number (held_from plan.now cells.old marks.old sent.old words.old) }
 {
-    let f = field_of(plan, cells, marks, *sent);
-    let t = host_run::step(f, words, kind, number);
-    hand_back(t.field, cells, marks, sent);
-    t.refusal
+    let mut f = field_of(plan, cells, marks, *sent);
+    let answer = host_run::step(&mut f, words, kind, number);
+    hand_back(&f, cells, marks, sent);
+    refusal_in(answer)
 }
 
 // A run of a schedule; `steps` gets the steps done.
@@ -116,11 +110,11 @@ pub fn muruapy_run_parts(
     ensures { record { done = steps.new; refusal = result; state = held_from plan.now cells.new marks.new sent.new words.new }
         ≡ run_bytes bytes.now (held_from plan.now cells.old marks.old sent.old words.old) }
 {
-    let f = field_of(plan, cells, marks, *sent);
-    let t = host_run::run(f, words, bytes);
-    hand_back(t.field, cells, marks, sent);
-    *steps = t.steps;
-    t.refusal
+    let mut f = field_of(plan, cells, marks, *sent);
+    let run = host_run::run(&mut f, words, bytes);
+    hand_back(&f, cells, marks, sent);
+    *steps = run.done;
+    refusal_in(run.ended)
 }
 
 // A run of rounds; `rounds` gets the rounds completed.
@@ -136,9 +130,9 @@ pub fn muruapy_rounds_parts(
     ensures { record { done = rounds.new; refusal = result; state = held_from plan.now cells.new marks.new sent.new words.new }
         ≡ run_rounds limit (held_from plan.now cells.old marks.old sent.old words.old) }
 {
-    let f = field_of(plan, cells, marks, *sent);
-    let t = host_rounds::run(f, words, limit);
-    hand_back(t.field, cells, marks, sent);
-    *rounds = t.rounds;
-    t.refusal
+    let mut f = field_of(plan, cells, marks, *sent);
+    let run = host_rounds::run(&mut f, words, limit);
+    hand_back(&f, cells, marks, sent);
+    *rounds = run.done;
+    refusal_in(run.ended)
 }

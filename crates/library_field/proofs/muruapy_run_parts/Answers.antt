@@ -4,6 +4,5 @@ use Rattle.library_field.proofs.muruapy_run_parts.Goals as goal
 
 pub returns : goal.returns
 returns c =
-    let r = c.before.before.before.before.before.before in
     let b = c.hand_back.ensures in
-    rw (b.0, b.1, b.2) (run-parts _ _ _ _ _ _ _ _ _ r.field_of-f.ensures _ _ r.run-t.ensures)
+    rw (c.refusal_in.ensures, b.0, b.1, b.2) (run-parts _ _ _ _ _ _ _ _ _ c.field_of-f.ensures _ _ c.run-run.ensures)

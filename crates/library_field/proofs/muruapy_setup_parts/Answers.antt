@@ -1,12 +1,22 @@
 -- library_field::muruapy_setup_parts: by `made-keeps` where setup was refused, else by `made-into`, with the field in its parts.
+use Rattle.std.specs.Prelude.{◌≡◌, refl}
+use Rattle.std.proofs.Common.{rules}
+use Rattle.refusal.specs.Number.{numbered}
+use Rattle.refusal.proofs.laws.Number.{positive}
+use Rattle.field.specs.Held.{set_up, blank_field, held_from}
 use Rattle.library_field.proofs.laws.Lent.{made-into, made-keeps}
 use Rattle.library_field.proofs.muruapy_setup_parts.Goals as goal
 
-pub returns-then-s-ne0 : goal.returns-then-s-ne0
-returns-then-s-ne0 c = made-keeps _ _ _ _ c.setup-s.ensures c.if-s-ne0.true
-
-pub returns : goal.returns
-returns c =
-    let t = c.before.before.before.before in
+pub returns-in-Ok : goal.returns-in-Ok
+returns-in-Ok c =
+    let a = c.args in
+    let e : record { refusal = 0; state = record { field = c.in-Ok.f; words = c.setup.new.words } } ≡ set_up a.plan.now a.words.now = grind rules in
     let b = c.hand_back.ensures in
-    rw (b.0, b.1, b.2) (made-into _ _ _ _ t.setup-s.ensures t.if-s-ne0.false)
+    rw (b.0, b.1, b.2) (made-into (held_from a.held.now a.cells.now a.marks.now a.sent.now a.words.now) 0 c.in-Ok.f c.setup.new.words e refl)
+
+pub returns-in-Err : goal.returns-in-Err
+returns-in-Err c =
+    let a = c.args in
+    let r = c.in-Err.refusal in
+    let e : record { refusal = numbered r; state = record { field = blank_field; words = c.setup.new.words } } ≡ set_up a.plan.now a.words.now = grind rules in
+    rw c.number.ensures (made-keeps (held_from a.held.now a.cells.now a.marks.now a.sent.now a.words.now) (numbered r) blank_field c.setup.new.words e (positive r))
