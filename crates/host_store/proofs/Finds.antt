@@ -56,11 +56,11 @@ module _ (name s : List ℕ) where
     not-refused : find_refusal name s ≡ 0
     not-refused = sym (find-refusal name s) ∙ z
 
-    part-shown : part_at (find_point name s) s ≡ shown_part name s
+    pub part-shown : part_at (find_point name s) s ≡ shown_part name s
     unfolding find_point
     part-shown = rw not-refused refl
 
-    part-fits : record_fits (shown_part name s) ≡ true
+    pub part-fits : record_fits (shown_part name s) ≡ true
     unfolding find_refusal
     part-fits =
         let a = or_else-zero (not (store_fits s)) 75 not-refused in

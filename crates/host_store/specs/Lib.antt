@@ -1,0 +1,2 @@
+-- What the calls on a store answer, as results.
+pub mod Found

@@ -1,8 +1,9 @@
 // Named points for a host: a field is saved in a lent store under a name, found there as a part of the store, and restored. The store is not copied.
 #![tactic(auto)]
 
-ghost use Rattle.std.specs.Prelude.{◌+◌, ◌<◌, ◌≤◌, ◌≡◌, true, ◌++◌, ◌∷◌, [], length};
+ghost use Rattle.std.specs.Prelude.{◌+◌, ◌<◌, ◌≤◌, ◌≡◌, true, ◌++◌, ◌∷◌, [], length, IfOk};
 ghost use Rattle.base.specs.Limits.{max_words};
+ghost use Rattle.refusal.specs.Number.{refusal_in};
 ghost use Rattle.plan.proofs.laws.Accepted.{Accepted};
 ghost use Rattle.field.specs.Edges.{ceiling_of};
 ghost use Rattle.field.specs.Held.{layout, field_from, held_from};
@@ -11,12 +12,27 @@ ghost use Rattle.store.specs.Names.{longest_name, is_named, without_first};
 ghost use Rattle.store.specs.Reading.{held_in, record_fits};
 ghost use Rattle.store.specs.Calls.{save_point, find_point, part_at, restore_point};
 ghost use Rattle.store.specs.Layout.{record_with, record_size};
+ghost use Rattle.host_setup.specs.Made.{made};
+ghost use Rattle.host_store.specs.Found.{found_of, store_checks};
 
 use base::MAX_ENDS;
 use field::{CELLS, Cells, Field, Marks};
-use host_setup::NewField;
 use plan::{NUMBERS, Plan};
-use store::FoundPoint;
+use refusal::Refusal;
+use store::Spot;
+
+// 76 of a store, then 77 of a name that no record may have.
+fn check(store: &[u8], name: &[u8]) -> Result<(), Refusal>
+    ensures { result ≡ store_checks store.now name.now }
+{
+    if !store_check::store_fits(store) {
+        return Err(Refusal::Store);
+    }
+    if !store_records::name_fits(name) {
+        return Err(Refusal::NameWrong);
+    }
+    Ok(())
+}
 
 // SAVING
 
@@ -52,7 +68,7 @@ fn kept(store: &[u8], name: &[u8]) -> usize
     }
 }
 
-// A field in lent arrays is saved under a name: 31, 76, 77, 78, or 0.
+// A field in lent arrays is saved under a name: 31, 76, 77, 78. A refusal leaves the store as it was.
 pub fn save_parts<'a>(
     plan: &'a Plan,
     cells: &'a Cells,
@@ -61,76 +77,46 @@ pub fn save_parts<'a>(
     words: &[u64],
     name: &[u8],
     store: &mut [u8],
-) -> u32
-    ensures { record { refusal = result; state = store.new }
+) -> Result<(), Refusal>
+    ensures { record { refusal = refusal_in result; state = store.new }
         ≡ save_point name.now (held_from plan.now cells.now marks.now sent words.now) store.old }
 {
-    let c = field_check::admit_parts(plan, cells, marks, sent, words);
-    if !c.ok {
-        return 31;
-    }
-    if !store_check::store_fits(store) {
-        return 76;
-    }
-    if !store_records::name_fits(name) {
-        return 77;
-    }
-    let n = c.waiting;
+    let n = field_check::admit_parts(plan, cells, marks, sent, words)?;
+    check(store, name)?;
     if store.len() - kept(store, name) < store_field::record_size(plan, name.len(), n) {
-        return 78;
+        return Err(Refusal::StoreFull);
     }
     replace(plan, cells, marks, sent, &words[..n], name, store);
-    0
+    Ok(())
 }
 
 // The same of a field that a host supplies.
-pub fn save(f: Field, words: &[u64], name: &[u8], store: &mut [u8]) -> u32
-    ensures { record { refusal = result; state = store.new }
-        ≡ save_point name.now (record { field = f; words = words.now }) store.old }
+pub fn save(f: &Field, words: &[u64], name: &[u8], store: &mut [u8]) -> Result<(), Refusal>
+    ensures { record { refusal = refusal_in result; state = store.new }
+        ≡ save_point name.now (record { field = f.now; words = words.now }) store.old }
 {
     save_parts(&f.plan, &f.cells, &f.marks, f.sent, words, name, store)
 }
 
 // FINDING
 
-// What finding answers.
-fn told(refusal: u32, at: usize, size: usize) -> FoundPoint
-    ensures { result ≡ record { refusal = refusal; at = at; size = size } }
+// Where the record of a name stands: 76, 77.
+pub fn find_at(store: &[u8], name: &[u8]) -> Result<Spot, Refusal>
+    ensures { found_of result ≡ find_point name.now store.now }
 {
-    FoundPoint {
-        refusal: refusal,
-        at: at,
-        size: size,
-    }
+    check(store, name)?;
+    store_records::place_of(store, name).ok_or(Refusal::NameWrong)
 }
 
-// Where the record of a name stands: 76, 77, or 0 with its place and size.
-pub fn find_at(store: &[u8], name: &[u8]) -> FoundPoint
-    ensures { result ≡ find_point name.now store.now }
+// "shows its record as a part of the lent store, without copying it": 76, 77.
+pub fn find<'a>(store: &'a [u8], name: &[u8]) -> Result<&'a [u8], Refusal>
+    ensures answer { refusal_in result ≡ (find_point name.now store.now).refusal }
+    ensures part { IfOk result (λ part. (part.now ≡ part_at (find_point name.now store.now) store.now)
+        × (part.ref_ptr.0 ≡ store.entry.ref_ptr.0) × (part.ref_ptr.1 ≡ (find_point name.now store.now).at + store.entry.ref_ptr.1)) }
 {
-    if !store_check::store_fits(store) {
-        return told(76, 0, 0);
-    }
-    if !store_records::name_fits(name) {
-        return told(77, 0, 0);
-    }
-    match store_records::place_of(store, name) {
-        Some(p) => told(0, p.at, p.size),
-        None => told(77, 0, 0),
-    }
-}
-
-// "shows its record as a part of the lent store, without copying it": `refusal` gets 76, 77 or 0; beside a refusal the part is empty.
-pub fn find<'a>(store: &'a [u8], name: &[u8], refusal: &mut u32) -> &'a [u8]
-    ensures { (refusal.new ≡ (find_point name.now store.now).refusal)
-        × (result.now ≡ part_at (find_point name.now store.now) store.now)
-        × (result.ref_ptr.0 ≡ store.entry.ref_ptr.0) × (result.ref_ptr.1 ≡ (find_point name.now store.now).at + store.entry.ref_ptr.1) }
-{
-    let f = find_at(store, name);
-    *refusal = f.refusal;
-    let a = f.at;
-    let e = a + f.size;
-    &store[a..e]
+    let spot = find_at(store, name)?;
+    let e = spot.at + spot.size;
+    Ok(&store[spot.at..e])
 }
 
 // RESTORING
@@ -146,31 +132,21 @@ fn bring_back<'a>(r: &'a [u8], plan: &'a Plan, words: &mut [u64]) -> Field
     let sent = store_check::take_record(r, plan, &mut cells, &mut marks, words);
     Field {
         plan: *plan,
-        cells: cells,
-        marks: marks,
-        sent: sent,
+        cells,
+        marks,
+        sent,
     }
 }
 
-// The field saved under a name comes back, its waiting words in the lent ones: 76, 77, 21, or 0. A refusal leaves the words as they were.
-pub fn restore(store: &[u8], name: &[u8], words: &mut [u64]) -> NewField
-    ensures { record { refusal = result.refusal; state = record { field = result.field; words = words.new } }
-        ≡ restore_point name.now store.now words.old }
+// The field saved under a name comes back, its waiting words in the lent ones: 76, 77, 21. A refusal leaves the words as they were.
+pub fn restore(store: &[u8], name: &[u8], words: &mut [u64]) -> Result<Field, Refusal>
+    ensures { made result words.new ≡ restore_point name.now store.now words.old }
 {
-    let f = find_at(store, name);
-    if f.refusal != 0 {
-        return host_setup::refused_by(f.refusal);
-    }
-    let a = f.at;
-    let e = a + f.size;
+    let r = find(store, name)?;
     let mut plan = [0u16; NUMBERS];
-    store_check::take_plan(&store[a..e], &mut plan);
+    store_check::take_plan(r, &mut plan);
     if words.len() < plan::ceiling_of(&plan) as usize {
-        return host_setup::refused_by(21);
+        return Err(Refusal::TooFewWords);
     }
-    let field = bring_back(&store[a..e], &plan, words);
-    NewField {
-        refusal: 0,
-        field: field,
-    }
+    Ok(bring_back(r, &plan, words))
 }

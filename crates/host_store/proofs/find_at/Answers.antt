@@ -1,19 +1,10 @@
--- host_store::find_at: one law for each return: `find-76`, `find-77`, `find_none`, `find-done`.
-use mathlib.Core.Path.{sym, ◌∙◌}
+-- host_store::find_at: one law for each outcome: `find-76`, `find-77`, `find_none`, `find-done`.
+use Rattle.std.proofs.Common.{rules}
 use Rattle.host_store.proofs.Finds.{find-76, find-77, find_none, find-done}
 use Rattle.host_store.proofs.find_at.Goals as goal
 
-pub returns-then-not-store_fits : goal.returns-then-not-store_fits
-returns-then-not-store_fits c = c.told.ensures ∙ find-76 _ _ (sym c.store_fits.ensures ∙ c.if-not-store_fits.true)
+pub returns-in_err-check : goal.returns-in_err-check
+returns-in_err-check c = grind (rules, find-76, find-77)
 
-pub returns-then-not-name_fits : goal.returns-then-not-name_fits
-returns-then-not-name_fits c =
-    c.told-then-not-name_fits.ensures ∙ find-77 _ _ (sym c.store_fits.ensures ∙ c.if-not-store_fits.false) (sym c.name_fits.ensures ∙ c.if-not-name_fits.true)
-
-pub returns-in-Some : goal.returns-in-Some
-returns-in-Some c =
-    c.told-in-Some.ensures ∙ find-done _ _ (sym c.store_fits.ensures ∙ c.if-not-store_fits.false) (sym c.name_fits.ensures ∙ c.if-not-name_fits.false) _ c.in-Some.ensures
-
-pub returns-in-None : goal.returns-in-None
-returns-in-None c =
-    c.told-in-None.ensures ∙ find_none _ _ (sym c.store_fits.ensures ∙ c.if-not-store_fits.false) (sym c.name_fits.ensures ∙ c.if-not-name_fits.false) c.in-None.ensures
+pub returns : goal.returns
+returns c = grind (rules, find_none, find-done)
