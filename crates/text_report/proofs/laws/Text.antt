@@ -1,4 +1,5 @@
--- A report by its parts (`report-of`); one law for each line's outcome and each turn of its loops.
+-- The parts of a report put one after the other are the report (`report-parts`, `report-of`); one law for each line's outcome and each turn of
+-- its loops.
 use Rattle.std.specs.Prelude.{ℕ, ◌+◌, ◌*◌, ◌≤◌, min, ◌≡◌, ◌≢◌, Bool, true, false, ◌&&◌, ◌||◌, get_or, eqb}
 use Rattle.std.proofs.Common.{arith, add-one}
 use Rattle.std.proofs.Math.Path.{refl}
@@ -11,6 +12,8 @@ use Rattle.graph.specs.Parts.{together, lowest, lowests, part_nodes}
 use Rattle.graph.proofs.laws.Parts.{lowests-flat}
 use Rattle.format_text.specs.Ascii.{ascii}
 use Rattle.format_text.specs.Lines.{named, line}
+use Rattle.format_text.specs.Put.{Page, put}
+use Rattle.format_text.proofs.laws.Put.{put_on}
 use Rattle.plan.specs.Weights.{cost}
 use Rattle.base.specs.Ceiling.{ceiling}
 use Rattle.plan.specs.Links.{Plan, modules_of, links_of, lower_of, higher_of, graph_of}
@@ -23,7 +26,23 @@ use Rattle.field.specs.State.{node_in}
 use Rattle.text_report.specs.Total.{total}
 use Rattle.text_report.specs.Text.{sizes_text, branch_line, branch_text, branch_lines, end_text, ends_text, part_text, part_lines, core_text, tail_text, report_text}
 
--- of a plan that a field has room for, each part as it is known to be
+-- its five parts, each put on what the part before left
+pub report-parts : (f : Field) (rounds : ℕ) (p : Page) {q₁ q₂ q₃ q₄ q₅ : Page}
+    → q₁ ≡ put p (sizes_text (modules_of f.plan) (links_of f.plan))
+    → q₂ ≡ put q₁ (branch_lines f.plan f.marks (min (links_of f.plan) max_links))
+    → q₃ ≡ put q₂ (line "total " (total f.plan f.marks (min (links_of f.plan) max_links)))
+    → q₄ ≡ put q₃ (core_text f.plan f.cells)
+    → q₅ ≡ put q₄ (tail_text f.sent (ceiling (modules_of f.plan) (links_of f.plan)) rounds)
+    → q₅ ≡ put p (report_text f rounds)
+unfolding report_text
+report-parts f rounds p e₁ e₂ e₃ e₄ e₅ =
+    let h = sizes_text (modules_of f.plan) (links_of f.plan) in
+    let b = branch_lines f.plan f.marks (min (links_of f.plan) max_links) in
+    let t = line "total " (total f.plan f.marks (min (links_of f.plan) max_links)) in
+    let k = core_text f.plan f.cells in
+    put_on p (h ++ b ++ t ++ k) _ (put_on p (h ++ b ++ t) k (put_on p (h ++ b) t (put_on p h b e₁ e₂) e₃) e₄) e₅
+
+-- the same of a plan that a field has room for, each part as it is known to be
 pub report-of : (f : Field) (rounds : ℕ) (p : Plan) → f.plan ≡ p → links_of p ≤ max_links → {b k : List ℕ} {t : ℕ}
     → branch_lines p f.marks (links_of p) ≡ b → total p f.marks (links_of p) ≡ t → core_text p f.cells ≡ k
     → report_text f rounds
@@ -33,6 +52,10 @@ report-of f rounds p e l eb et ek = let all : min (links_of p) max_links ≡ lin
 
 -- For code: which line, one turn more.
 module _ (mark lower higher c : ℕ) where
+  pub branch-none : mark ≢ BRANCH → branch_text mark lower higher c ≡ []
+  unfolding branch_text
+  branch-none h = simp (ne_eqb _ _ h)
+
   pub branch_one : mark ≡ BRANCH → branch_text mark lower higher c ≡ branch_line lower higher c
   unfolding branch_text
   branch_one h = simp (eq-eqb _ _ h)
@@ -79,12 +102,23 @@ module _ (p : Plan) (cells : List ℕ) where
   pub parts-turn : (v : ℕ) → part_lines p cells v ++ cond (lowest (graph_of p) v) (part_text (graph_of p) (modules_of p) cells v) [] ≡ part_lines p cells (v + 1)
   parts-turn v = rw add-one (lowests-flat (graph_of p) (part_text (graph_of p) (modules_of p) cells) v)
 
+pub lines_none : (p : Plan) (marks : List ℕ) → branch_lines p marks 0 ≡ []
+unfolding branch_lines
+lines_none p marks = refl
+
 pub lines-turn : (p : Plan) (marks : List ℕ) (k : ℕ) {a b c : ℕ} → a ≡ lower_of p k → b ≡ higher_of p k → c ≡ cost p k
     → branch_lines p marks k ++ branch_text (get_or marks (2 * k) 0) a b c ≡ branch_lines p marks (k + 1)
 unfolding branch_lines
 lines-turn p marks k ea eb ec = rw (ea, eb, ec, add-one)
 
 module _ (g : Graph) (cells : List ℕ) (u : ℕ) where
+  pub ends-none : ends_text g cells u 0 ≡ []
+  unfolding ends_text
+  ends-none = refl
+
   pub ends-turn : (v : ℕ) (b : Bool) (n : Node) → b ≡ together g u v → n ≡ node_in cells v → ends_text g cells u v ++ end_text b n.halted v ≡ ends_text g cells u (v + 1)
   unfolding ends_text
   ends-turn v b n eb en = rw (add-one v, eb, en) refl
+
+pub capped : (n x most : ℕ) → n ≡ min x most → n ≤ most
+capped n x most e = omega arith
