@@ -1,6 +1,6 @@
--- A hand-over: where it takes a word there is one (`handable-there`); that it is just what it comes to, carried out (`hand-is`), in lent words too
+-- A hand-over: what it comes to, by its three outcomes (`handable-42`, `handable-44`, `handable-taken`); where it takes a word there is one (`handable-there`); that it is just what it comes to, carried out (`hand-is`), in lent words too
 -- (`not-handed`, `handed`).
-use Prim.Native.Nat.{ℕ, ◌*◌, ◌<◌}
+use Prim.Native.Nat.{ℕ, ◌*◌, ◌≤◌, ◌<◌}
 use native.Mathlib.Omega.{arith}
 use mathlib.Core.Path.{◌≡◌, refl, sym, ◌∙◌}
 use mathlib.Core.List.{List, [], ◌∷◌, ◌++◌}
@@ -10,17 +10,34 @@ use lib.Dec.{leb}
 use Rattle.std.specs.Prelude.{Result, Ok, Err}
 use Rattle.std.proofs.lemmas.Bool.Decides.{nat_tests}
 use Rattle.refusal.specs.declared.Refusal.{Refusal}
+use Rattle.refusal.specs.declared.Refusal.TheVariants.{NoDirectedLink, NothingToHandOver}
 use Rattle.refusal.specs.Number.{numbered}
+use borrow.Author.Tests.{le-leb, lt-leb}
 use Rattle.base.specs.Loop.{After, taken_to, refused_by}
 use Rattle.base.proofs.laws.Cond.{bool_cases}
 use Rattle.field.specs.State.{State}
 use Rattle.format_word.specs.Word.{hand_over}
 use Rattle.plan.specs.Links.{Plan, links_of}
-use Rattle.field.specs.Step.{in_air, absent, without, moved, hand}
+use Rattle.field.specs.Step.{in_air, absent, place, without, moved, hand}
 use Rattle.field.specs.Held.{layout}
 use Rattle.field_words.specs.Laid.{Laid}
 use Rattle.field_words.specs.Hands.{handable, lent_state, Hands}
 use Rattle.field_words.proofs.Laid.{waits, laid, without-length}
+
+-- its three outcomes
+module _ (p : Plan) (d : ℕ) (words : List ℕ) where
+  pub handable-42 : 2 * links_of p ≤ d → Err NoDirectedLink ≡ handable p d words
+  unfolding handable
+  handable-42 h = simp (le-leb _ _ h)
+
+  module _ (l : d < 2 * links_of p) where
+    pub handable-44 : length words ≤ place (in_air d) words → Err NothingToHandOver ≡ handable p d words
+    unfolding handable
+    handable-44 h = simp (lt-leb _ _ l, le-leb _ _ h)
+
+    pub handable-taken : place (in_air d) words < length words → Ok (place (in_air d) words) ≡ handable p d words
+    unfolding handable
+    handable-taken h = simp (lt-leb _ _ l, lt-leb _ _ h)
 
 -- where it is not refused there is a word
 pub handable-there : (p : Plan) (d : ℕ) (words : List ℕ) (a : ℕ) → Ok a ≡ handable p d words → a < length words
