@@ -1,4 +1,4 @@
--- The walk over a store by its turns (`fit-ends`, `fit-stops`, `fit_on`).
+-- The walk over a store by its turns (`fit-ends`, `fit-stops`, `fit_on`), and a record before the rest (`before-bad`, `before-good`).
 use Prim.Native.Nat.{ℕ, ◌+◌}
 use mathlib.Core.Path.{◌≡◌, refl, sym, ap, ◌∙◌}
 use mathlib.Core.Bool.{Bool, true, false, not, ◌&&◌}
@@ -12,6 +12,9 @@ use Rattle.store.specs.Names.{name_in, holds}
 use Rattle.store.specs.Reading.{record_fits}
 use Rattle.store.specs.Calls.{records_fit, store_fits}
 use Rattle.store_records.specs.Walk.{SplitsOff, length-joined}
+use Rattle.base.proofs.laws.Cond.{bool_cases}
+use Rattle.store.specs.declared.Spot.{Spot}
+use Rattle.store.specs.Names.{spot_of}
 
 and_both : (a b c d : Bool) → ((a && b && c) && d) ≡ (a && b && (c && d))
 and_both true true c d = refl
@@ -51,3 +54,11 @@ module _ (t s : List ℕ) (e : store_fits t ≡ store_fits s) where
 
     pub fit_on : (record_fits r && not (holds (name_in r) rest)) ≡ true → store_fits t ≡ store_fits rest
     fit_on f = turn ∙ ap (λ x. x && store_fits rest) f
+
+-- a record before the rest
+module _ (r rest : List ℕ) where
+  pub before-bad : record_fits r ≡ false → false ≡ (record_fits r && not (holds (name_in r) rest))
+  before-bad e = rw e
+
+  pub before-good : record_fits r ≡ true → (p : Spot) → p ≡ spot_of (name_in r) rest → eqb p.size 0 ≡ (record_fits r && not (holds (name_in r) rest))
+  before-good e p q = rw (e, q) (bool_cases (eqb (spot_of (name_in r) rest).size 0) (λ t. rw t) (λ t. rw t))

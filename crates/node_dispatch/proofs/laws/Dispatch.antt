@@ -15,6 +15,9 @@ use Rattle.node.specs.declared.Node.{Node}
 use Rattle.node.specs.Work.{Own, Work, ASLEEP, refused}
 use Rattle.node.specs.Rules.{awake, on_connect, on_initiate, on_test, on_accept, on_reject, on_report, change_root, unless_asleep, respond_to}
 use Rattle.node.proofs.laws.Rules.{asleep-refused, asleep-not}
+use Rattle.node_response.specs.declared.Response.{Response}
+use Rattle.node_response.specs.Response.{begun}
+use Rattle.node_dispatch.specs.Receives.{Fresh}
 
 left-of : (a b : Bool) → (a && b) ≡ true → a ≡ true
 left-of true b h = refl
@@ -40,6 +43,9 @@ module _ (level carried find : ℕ) where
       link : (is_link carried ≡ true) ⊎ (eqb carried none ≡ true) → (carried < max_links) ⊎ (carried ≡ none)
       link (inl e) = inl (ltb-true carried max_links e)
       link (inr e) = inr (eqb-true carried none e)
+
+pub begun_fresh : {a : Response} {n : Node} → a ≡ begun n → Fresh a
+begun_fresh e = record { edge = ap (λ x. x.newmark) e; copies = ap (λ x. x.copies) e; first = ap (λ x. x.first) e; second = ap (λ x. x.second) e }
 
 -- a sleeper refuses all but Connect and Test
 module _ (kind status : ℕ) where
