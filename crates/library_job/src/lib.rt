@@ -24,16 +24,18 @@ pub extern "C" fn muruapy_job_parts(
     ensures { record { done = rounds.new; refusal = result; state = held_from held.new cells.new marks.new sent.new words.new }
         ≡ job_into plan.now (held_from held.old cells.old marks.old sent.old words.old) }
 {
-    let j = host_job::run_job(plan, words);
-    let f = j.field;
-    let own = f.plan;
-    *rounds = j.rounds;
-    if j.refusal != 0 {
-        return j.refusal;
+    match host_job::run_job(plan, words) {
+        Ok(job) => {
+            *held = job.field.plan;
+            library_field::hand_back(&job.field, cells, marks, sent);
+            *rounds = job.rounds;
+            0
+        }
+        Err(refusal) => {
+            *rounds = 0;
+            refusal.number()
+        }
     }
-    *held = own;
-    library_field::hand_back(f, cells, marks, sent);
-    0
 }
 
 // The report of any field, with a number of rounds, put at the front of a buffer; the place behind it.

@@ -19,26 +19,24 @@ const STDOUT_FILENO: i32 = 1;
 fn job_report(p: &Plan, words: &mut [u64], out: &mut [u8]) -> usize
     ensures { page result out.new ≡ put (page 0 out.old) (job_text (job_run p.now words.old)) }
 {
-    let s = host_job::run_job(p, words);
-    let f = s.field;
-    if s.refusal != 0 {
-        return format_text::put_refused(out, s.refusal);
+    match host_job::run_job(p, words) {
+        Ok(job) => text_report::render(job.field, job.rounds, out),
+        Err(refusal) => format_text::put_refused(out, refusal.number()),
     }
-    text_report::render(f, s.rounds, out)
 }
 
 // The report of a plan's bytes.
 fn report(s: &[u8], out: &mut [u8]) -> usize
     ensures { page result out.new ≡ put (page 0 out.old) (reported s.now) }
 {
-    let got = plan_file::read(s);
-    let p = got.plan;
-    if got.refusal != 0 {
-        return format_text::put_refused(out, got.refusal);
+    match plan_file::read(s) {
+        Ok(plan) => {
+            let m = plan::ceiling_of(&plan) as usize;
+            let mut lent = [0u64; MAX_WORDS];
+            job_report(&plan, &mut lent[..m], out)
+        }
+        Err(refusal) => format_text::put_refused(out, refusal.number()),
     }
-    let m = plan::ceiling_of(&p) as usize;
-    let mut lent = [0u64; MAX_WORDS];
-    job_report(&p, &mut lent[..m], out)
 }
 
 // What it asks is what the program owes: the text is the report of the whole input, of which `space` holds what came.
