@@ -7,8 +7,8 @@ ghost use Rattle.store.specs.Calls.{save_point, find_point};
 ghost use Rattle.library_store.specs.Lent.{restore_into};
 
 use field::{Cells, Marks};
-use host_setup::NewField;
 use plan::Plan;
+use refusal::refusal_in;
 use store::FoundPoint;
 
 // A field is saved: 31, 76, 77, 78, or 0.
@@ -25,7 +25,7 @@ pub extern "C" fn muruapy_save_parts<'a>(
     ensures { record { refusal = result; state = store.new }
         ≡ save_point name.now (held_from plan.now cells.now marks.now sent words.now) store.old }
 {
-    host_store::save_parts(plan, cells, marks, sent, words, name, store)
+    refusal_in(host_store::save_parts(plan, cells, marks, sent, words, name, store))
 }
 
 // Where the record of a name stands: 76, 77, or 0 with its place and size.
@@ -33,7 +33,18 @@ pub extern "C" fn muruapy_save_parts<'a>(
 pub extern "C" fn muruapy_find(store: &[u8], name: &[u8]) -> FoundPoint
     ensures { result ≡ find_point name.now store.now }
 {
-    host_store::find_at(store, name)
+    match host_store::find_at(store, name) {
+        Ok(spot) => FoundPoint {
+            refusal: 0,
+            at: spot.at,
+            size: spot.size,
+        },
+        Err(refusal) => FoundPoint {
+            refusal: refusal.number(),
+            at: 0,
+            size: 0,
+        },
+    }
 }
 
 // The field saved under a name comes back: 76, 77, 21, or 0. `held` is the plan's place in the field.
@@ -51,13 +62,12 @@ pub extern "C" fn muruapy_restore_parts(
         ≡ restore_into name.now store.now
         (held_from held.old cells.old marks.old sent.old words.old) }
 {
-    let s: NewField = host_store::restore(store, name, words);
-    let f = s.field;
-    let own = f.plan;
-    if s.refusal != 0 {
-        return s.refusal;
+    match host_store::restore(store, name, words) {
+        Ok(f) => {
+            *held = f.plan;
+            library_field::hand_back(&f, cells, marks, sent);
+            0
+        }
+        Err(refusal) => refusal.number(),
     }
-    *held = own;
-    library_field::hand_back(f, cells, marks, sent);
-    0
 }
