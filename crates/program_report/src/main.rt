@@ -21,7 +21,7 @@ fn job_report(p: &Plan, words: &mut [u64], out: &mut [u8]) -> usize
 {
     match host_job::run_job(p, words) {
         Ok(job) => text_report::render(job.field, job.rounds, out),
-        Err(refusal) => format_text::put_refused(out, refusal.number()),
+        Err(r) => format_text::put_refused(out, r.number()),
     }
 }
 

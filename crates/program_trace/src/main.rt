@@ -13,31 +13,23 @@ ghost use Rattle.text_owed.specs.Traced.{fresh_held, ran_text, traced};
 
 use base::MAX_WORDS;
 use format_text::Intake;
-use host_run::ScheduleRan;
 use plan::Plan;
+use refusal::refusal_in;
 
 // The C library's number for standard output.
 const STDOUT_FILENO: i32 = 1;
 
-// Setup of an accepted plan with exactly M words, then a run of the schedule.
-fn set_up_and_run(p: &Plan, lent: &mut [u64], schedule: &[u8]) -> ScheduleRan
-    requires { (plan_refusal p.now ≡ 0) × (length lent.old ≡ ceiling_of p.now) }
-    ensures { record { done = result.steps; refusal = result.refusal; state = record { field = result.field; words = lent.new } }
-        ≡ run_bytes schedule.now (fresh_held p.now) }
-{
-    let begun = host_setup::setup(p, lent);
-    host_run::run(begun.field, lent, schedule)
-}
-
-// An accepted plan's schedule run, and what it led to. (`lent` is for the run alone: what it leaves there is in the text, and of no use after.)
+// An accepted plan's setup with exactly M words, a run of the schedule, and what it led to. (`lent` is for the run alone: what it leaves there is in the text, and
+// of no use after.)
 fn follow(p: &Plan, lent: &mut [u64], schedule: &[u8], out: &mut [u8]) -> usize
     requires { (plan_refusal p.now ≡ 0) × (length lent.old ≡ ceiling_of p.now) }
     ensures { page result out.new ≡ put (page 0 out.old) (ran_text p.now (run_bytes schedule.now (fresh_held p.now))) }
 {
-    let r = set_up_and_run(p, lent, schedule);
-    let f = r.field;
+    let mut f = host_setup::setup(p, lent).unwrap();
+    let run = host_run::run(&mut f, lent, schedule);
     let n = field_check::waiting(lent);
-    text_trace::render(p, f, r.steps, r.refusal, &lent[..n], out)
+    let refusal = refusal_in(run.ended);
+    text_trace::render(p, f, run.done, refusal, &lent[..n], out)
 }
 
 // A plan and a schedule followed to the end.
@@ -45,15 +37,15 @@ fn trace(input: &[u8], out: &mut [u8]) -> usize
     ensures { page result out.new ≡ put (page 0 out.old) (traced input.now) }
 {
     let part = text_owed::plan_part(input);
-    let got = plan_file::read(&input[..part]);
-    if got.refusal != 0 {
-        return format_text::put_refused(out, got.refusal);
+    match plan_file::read(&input[..part]) {
+        Ok(plan) => {
+            let m = plan::ceiling_of(&plan) as usize;
+            // room for the largest plan's M
+            let mut lent = [0u64; MAX_WORDS];
+            follow(&plan, &mut lent[..m], &input[part..], out)
+        }
+        Err(refusal) => format_text::put_refused(out, refusal.number()),
     }
-    let p = got.plan;
-    let m = plan::ceiling_of(&p) as usize;
-    // room for the largest plan's M
-    let mut lent = [0u64; MAX_WORDS];
-    follow(&p, &mut lent[..m], &input[part..], out)
 }
 
 // What it asks is what the program owes: the text is what the whole input leads to, of which `space` holds what came.

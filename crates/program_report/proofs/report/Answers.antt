@@ -1,22 +1,19 @@
 -- program_report::report: a refused plan by `plan-refused`, else by `plan-taken`; the array has words enough, by `read_small`.
-use Prim.Native.Nat.{ℕ, ◌≤◌}
-use native.Mathlib.Omega.{arith}
-use mathlib.Core.Path.{◌≡◌, sym, ap, ◌∙◌}
-use mathlib.Core.List.{List}
+use mathlib.Core.Path.{◌≡◌, refl, sym, ap, ◌∙◌}
 use lib.ListN.{replicate}
 use lib.Seq.{length-take-le}
+use Rattle.std.specs.Prelude.{ℕ, ◌≤◌, List}
+use Rattle.std.proofs.Common.{rules, arith}
+use Rattle.refusal.specs.Number.{numbered}
+use Rattle.refusal.proofs.laws.Number.{positive}
 use Rattle.base.specs.Limits.{max_words}
 use Rattle.format_text.specs.Put.{put}
 use Rattle.field.specs.Edges.{ceiling_of}
-use Rattle.plan_file.specs.Reading.{Outcome}
-use Rattle.plan_file.specs.Reading.{read_plan}
+use Rattle.plan.specs.Links.{blank}
+use Rattle.plan_file.specs.Reading.{Outcome, read_plan}
 use Rattle.text_owed.proofs.laws.Reported.{plan-refused, plan-taken}
 use Rattle.text_owed.proofs.laws.ReportFits.{read_small, zeros-front}
 use Rattle.program_report.proofs.report.Goals as goal
-
-pub returns-then-got-ne0 : goal.returns-then-got-ne0
-returns-then-got-ne0 c =
-    c.put_refused.ensures ∙ ap (put _) (sym (plan-refused _ _ c.read-got.ensures c.if-got-ne0.true))
 
 -- the array has the words of the largest plan
 room : (s : List ℕ) (g : Outcome) → g ≡ read_plan s → g.refusal ≡ 0 → {m : ℕ} → m ≡ ceiling_of g.plan → m ≤ max_words
@@ -25,13 +22,23 @@ room s g e z f =
     omega (arith, f)
 
 pub slice_bounds-lent-end : goal.slice_bounds-lent-end
-slice_bounds-lent-end c = room _ _ c.read-got.ensures c.if-got-ne0.false c.ceiling_of-m.ensures
+slice_bounds-lent-end c =
+    let e : record { refusal = 0; plan = c.in-Ok.plan } ≡ read_plan c.args.s.now = grind rules in
+    room _ _ e refl c.ceiling_of-m.ensures
 
 pub slice_bounds-job_report-end : goal.slice_bounds-job_report-end
-slice_bounds-job_report-end c = sym (length-take-le _ _ (room _ _ c.read-got.ensures c.if-got-ne0.false c.ceiling_of-m.ensures))
+slice_bounds-job_report-end c =
+    let e : record { refusal = 0; plan = c.in-Ok.plan } ≡ read_plan c.args.s.now = grind rules in
+    sym (length-take-le _ _ (room _ _ e refl c.ceiling_of-m.ensures))
 
-pub returns : goal.returns
-returns c =
+pub returns-in-Ok : goal.returns-in-Ok
+returns-in-Ok c =
+    let e : record { refusal = 0; plan = c.in-Ok.plan } ≡ read_plan c.args.s.now = grind rules in
     c.job_report.ensures
-    ∙ ap (put _) (sym (plan-taken _ _ c.read-got.ensures c.if-got-ne0.false _
-    (zeros-front _ _ (room _ _ c.read-got.ensures c.if-got-ne0.false c.ceiling_of-m.ensures) ∙ ap (λ k. replicate k 0) c.ceiling_of-m.ensures)))
+    ∙ ap (put _) (sym (plan-taken _ _ e refl _ (zeros-front _ _ (room _ _ e refl c.ceiling_of-m.ensures) ∙ ap (λ k. replicate k 0) c.ceiling_of-m.ensures)))
+
+pub returns-in-Err : goal.returns-in-Err
+returns-in-Err c =
+    let r = c.in-Err.refusal in
+    let e : record { refusal = numbered r; plan = blank } ≡ read_plan c.args.s.now = grind rules in
+    c.put_refused.ensures ∙ rw c.number.ensures (ap (put _) (sym (plan-refused _ _ e (positive r))))
