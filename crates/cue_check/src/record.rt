@@ -1,6 +1,5 @@
 // Single cue records: which may stand (73), and which send or have got a copy.
-ghost use Rattle.std.specs.Prelude.{◌≤◌, ◌<◌, ◌≡◌, true, not, ◌&&◌, eqb};
-ghost use Rattle.base.specs.Cond.{bit};
+ghost use Rattle.std.specs.Prelude.{◌<◌, ◌≡◌, true, not, ◌&&◌, eqb};
 ghost use Rattle.plan.specs.Links.{links_of};
 ghost use Rattle.plan.proofs.laws.Accepted.{Accepted};
 ghost use Rattle.plan_tree.specs.Tree.{tree_link};

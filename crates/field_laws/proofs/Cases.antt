@@ -43,21 +43,21 @@ pub record Served (p : Plan) (v : ℕ) (s s' : State) : Type 0 where
   pub responds : Placed p v (serve_work p v word s) s rest (back_of (serve_work p v word s) word) s'
 
 -- "A refused call alters no field": a step refused by one of these numbers
-abbrev pub Refusal : ℕ → Type 0
-Refusal r = (r ≡ 32) ⊎ (r ≡ 33) ⊎ ((41 ≤ r) × (r ≤ 45)) ⊎ (r ≡ 54)
+abbrev pub RefusalNumber : ℕ → Type 0
+RefusalNumber r = (r ≡ 32) ⊎ (r ≡ 33) ⊎ ((41 ≤ r) × (r ≤ 45)) ⊎ (r ≡ 54)
 
-pub refusal-not-0 : (r : ℕ) → Refusal r → r ≢ 0
+pub refusal-not-0 : (r : ℕ) → RefusalNumber r → r ≢ 0
 refusal-not-0 r (inl h) = λ e. omega arith
 refusal-not-0 r (inr (inl h)) = λ e. omega arith
 refusal-not-0 r (inr (inr (inl h))) = λ e. omega (arith, h.0)
 refusal-not-0 r (inr (inr (inr h))) = λ e. omega arith
 
-usual : (r : ℕ) → 41 ≤ r → r ≤ 45 → Refusal r
+usual : (r : ℕ) → 41 ≤ r → r ≤ 45 → RefusalNumber r
 usual r l h = inr (inr (inl (l, h)))
 
 pub data StepOutcome (s : State) (Took : State → Type 0) : After State → Type 0 where
   took : {s' : State} → Took s' → StepOutcome s Took (taken_to s')
-  kept : (r : ℕ) → Refusal r → StepOutcome s Took (refused_by r s)
+  kept : (r : ℕ) → RefusalNumber r → StepOutcome s Took (refused_by r s)
 
 module _ (p : Plan) (v : ℕ) (w : Work) (s : State) (words back : List ℕ) where
   pub carried-out : StepOutcome s (Placed p v w s words back) (carry_out p v w s words back)

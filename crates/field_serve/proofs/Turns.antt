@@ -13,7 +13,7 @@ use Rattle.field.specs.declared.Field.{Field}
 use Rattle.field.specs.State.{State}
 use Rattle.field_words.specs.Hands.{lent_state}
 use Rattle.field_check.specs.Ready.{Ready}
-use Rattle.field_serve.specs.Lent.{Done, now, ended, Advances, Moves}
+use Rattle.field_serve.specs.Lent.{Done, standing, ended, Advances, Moves}
 
 -- the same step under another name
 pub advances-as : {g h : Plan → State → After State} {p : Plan} {cells marks lent cells' marks' lent' : List ℕ} {b d : Done}
@@ -27,9 +27,9 @@ moves-as x e = record { advances = advances-as x.advances e; plan = x.plan }
 
 -- the same at an equal plan
 pub moves-at : {g : Plan → State → After State} {f f' : Field} {lent lent' : List ℕ} {n n' refusal : ℕ} → Moves g f lent n refusal f' lent' n' → {p : Plan} → f.plan ≡ p
-    → Advances g p f.cells f.marks lent (now n f) (ended refusal n' f') f'.cells f'.marks lent' × (f'.plan ≡ p)
+    → Advances g p f.cells f.marks lent (standing n f) (ended refusal n' f') f'.cells f'.marks lent' × (f'.plan ≡ p)
 moves-at {g} {f} {f'} {lent} {lent'} {n} {n'} {refusal} x e =
-    (subst (λ (q : Plan). Advances g q f.cells f.marks lent (now n f) (ended refusal n' f') f'.cells f'.marks lent') e x.advances, x.plan ∙ e)
+    (subst (λ (q : Plan). Advances g q f.cells f.marks lent (standing n f) (ended refusal n' f') f'.cells f'.marks lent') e x.advances, x.plan ∙ e)
 
 -- s is what the last turn left: k turns of g are taken
 abbrev pub Turned : (Plan → ℕ → State → After State) → Plan → List ℕ → List ℕ → List ℕ → Done → ℕ → Done → List ℕ → List ℕ → List ℕ → Type 0

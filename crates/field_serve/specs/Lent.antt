@@ -16,8 +16,8 @@ pub record Done : Type 0 where
   pub sent : ℕ
 
 -- where n words wait: nothing refused yet, and refused by this number or 0
-abbrev pub now : ℕ → Field → Done
-now n f = record { refusal = 0; waiting = n; sent = f.sent }
+abbrev pub standing : ℕ → Field → Done
+standing n f = record { refusal = 0; waiting = n; sent = f.sent }
 
 abbrev pub ended : ℕ → ℕ → Field → Done
 ended refusal n f = record { refusal = refusal; waiting = n; sent = f.sent }
@@ -45,10 +45,10 @@ pub record CarriedOut (p : Plan) (v : ℕ) (y : Verdict) (cells marks lent : Lis
 
 -- Step g of a field in lent words, n of which wait, and what it leaves: the refusal's number or 0, and the same plan.
 pub record Moves (g : Plan → State → After State) (f : Field) (lent : List ℕ) (n refusal : ℕ) (f' : Field) (lent' : List ℕ) (n' : ℕ) : Type 0 where
-  pub advances : Advances g f.plan f.cells f.marks lent (now n f) (ended refusal n' f') f'.cells f'.marks lent'
+  pub advances : Advances g f.plan f.cells f.marks lent (standing n f) (ended refusal n' f') f'.cells f'.marks lent'
   pub plan : f'.plan ≡ f.plan
 
 -- the same of a run
 pub record MovesOn (g : Plan → State → Ran State) (f : Field) (lent : List ℕ) (n done refusal : ℕ) (f' : Field) (lent' : List ℕ) (n' : ℕ) : Type 0 where
-  pub runs : Runs g f.plan f.cells f.marks lent (now n f) done (ended refusal n' f') f'.cells f'.marks lent'
+  pub runs : Runs g f.plan f.cells f.marks lent (standing n f) done (ended refusal n' f') f'.cells f'.marks lent'
   pub plan : f'.plan ≡ f.plan

@@ -11,7 +11,7 @@ ghost use Rattle.field_verdict.specs.Verdict.{verdict_of};
 ghost use Rattle.field_words.specs.Laid.{Laid};
 ghost use Rattle.field_check.specs.Ready.{Ready};
 ghost use Rattle.field_serve.specs.Holds.{Holds};
-ghost use Rattle.field_serve.specs.Lent.{now, Moves, Executable, CarriedOut};
+ghost use Rattle.field_serve.specs.Lent.{standing, Moves, Executable, CarriedOut};
 
 use field::Field;
 use field_verdict::Verdict;
@@ -46,8 +46,8 @@ fn requeue(lent: &mut [u64], n: usize, answer: NodeAnswer, x: u64) -> usize
 
 // The verdict on module v is carried out where n words wait: a response is put in place.
 fn carry_out(f: &mut Field, lent: &mut [u64], n: &mut usize, v: u16, d: Verdict)
-    requires { Executable f.old.plan f.old.cells f.old.marks lent.old (now n.old f.old) v (verdict_of (Ok d)) }
-    ensures { CarriedOut f.old.plan v (verdict_of (Ok d)) f.old.cells f.old.marks lent.old (now n.old f.old) (now n.new f.new) f.new.cells f.new.marks lent.new
+    requires { Executable f.old.plan f.old.cells f.old.marks lent.old (standing n.old f.old) v (verdict_of (Ok d)) }
+    ensures { CarriedOut f.old.plan v (verdict_of (Ok d)) f.old.cells f.old.marks lent.old (standing n.old f.old) (standing n.new f.new) f.new.cells f.new.marks lent.new
         × (f.new.plan ≡ f.old.plan) }
 {
     let a = d.response;

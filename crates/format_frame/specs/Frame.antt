@@ -25,9 +25,9 @@ pub record Frame : Type 0 where
   pub carried : ℕ
 
 -- the same from the reader's answer
-abbrev pub said : Result (ℕ × ℕ) Refusal → Frame
-said (Ok f) = record { refusal = 0; header = f.0; carried = f.1 }
-said (Err r) = record { refusal = numbered r; header = 0; carried = 0 }
+abbrev pub frame_said : Result (ℕ × ℕ) Refusal → Frame
+frame_said (Ok f) = record { refusal = 0; header = f.0; carried = f.1 }
+frame_said (Err r) = record { refusal = numbered r; header = 0; carried = 0 }
 
 -- what the reader answers: a refusal answers its number alone
 unfoldable pub frame_read : List ℕ → Frame

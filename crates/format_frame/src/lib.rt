@@ -3,7 +3,7 @@
 
 ghost use Rattle.std.specs.Prelude.{◌≡◌, length};
 ghost use Rattle.refusal.specs.Number.{refusal_in};
-ghost use Rattle.format_frame.specs.Frame.{frame_bytes, frame_refusal, frame_read, said, frame_written};
+ghost use Rattle.format_frame.specs.Frame.{frame_bytes, frame_refusal, frame_read, frame_said, frame_written};
 
 use refusal::Refusal;
 
@@ -25,7 +25,7 @@ pub fn check(s: &[u8]) -> Result<(), Refusal>
 
 // What a frame's bytes say: a header byte and a carried number.
 pub fn read(s: &[u8]) -> Result<(u8, u16), Refusal>
-    ensures { said result ≡ frame_read s.now }
+    ensures { frame_said result ≡ frame_read s.now }
 {
     check(s)?;
     Ok((s[3], format_int16::at(s, 4)))

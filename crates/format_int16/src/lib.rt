@@ -1,7 +1,7 @@
 // 16-bit big-endian integers in lent bytes.
 #![tactic(auto)]
 
-ghost use Rattle.std.specs.Prelude.{◌+◌, ◌*◌, ◌<◌, ◌≡◌, length};
+ghost use Rattle.std.specs.Prelude.{◌+◌, ◌<◌, ◌≡◌, length};
 ghost use Rattle.format_int16.specs.Int16.{at16, put16};
 
 // The integer at byte i.

@@ -17,7 +17,7 @@ ghost use Rattle.path.specs.Near.{mark_near};
 ghost use Rattle.path_search.specs.Spread.{far, hops_to, LinksTo};
 
 use base::NONE;
-use path::Path;
+use path::LinkPath;
 use path_search::{FAR, FirstLinks, Hops, NODES};
 use plan::Plan;
 use refusal::Refusal;
@@ -68,7 +68,7 @@ fn walk(plan: &Plan, by: &FirstLinks, u: u16, v: u16, out: &mut [u16]) -> u16
 }
 
 // The path between two modules of a plan that was checked: no way, 79, or its links at the front of out.
-fn found(plan: &Plan, from: u16, to: u16, out: &mut [u16]) -> Result<Option<Path>, Refusal>
+fn found(plan: &Plan, from: u16, to: u16, out: &mut [u16]) -> Result<Option<LinkPath>, Refusal>
     requires { (plan_refusal plan.now ≡ 0) × (from < modules_of plan.now) × (to < modules_of plan.now) }
     ensures { record { answer = path_told result; buffer = out.new } ≡ path_between plan.now from to out.old }
 {
@@ -84,11 +84,11 @@ fn found(plan: &Plan, from: u16, to: u16, out: &mut [u16]) -> Result<Option<Path
     }
     let length = hops_between as u16;
     let worst = walk(plan, &by, from, to, out);
-    Ok(Some(Path { length, worst }))
+    Ok(Some(LinkPath { length, worst }))
 }
 
 // The path between two modules of any plan value: 14 to 18, 41, 79, no way, or its links at the front of out.
-pub fn between(plan: &Plan, from: u16, to: u16, out: &mut [u16]) -> Result<Option<Path>, Refusal>
+pub fn between(plan: &Plan, from: u16, to: u16, out: &mut [u16]) -> Result<Option<LinkPath>, Refusal>
     ensures { record { answer = path_told result; buffer = out.new } ≡ path_between plan.now from to out.old }
 {
     plan_check::check(plan)?;

@@ -1,5 +1,4 @@
 // The second half of a round: "then lets each module in number order serve as many as its queue then held".
-ghost use Rattle.std.specs.Prelude.{◌≡◌};
 ghost use Rattle.refusal.specs.Number.{refusal_in};
 ghost use Rattle.field_calls.specs.Rounds.{serve_turn, serve_phase};
 ghost use Rattle.field_check.specs.Ready.{Ready};

@@ -2,7 +2,7 @@
 ghost use Rattle.std.specs.Prelude.{◌≡◌};
 ghost use Rattle.refusal.specs.Number.{refusal_in};
 ghost use Rattle.field.specs.Step.{step};
-ghost use Rattle.field_calls.specs.Schedule.{steps_in, schedule_refusal, schedule_run};
+ghost use Rattle.field_calls.specs.Schedule.{schedule_refusal, schedule_run};
 ghost use Rattle.field_check.specs.Ready.{Ready};
 ghost use Rattle.field_serve.specs.Lent.{Moves, MovesOn};
 

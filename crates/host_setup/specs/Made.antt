@@ -7,6 +7,6 @@ use Rattle.field.specs.declared.Field.{Field}
 use Rattle.field.specs.Held.{Held, not_set_up}
 
 -- by the refusal's number; in place of the field that there is not, one of zeros
-abbrev pub made : Result Field Refusal → List ℕ → After Held
-made (Ok f) words = record { refusal = 0; state = record { field = f; words = words } }
-made (Err r) words = not_set_up (numbered r) words
+abbrev pub field_made : Result Field Refusal → List ℕ → After Held
+field_made (Ok f) words = record { refusal = 0; state = record { field = f; words = words } }
+field_made (Err r) words = not_set_up (numbered r) words

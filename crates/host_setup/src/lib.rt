@@ -6,7 +6,7 @@ ghost use Rattle.base.specs.Limits.{max_links};
 ghost use Rattle.plan.specs.Links.{links_of};
 ghost use Rattle.plan.specs.Trimmed.{trimmed};
 ghost use Rattle.field.specs.Held.{unmarked, fresh, set_up};
-ghost use Rattle.host_setup.specs.Made.{made};
+ghost use Rattle.host_setup.specs.Made.{field_made};
 
 use base::MAX_ENDS;
 use field::{CELLS, Cells, Field};
@@ -38,7 +38,7 @@ fn fresh_field(p: &Plan) -> Field
 
 // Setup of a plan in lent words: 14 to 18, then 21. A refusal leaves the words as they were.
 pub fn setup(p: &Plan, words: &mut [u64]) -> Result<Field, Refusal>
-    ensures { made result words.new ≡ set_up p.now words.old }
+    ensures { field_made result words.new ≡ set_up p.now words.old }
 {
     plan_check::check(p)?;
     if words.len() < plan::ceiling_of(p) as usize {

@@ -13,6 +13,6 @@ abbrev pub store_checks : List ℕ → List ℕ → Result ⊤ Refusal
 store_checks s name = cond (store_fits s) (cond (name_fits name) (Ok _) (Err R.NameWrong)) (Err R.Store)
 
 -- by the refusal's number; 0 and 0 beside a refusal, which has no place
-abbrev pub found_of : Result Spot Refusal → FoundPoint
-found_of (Ok p) = record { refusal = 0; at = p.at; size = p.size }
-found_of (Err r) = record { refusal = numbered r; at = 0; size = 0 }
+abbrev pub point_found : Result Spot Refusal → FoundPoint
+point_found (Ok p) = record { refusal = 0; at = p.at; size = p.size }
+point_found (Err r) = record { refusal = numbered r; at = 0; size = 0 }

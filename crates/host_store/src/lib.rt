@@ -12,8 +12,8 @@ ghost use Rattle.store.specs.Names.{longest_name, is_named, without_first};
 ghost use Rattle.store.specs.Reading.{held_in, record_fits};
 ghost use Rattle.store.specs.Calls.{save_point, find_point, part_at, restore_point};
 ghost use Rattle.store.specs.Layout.{record_with, record_size};
-ghost use Rattle.host_setup.specs.Made.{made};
-ghost use Rattle.host_store.specs.Found.{found_of, store_checks};
+ghost use Rattle.host_setup.specs.Made.{field_made};
+ghost use Rattle.host_store.specs.Found.{point_found, store_checks};
 
 use base::MAX_ENDS;
 use field::{CELLS, Cells, Field, Marks};
@@ -102,7 +102,7 @@ pub fn save(f: &Field, words: &[u64], name: &[u8], store: &mut [u8]) -> Result<(
 
 // Where the record of a name stands: 76, 77.
 pub fn find_at(store: &[u8], name: &[u8]) -> Result<Spot, Refusal>
-    ensures { found_of result ≡ find_point name.now store.now }
+    ensures { point_found result ≡ find_point name.now store.now }
 {
     check(store, name)?;
     store_records::place_of(store, name).ok_or(Refusal::NameWrong)
@@ -140,7 +140,7 @@ fn bring_back<'a>(r: &'a [u8], plan: &'a Plan, words: &mut [u64]) -> Field
 
 // The field saved under a name comes back, its waiting words in the lent ones: 76, 77, 21. A refusal leaves the words as they were.
 pub fn restore(store: &[u8], name: &[u8], words: &mut [u64]) -> Result<Field, Refusal>
-    ensures { made result words.new ≡ restore_point name.now store.now words.old }
+    ensures { field_made result words.new ≡ restore_point name.now store.now words.old }
 {
     let r = find(store, name)?;
     let mut plan = [0u16; NUMBERS];

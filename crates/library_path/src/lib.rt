@@ -7,7 +7,7 @@ ghost use Rattle.path.specs.Between.{path_told, path_between};
 ghost use Rattle.path.specs.Near.{mark_near};
 
 use base::NONE;
-use path::{Path, PathFound};
+use path::{PathFound, LinkPath};
 use plan::Plan;
 use refusal::{Refusal, refusal_in};
 
@@ -24,11 +24,11 @@ fn no_path(refusal: u32) -> PathFound
 }
 
 // A path, no way or a refusal, in C's numbers.
-fn told(answer: Result<Option<Path>, Refusal>) -> PathFound
+fn told(answer: Result<Option<LinkPath>, Refusal>) -> PathFound
     ensures { result ≡ path_told answer }
 {
     match answer {
-        Ok(Some(Path { length, worst })) => PathFound {
+        Ok(Some(LinkPath { length, worst })) => PathFound {
             refusal: 0,
             way: 1,
             length,

@@ -11,7 +11,7 @@ use Rattle.plan.specs.Refusal.{plan_refusal}
 use Rattle.plan_tree.specs.Tree.{tree_link}
 use Rattle.refusal.specs.declared.Refusal.{Refusal}
 use Rattle.refusal.specs.Number.{numbered}
-use Rattle.path.specs.declared.Path.{Path}
+use Rattle.path.specs.declared.LinkPath.{LinkPath}
 use Rattle.path.specs.declared.PathFound.{PathFound}
 
 -- "the tree path as link numbers, from the first module on"
@@ -32,7 +32,7 @@ path_refusal p room u v =
     (or_else (together (graph_of p) u v && ltb room (length (tree_path p u v))) 79 0))
 
 -- what a call answers, in C's numbers: a path, "no way", or a refusal
-abbrev pub path_told : Result (Option Path) Refusal → PathFound
+abbrev pub path_told : Result (Option LinkPath) Refusal → PathFound
 path_told (Ok (Some x)) = record { refusal = 0; way = 1; length = x.length; worst = x.worst }
 path_told (Ok None) = record { refusal = 0; way = 0; length = 0; worst = none }
 path_told (Err r) = record { refusal = numbered r; way = 0; length = 0; worst = none }

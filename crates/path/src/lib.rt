@@ -4,7 +4,7 @@
 
 // A path: how many links it has, and the latest of them, none where it has none.
 #[derive(Clone, Copy)]
-pub struct Path {
+pub struct LinkPath {
     pub length: u16,
     pub worst: u16,
 }

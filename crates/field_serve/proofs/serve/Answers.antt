@@ -6,7 +6,7 @@ use Rattle.std.specs.Prelude.{Ok, Err}
 use Rattle.std.proofs.Common.{rules}
 use Rattle.field.specs.Step.{serve}
 use Rattle.field_words.specs.Hands.{lent_state}
-use Rattle.field_serve.specs.Lent.{now}
+use Rattle.field_serve.specs.Lent.{standing}
 use Rattle.field_serve.proofs.Ready.{serve-sound}
 use Rattle.field_serve.proofs.CarriedOut.{refused-moves, executable, out-advances}
 use Rattle.field_serve.proofs.serve.Goals as goal
@@ -29,11 +29,11 @@ returns-in_err-d c =
 pub carry_out-requires : goal.carry_out-requires
 carry_out-requires c =
     let e : c.serve.result ≡ Ok c.in_ok-d.d = grind rules in
-    executable _ _ _ _ (now c.args.n.now c.args.f.now) _ _ c.requires (λ p. serve p c.args.v) (rw e at c.serve.ensures)
+    executable _ _ _ _ (standing c.args.n.now c.args.f.now) _ _ c.requires (λ p. serve p c.args.v) (rw e at c.serve.ensures)
 
 pub returns : goal.returns
 returns c =
-    let b = now c.args.n.now c.args.f.now in
+    let b = standing c.args.n.now c.args.f.now in
     let e : c.serve.result ≡ Ok c.in_ok-d.d = grind rules in
     record {
       advances = out-advances _ _ _ _ b _ _ c.requires (λ p. serve p c.args.v) (rw e at c.serve.ensures) (serve-sound _ _ _ _ b c.requires c.args.v) c.carry_out.ensures.0 (search rules);

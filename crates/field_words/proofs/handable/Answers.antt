@@ -1,3 +1,4 @@
+-- field_words::handable: from the clauses of what it calls, by the definitions.
 use Rattle.std.proofs.Common.{arith}
 use Rattle.std.proofs.lemmas.Bool.Decides.{nat_tests}
 use Rattle.field_words.specs.Hands.{handable}

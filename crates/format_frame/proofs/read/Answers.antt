@@ -1,3 +1,4 @@
+-- format_frame::read: from the clauses of what it calls, by the definitions.
 use Rattle.std.proofs.Common.{arith}
 use Rattle.std.proofs.lemmas.Bool.Decides.{nat_tests}
 use Rattle.refusal.proofs.laws.Number.{positive}

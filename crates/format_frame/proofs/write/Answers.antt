@@ -1,3 +1,4 @@
+-- format_frame::write: from the clauses of what it calls, by the definitions.
 use Rattle.std.proofs.Common.{arith}
 use Rattle.std.proofs.lemmas.Bool.Decides.{nat_tests}
 use Rattle.format_frame.specs.Frame.{frame_write_refusal, frame_written}

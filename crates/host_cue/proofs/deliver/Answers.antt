@@ -1,5 +1,5 @@
--- host_cue::deliver: `decide` works on the row that `load` makes, `mark` writes. That what it leaves is the call is `hearing-delivers`, that the row is what
--- `decide` is to have is `written-within`.
+-- host_cue::deliver: The verdict works on the row that `load` makes, `mark` writes. That what it leaves is the call is `hearing-delivers`, that the row is what
+-- the verdict is to have is `written-within`.
 use Rattle.std.specs.Prelude.{min, Err}
 use Rattle.std.proofs.Common.{ℕ, ◌≡◌, ◌∙◌, ap, sym, rules, arith, List, length, set, replicate}
 use Rattle.std.proofs.Math.Seq.{set_out}

@@ -1,14 +1,12 @@
 -- host_job::run_job: refused at setup by `not_set`; else all of it runs (`all-run`): by `job-outcome` nothing after setup is refused.
 use mathlib.Core.Path.{◌≡◌, refl, sym, ap, ◌∙◌}
-use lib.ListN.{length, take}
 use lib.Seq.{length-take-le}
-use Rattle.std.specs.Prelude.{ℕ, Ok, Err}
+use Rattle.std.specs.Prelude.{ℕ, Err}
 use Rattle.std.proofs.Common.{rules, arith}
 use Rattle.refusal.specs.Number.{numbered, refusal_in}
 use Rattle.refusal.proofs.laws.Number.{positive}
 use Rattle.base.specs.Loop.{After, Ran}
 use Rattle.field.specs.Held.{Held, set_up, blank_field}
-use Rattle.host_job.specs.Job.{job_run}
 use Rattle.host_job.proofs.laws.Job.{not_set, set-taken, not-woken, all-run}
 use Rattle.host_job.proofs.laws.Agrees.{job-outcome}
 use Rattle.host_job.proofs.run_job.Goals as goal

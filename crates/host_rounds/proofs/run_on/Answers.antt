@@ -1,9 +1,7 @@
 -- host_rounds::run_on: 31 by `rounds-31`, else the rounds by `rounds-done`.
-use mathlib.Core.Path.{◌≡◌, refl, sym, ap, ◌∙◌}
+use mathlib.Core.Path.{◌≡◌}
 use Rattle.std.specs.Prelude.{Ok, Err}
-use Rattle.std.proofs.Common.{rules, arith}
-use Rattle.refusal.specs.Number.{refusal_in}
-use Rattle.refusal.proofs.laws.Number.{positive}
+use Rattle.std.proofs.Common.{rules}
 use Rattle.field.specs.Held.{Held}
 use Rattle.field_check.specs.Checked.{check_of}
 use Rattle.host_rounds.proofs.Call.{rounds-31, rounds-done}

@@ -1,6 +1,6 @@
 -- host_run::run_on: 31 by `run-31`, 51 to 54 by `run-54`, else the steps by `run-done`.
 use Rattle.std.specs.Prelude.{◌≡◌, Ok, Err}
-use Rattle.std.proofs.Common.{rules, arith, sym}
+use Rattle.std.proofs.Common.{rules, arith}
 use Rattle.refusal.specs.Number.{numbered}
 use Rattle.refusal.proofs.laws.Number.{positive}
 use Rattle.field.specs.Held.{Held}

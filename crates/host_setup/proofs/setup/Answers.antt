@@ -1,3 +1,4 @@
+-- host_setup::setup: from the clauses of what it calls, by the definitions.
 use Rattle.std.proofs.Common.{◌≡◌, length, replicate, arith, rules}
 use Rattle.std.proofs.lemmas.Bool.Decides.{nat_tests}
 use Rattle.refusal.proofs.laws.Number.{positive}

@@ -1,4 +1,4 @@
--- host_store::find: the part at the place that `find_at` answers, which lies in the store (`cut_inside`).
+-- host_store::find: the part at the place that finding answers, which lies in the store (`cut_inside`).
 use Rattle.std.proofs.Common.{arith}
 use Rattle.host_store.proofs.Finds.{cut_inside}
 use Rattle.host_store.proofs.find.Goals as goal

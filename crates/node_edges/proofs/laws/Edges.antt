@@ -1,7 +1,6 @@
 -- One law for each outcome of the definitions of `Own`, and for a turn of the search (`earliest-turn`) and of the count (`number-turn`), as the code's tests meet them.
 use Rattle.std.specs.Prelude.{Option, Some, None, ℕ, ◌+◌, ◌≡◌, ◌≢◌, Bool, ◌&&◌, eqb}
 use Rattle.std.proofs.Common.{add-one, ap, ◌∙◌}
-use Rattle.std.proofs.Math.Path.{refl}
 use Rattle.std.proofs.Math.Bool.{true, false, cond}
 use borrow.Author.Tests.{eq-eqb, ne_eqb}
 use Rattle.base.specs.Cond.{bit}

@@ -1,3 +1,4 @@
+-- plan_file::head_check: from the clauses of what it calls, by the definitions.
 use Rattle.std.proofs.Common.{arith}
 use Rattle.std.proofs.lemmas.Bool.Decides.{nat_tests}
 use Rattle.plan_file.specs.Reading.{head_verdict}

@@ -9,7 +9,7 @@ use Rattle.std.specs.Result.{IsOk}
 use Rattle.refusal.specs.declared.Refusal.{Refusal}
 use Rattle.refusal.proofs.laws.Number.{positive}
 use Rattle.field.specs.declared.Field.{Field}
-use Rattle.host_setup.specs.Made.{made}
+use Rattle.host_setup.specs.Made.{field_made}
 use Rattle.base.specs.Loop.{After, taken_to}
 use Rattle.format_text.specs.Put.{put}
 use Rattle.plan.proofs.laws.Accepted.{accepted}
@@ -31,7 +31,7 @@ render-requires c =
     (a.modules_ok, a.links_ok)
 
 -- a call that makes a field, and is taken
-made-fine : (r : Result Field Refusal) (words : List ℕ) (h : Held) → made r words ≡ taken_to h → IsOk r
+made-fine : (r : Result Field Refusal) (words : List ℕ) (h : Held) → field_made r words ≡ taken_to h → IsOk r
 made-fine (Ok f) words h e = refl
 made-fine (Err x) words h e = absurd (positive x (ap (λ (a : After Held). a.refusal) e))
 
@@ -43,7 +43,7 @@ pub returns : goal.returns
 returns c =
     let p = c.args.p.now in
     let q : c.setup.result ≡ Ok c.unwrap-f.result = grind rules in
-    let s : made (Ok c.unwrap-f.result) c.setup.new.words ≡ taken_to (fresh_held p) = rw q at c.setup.ensures ∙ fresh-taken p c.args.lent.now c.requires.0 c.requires.1 in
+    let s : field_made (Ok c.unwrap-f.result) c.setup.new.words ≡ taken_to (fresh_held p) = rw q at c.setup.ensures ∙ fresh-taken p c.args.lent.now c.requires.0 c.requires.1 in
     let h : record { field = c.unwrap-f.result; words = c.setup.new.words } ≡ fresh_held p = ap (λ (a : After Held). a.state) s in
     rw c.refusal_in-refusal.ensures at c.render.ensures
     ∙ ap (put _) (ran-shown p (c.run-run.ensures ∙ ap (run_bytes c.args.schedule.now) h) (front _ _ c.waiting-n.ensures))

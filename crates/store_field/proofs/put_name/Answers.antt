@@ -1,3 +1,4 @@
+-- store_field::put_name: from the clauses of what it calls, by the definitions.
 use Rattle.std.proofs.Common.{arith}
 use Rattle.base.proofs.laws.Sets.{part-set}
 use Rattle.store_field.proofs.put_name.Goals as goal

@@ -1,3 +1,4 @@
+-- store_records::name_fits: from the clauses of what it calls, by the definitions.
 use Rattle.std.proofs.Common.{◌≡◌, sym, ◌∙◌, rules, tests, arith}
 use Rattle.std.proofs.lemmas.Iterator.{YieldsList-from_slice}
 use Rattle.std.proofs.lemmas.Iterator.Search.{all_from_yields_List}

@@ -1,3 +1,4 @@
+-- store_records::zeros: from the clauses of what it calls, by the definitions.
 use Rattle.std.proofs.Common.{eqb, sym, ◌∙◌, rules, tests}
 use Rattle.std.proofs.lemmas.Iterator.{YieldsList-from_slice}
 use Rattle.std.proofs.lemmas.Iterator.Search.{all_from_yields_List}

@@ -1,3 +1,4 @@
+-- text_report::branch: from the clauses of what it calls, by the definitions.
 use Rattle.std.proofs.Common.{rules, tests, sym}
 use Rattle.format_text.proofs.laws.Pages.{has_put_none, has_put_two, has_put_as}
 use Rattle.text_report.specs.Text.{branch_text}

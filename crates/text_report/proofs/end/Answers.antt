@@ -1,3 +1,4 @@
+-- text_report::end: from the clauses of what it calls, by the definitions.
 use Rattle.std.proofs.Common.{rules, tests}
 use Rattle.format_text.proofs.laws.Pages.{has_put_none}
 use Rattle.text_report.specs.Text.{end_text}

@@ -1,3 +1,4 @@
+-- text_trace::link_or_none: from the clauses of what it calls, by the definitions.
 use Rattle.std.proofs.Common.{rules, tests}
 use Rattle.text_trace.specs.Text.{link_item}
 use Rattle.text_trace.proofs.link_or_none.Goals as goal

@@ -1,3 +1,4 @@
+-- text_trace::refusal: from the clauses of what it calls, by the definitions.
 use Rattle.std.proofs.Common.{rules, tests}
 use Rattle.text_trace.specs.Text.{refusal_text}
 use Rattle.text_trace.proofs.refusal.Goals as goal

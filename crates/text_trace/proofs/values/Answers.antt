@@ -1,3 +1,4 @@
+-- text_trace::values: from the clauses of what it calls, by the definitions.
 use Rattle.std.proofs.Common.{rules}
 use Rattle.format_text.proofs.laws.Pages.{has_put_two}
 use Rattle.text_trace.proofs.values.Goals as goal

@@ -1,3 +1,4 @@
+-- cue_check::record::right: from the clauses of what it calls, by the definitions.
 use Rattle.std.proofs.Common.{rules, tests}
 use Rattle.cue.specs.Calls.{right_of}
 use Rattle.cue_check.proofs.record.right.Goals as goal

@@ -1,3 +1,4 @@
+-- cue_check::tree::links_agree: from the clauses of what it calls, by the definitions.
 use Rattle.std.proofs.Common.{length, sym, ◌∙◌, arith, rules, tests}
 use Rattle.std.proofs.lemmas.Iterator.{YieldsList-from_range}
 use Rattle.std.proofs.lemmas.Iterator.Search.{all_from_yields_List}

@@ -1,3 +1,4 @@
+-- cue_verdict::gate::of_field: from the clauses of what it calls, by the definitions.
 use Rattle.std.proofs.Common.{rules}
 use Rattle.field_check.proofs.Admitted.{invalid, passes}
 use Rattle.cue.proofs.laws.Refusals.{valid-plan-taken, field-31, field-71}

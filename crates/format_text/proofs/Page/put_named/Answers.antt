@@ -1,3 +1,4 @@
+-- format_text::Page::put_named: from the clauses of what it calls, by the definitions.
 use Rattle.std.proofs.Common.{rules}
 use Rattle.format_text.proofs.laws.Pages.{has_put_two}
 use Rattle.format_text.proofs.Page.put_named.Goals as goal

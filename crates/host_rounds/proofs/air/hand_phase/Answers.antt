@@ -1,4 +1,4 @@
-use mathlib.Core.Path.{◌≡◌, refl, sym, ap, ◌∙◌}
+use mathlib.Core.Path.{◌≡◌, ap}
 use Rattle.std.specs.Prelude.{ℕ, ◌*◌, Err}
 use Rattle.std.proofs.Common.{rules, arith}
 use Rattle.refusal.specs.Number.{refusal_in}

@@ -1,5 +1,5 @@
-use mathlib.Core.Path.{◌≡◌, refl, sym, ap, ◌∙◌}
-use Rattle.std.specs.Prelude.{ℕ, ◌*◌, Err}
+use mathlib.Core.Path.{◌≡◌}
+use Rattle.std.specs.Prelude.{Err}
 use Rattle.std.proofs.Common.{rules, arith}
 use Rattle.refusal.specs.Number.{refusal_in}
 use Rattle.refusal.proofs.laws.Number.{positive}

@@ -1,11 +1,11 @@
 -- host_rounds::round::round: a refused hand-over ends it, by `round-off`; else the modules serve, by `round-on`. The field stays ready, by `hands`.
-use mathlib.Core.Path.{◌≡◌, refl, sym, ap, ◌∙◌}
-use Rattle.std.specs.Prelude.{ℕ, ◌*◌, Err}
-use Rattle.std.proofs.Common.{rules, arith}
+use mathlib.Core.Path.{◌≡◌, refl, ◌∙◌}
+use Rattle.std.specs.Prelude.{Err}
+use Rattle.std.proofs.Common.{rules}
 use Rattle.refusal.specs.Number.{refusal_in}
 use Rattle.refusal.proofs.laws.Number.{positive}
 use Rattle.field_calls.specs.Rounds.{hand_phase}
-use Rattle.field_serve.specs.Lent.{now}
+use Rattle.field_serve.specs.Lent.{standing}
 use Rattle.field_serve.proofs.Ready.{hands}
 use Rattle.field_serve.proofs.Turns.{advances-as}
 use Rattle.host_rounds.proofs.Turns.{hand-phase-sound, round-on, round-off}
@@ -14,7 +14,7 @@ use Rattle.host_rounds.proofs.round.round.Goals as goal
 pub returns-in_err-hand_phase : goal.returns-in_err-hand_phase
 returns-in_err-hand_phase c =
     let r = c.requires in
-    let b = now c.args.n.now c.args.f.now in
+    let b = standing c.args.n.now c.args.f.now in
     let x = c.in_err-hand_phase.field-0.0 in
     let e : c.hand_phase.result ≡ Err x = grind rules in
     let q : c.from_residual.result ≡ Err x = grind rules in
@@ -24,7 +24,7 @@ returns-in_err-hand_phase c =
 pub serve_phase-requires : goal.serve_phase-requires
 serve_phase-requires c =
     let r = c.requires in
-    (hands _ _ _ _ (now c.args.n.now c.args.f.now) r hand_phase (hand-phase-sound _ _ r.plan r.sound) c.hand_phase.ensures (search rules) refl).ready
+    (hands _ _ _ _ (standing c.args.n.now c.args.f.now) r hand_phase (hand-phase-sound _ _ r.plan r.sound) c.hand_phase.ensures (search rules) refl).ready
 
 pub returns : goal.returns
 returns c =

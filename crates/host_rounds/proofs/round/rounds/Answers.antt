@@ -1,10 +1,10 @@
-use mathlib.Core.Path.{◌≡◌, refl, sym, ap, ◌∙◌}
-use Rattle.std.specs.Prelude.{ℕ, ◌*◌, Err}
+use mathlib.Core.Path.{◌≡◌, refl}
+use Rattle.std.specs.Prelude.{Err}
 use Rattle.std.proofs.Common.{rules, arith}
 use Rattle.refusal.specs.Number.{refusal_in}
 use Rattle.refusal.proofs.laws.Number.{positive}
 use Rattle.field_serve.proofs.Turns.{moves-at}
-use Rattle.field_serve.proofs.Going.{not-gone, goes-rest, goes-on, goes-off, goes_over}
+use Rattle.field_serve.proofs.Going.{not-gone, goes-rest, goes-on, goes-off}
 use Rattle.host_rounds.proofs.Turns.{rest, no-rest}
 use Rattle.host_rounds.proofs.round.rounds.Goals as goal
 

@@ -1,12 +1,12 @@
 use native.Mathlib.Omega.{arith}
-use mathlib.Core.Path.{◌≡◌, refl, sym, ◌∙◌}
+use mathlib.Core.Path.{◌≡◌, refl}
 use borrow.Author.Rules.{rules}
 use Rattle.std.specs.Prelude.{Err}
 use Rattle.refusal.proofs.laws.Number.{positive}
 use Rattle.host_schedule.specs.laws.Kinds.{taken-size}
 use Rattle.refusal.specs.Number.{refusal_in}
 use Rattle.field_serve.proofs.Turns.{moves-at}
-use Rattle.field_serve.proofs.Going.{not-gone, goes-on, goes-off, goes_over}
+use Rattle.field_serve.proofs.Going.{not-gone, goes-on, goes-off}
 use Rattle.host_run.proofs.Dispatch.{read_step}
 use Rattle.host_run.proofs.steps.steps.Goals as goal
 
