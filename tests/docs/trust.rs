@@ -58,11 +58,9 @@ const EXPORTS: &str = "library_";
 /// spared here.
 const OFFERED: [&str; 4] = ["plan_file", "plan_check", "plan_tree", "format_frame"];
 
-const SPARED: [(&str, &[&str]); 3] = [
+const SPARED: [(&str, &[&str]); 2] = [
     // 14 and 15 alone, told whether L fits a length: for plan_file, which has the length
     ("plan_check", &["counts_check"]),
-    // parts of setup that restoring a point has a use for
-    ("host_setup", &["refused_by", "zero_all"]),
     // what open, left and next are made of, on bytes
     ("host_reader", &["left_from", "step_from", "place_after"]),
 ];

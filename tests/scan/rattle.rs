@@ -195,6 +195,14 @@ fn declared(lines: &[&str], from: usize, to: usize, out: &mut Source) {
     out.parsed.items.push(found);
 }
 
+/// A ghost item of an `impl`, as `ghost try_from_gives = { .. };`: what it names is used by the item above it.
+fn ghost_item(lines: &[&str], from: usize, to: usize, out: &mut Source) {
+    let named = tokens(&lines[from..to].join("\n"), from + 1, Language::Antt);
+    if let Some(above) = out.parsed.items.last_mut() {
+        above.groups.push(plain_group(named, 0));
+    }
+}
+
 pub fn parse(text: &str) -> Source {
     let plain = plain(text, Language::Rattle);
     let lines: Vec<&str> = plain.lines().collect();
@@ -209,6 +217,9 @@ pub fn parse(text: &str) -> Source {
                 out.ghosts.extend(ghost_import(&lines[i..end].join(" "), i + 1))
             }
             Some("use") => out.parsed.uses.extend(code_imports(&lines[i..end].join(" "), i + 1)),
+            Some(_) if lines[i].trim_start().starts_with("ghost") && words.get(1) == Some(&"=") => {
+                ghost_item(&lines, i, end, &mut out)
+            }
             Some("struct" | "enum" | "const" | "type") => declared(&lines, i, end, &mut out),
             Some("fn") => function(&lines, i, end, &mut out),
             _ => {

@@ -73,6 +73,12 @@ module _ (kind number : ℕ) (h : Held) (buffer : List ℕ) where
         → shown [] buffer ≡ preview kind number h buffer
     hand-shown e words w q = sym (shows-none e (hand-tells e words w q))
 
+    -- both in one
+    pub preview-hand : kind ≡ 2 → (r : Result ℕ Refusal) (words : List ℕ) → words ≡ (state_of h).words → r ≡ handable p number words
+        → not_shown (refusal_in r) buffer ≡ preview kind number h buffer
+    preview-hand e (Ok a) words w q = hand-shown e words w q
+    preview-hand e (Err x) words w q = hand-refused e words w q
+
     -- so is their state
     module _ (s : State) (same : s ≡ state_of h) {d : Verdict} where
       verdict-of : {a : After State} {w : Work} → a ≡ step p kind number (state_of h) → sends_at p (step_taken kind number (state_of h)) ≡ w.sends

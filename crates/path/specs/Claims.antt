@@ -10,7 +10,7 @@ use Rattle.graph.specs.Path.{edges_of}
 use Rattle.graph.specs.Between.{Latest}
 use Rattle.plan.specs.Links.{graph_of, Plan, modules_of}
 use Rattle.plan.specs.Weights.{earlier}
-use Rattle.plan_tree.specs.Claim.{LinkPath}
+use Rattle.plan_tree.specs.Claim.{TreePath}
 use Rattle.path.specs.Between.{PathShown, path_between}
 use Rattle.path.specs.Near.{mark_near}
 
@@ -24,13 +24,13 @@ shown_links r = take r.answer.length r.buffer
 pub record PathHolds (p : Plan) (u v : ℕ) (lent : List ℕ) (r : PathShown) : Type 0 where
   pub found : r.answer.way ≡ 1
   -- "the tree path as link numbers, from the first module on, at the front": a way over tree links on which no module comes twice, ..
-  pub path : LinkPath p u v
+  pub path : TreePath p u v
   pub shows : shown_links r ≡ edges_of path.way
   pub many : r.answer.length ≡ length (edges_of path.way)
   -- .. and no link
   pub once : NoTwice (edges_of path.way)
   -- and there is no other
-  pub only : (q : LinkPath p u v) → edges_of q.way ≡ edges_of path.way
+  pub only : (q : TreePath p u v) → edges_of q.way ≡ edges_of path.way
   -- "and the latest link on it"
   pub worst : u ≢ v → Latest (earlier p) (edges_of path.way) r.answer.worst
   -- "for two different modules, no way between them over any of the plan's links has an earlier latest link"
@@ -70,8 +70,8 @@ TurnedClaim =
 
 -- "79 a buffer shorter than the path", and so than N − 1 numbers: with as many every path fits
 pub record TooShort (p : Plan) (room u v : ℕ) : Type 0 where
-  pub there : LinkPath p u v
-  pub path : (q : LinkPath p u v) → room < length (edges_of q.way)
+  pub there : TreePath p u v
+  pub path : (q : TreePath p u v) → room < length (edges_of q.way)
   pub most : suc room < modules_of p
 
 abbrev pub RoomClaim : Type 0
@@ -83,9 +83,9 @@ RoomClaim = (p : Plan) (u v : ℕ) (lent : List ℕ) → (path_between p u v len
 pub record NearHolds (p : Plan) (m h : ℕ) (lent bytes : List ℕ) : Type 0 where
   -- "1 for each module within h branches of one module and 0 otherwise": where there is a path its length decides, and there is one to each module of the part;
   -- modules of other parts get 0 (request 08)
-  pub paths : (v : ℕ) → v < modules_of p → SamePart (graph_of p) m v → LinkPath p m v
+  pub paths : (v : ℕ) → v < modules_of p → SamePart (graph_of p) m v → TreePath p m v
   pub apart : (v : ℕ) → v < modules_of p → ¬ SamePart (graph_of p) m v → get_or bytes v 0 ≡ 0
-  pub marks : (v : ℕ) → v < modules_of p → (q : LinkPath p m v) → get_or bytes v 0 ≡ bit (leb (length (edges_of q.way)) h)
+  pub marks : (v : ℕ) → v < modules_of p → (q : TreePath p m v) → get_or bytes v 0 ≡ bit (leb (length (edges_of q.way)) h)
   -- "The rest .. keeps."
   pub rest : drop (modules_of p) bytes ≡ drop (modules_of p) lent
   pub size : length bytes ≡ length lent

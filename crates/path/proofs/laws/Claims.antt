@@ -28,7 +28,7 @@ use Rattle.plan.specs.Refusal.{plan_refusal}
 use Rattle.plan.proofs.laws.Weights.{order_of}
 use Rattle.plan.proofs.laws.Accepted.{Accepted, accepted}
 use Rattle.plan.proofs.laws.Numbers.{PlanNumber, plan-number}
-use Rattle.plan_tree.specs.Claim.{LinkPath}
+use Rattle.plan_tree.specs.Claim.{TreePath}
 use Rattle.plan_tree.proofs.laws.Paths.{tree-spare, tree-path}
 use Rattle.path.specs.Between.{tree_path, worst_on, no_way, this_path, path_refusal}
 use Rattle.path.specs.Claims.{PathHolds, NoWay, PathClaim, TurnedRound, TurnedClaim, TooShort, RoomClaim, NearHolds, NearClaim}
@@ -68,7 +68,7 @@ module _ (p : Plan) (a : Accepted p) where
     size = omega (arith, length-append links left, length-drop (length links) lent);
   }
     where
-      q : LinkPath p u v
+      q : TreePath p u v
       q = tree-path p s
 
       links : List ℕ
@@ -102,7 +102,7 @@ path-turns p a u v lent lent' s = record {
   worst = ap (worst_on p) turned ∙ latest-turned (order_of p) (few-links p a) links (subst (All (λ k. k < links_of p)) (sym (path-is p q)) (edges-below q.way));
 }
   where
-    q : LinkPath p u v
+    q : TreePath p u v
     q = tree-path p s
 
     links : List ℕ

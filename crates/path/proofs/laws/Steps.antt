@@ -10,7 +10,7 @@ use Rattle.graph.proofs.laws.Between.{between-path, between-here, between_next, 
 use Rattle.plan.specs.Links.{graph_of, Plan, modules_of}
 use Rattle.plan.proofs.laws.Accepted.{Accepted}
 use Rattle.plan_tree.specs.Tree.{tree_link}
-use Rattle.plan_tree.specs.Claim.{LinkPath}
+use Rattle.plan_tree.specs.Claim.{TreePath}
 use Rattle.plan_tree.proofs.laws.Paths.{tree-spare, tree-spans, tree-path, link-inside}
 use Rattle.path.specs.Between.{tree_path}
 
@@ -34,7 +34,7 @@ pub record PathSteps (p : Plan) (v : ℕ) : Type 0 where
   pub short : (u : ℕ) → u < modules_of p → SamePart (graph_of p) u v → length (tree_path p u v) < modules_of p
 
 module _ (p : Plan) where
-  pub path-is : {u v : ℕ} (q : LinkPath p u v) → tree_path p u v ≡ edges_of q.way
+  pub path-is : {u v : ℕ} (q : TreePath p u v) → tree_path p u v ≡ edges_of q.way
   unfolding tree_path
   path-is q = between-path (graph_of p) (tree_link p) (tree-spare p) q
 

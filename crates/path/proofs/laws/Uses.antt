@@ -28,7 +28,7 @@ use Rattle.plan.specs.Links.{graph_of, Plan, modules_of, links_of}
 use Rattle.plan.specs.Weights.{earlier}
 use Rattle.plan.proofs.laws.Weights.{order_of}
 use Rattle.plan_tree.specs.Tree.{tree_link}
-use Rattle.plan_tree.specs.Claim.{LinkPath}
+use Rattle.plan_tree.specs.Claim.{TreePath}
 use Rattle.path.specs.Between.{PathShown, no_way, path_between}
 use Rattle.path.specs.Claims.{shown_links, PathHolds, NoWay, PathClaim, TurnedRound, RoomClaim, NearHolds}
 
@@ -112,7 +112,7 @@ room-enough claim p u v lent l e = omega (arith, (claim p u v lent e).most)
 
 -- 79: there is a path, and it is longer than the room
 pub record LongerPath (p : Plan) (room u v : ℕ) : Type 0 where
-  pub path : LinkPath p u v
+  pub path : TreePath p u v
   pub longer : room < length (edges_of path.way)
 
 pub room-short : RoomClaim → (p : Plan) (u v : ℕ) (lent : List ℕ) → (path_between p u v lent).answer.refusal ≡ 79 → LongerPath p (length lent) u v
@@ -141,7 +141,7 @@ module _ {p : Plan} {m h : ℕ} {lent bytes : List ℕ} (near : NearHolds p m h 
   pub near-more : {h' : ℕ} {lent' bytes' : List ℕ} → NearHolds p m h' lent' bytes' → h ≤ h' → get_or bytes v 0 ≤ get_or bytes' v 0
   near-more {h'} more le =
       ⊎_elim
-      (λ s. let q : LinkPath p m v = near.paths v l s in
+      (λ s. let q : TreePath p m v = near.paths v l s in
       let n : ℕ = length (edges_of q.way) in
       omega (arith, near.marks v l q, more.marks v l q, bit-mono (leb n h) (leb n h') (λ t. le-leb n h' (omega (arith, leb-true n h t)))))
       (λ d. omega (arith, near.apart v l d))
@@ -158,5 +158,5 @@ near_none {p} {m} {bytes} near v l = eqb-cases m v (λ b. get_or bytes v 0 ≡ b
     (λ n. near.apart v l n)
     (part? (graph_of p) m v))
   where
-    itself : {w byte : ℕ} → m ≡ w → ((q : LinkPath p m w) → byte ≡ bit (leb (length (edges_of q.way)) 0)) → byte ≡ 1
-    itself {byte} e = subst (λ w. ((q : LinkPath p m w) → byte ≡ bit (leb (length (edges_of q.way)) 0)) → byte ≡ 1) e (λ f. f (record { way = stop; simple = NoTwice-one m }))
+    itself : {w byte : ℕ} → m ≡ w → ((q : TreePath p m w) → byte ≡ bit (leb (length (edges_of q.way)) 0)) → byte ≡ 1
+    itself {byte} e = subst (λ w. ((q : TreePath p m w) → byte ≡ bit (leb (length (edges_of q.way)) 0)) → byte ≡ 1) e (λ f. f (record { way = stop; simple = NoTwice-one m }))
