@@ -88,7 +88,12 @@ fn found(plan: &Plan, from: u16, to: u16, out: &mut [u16]) -> Result<Option<Link
 }
 
 // The path between two modules of any plan value: 14 to 18, 41, 79, no way, or its links at the front of out.
-pub fn between(plan: &Plan, from: u16, to: u16, out: &mut [u16]) -> Result<Option<LinkPath>, Refusal>
+pub fn between(
+    plan: &Plan,
+    from: u16,
+    to: u16,
+    out: &mut [u16],
+) -> Result<Option<LinkPath>, Refusal>
     ensures { record { answer = path_told result; buffer = out.new } ≡ path_between plan.now from to out.old }
 {
     plan_check::check(plan)?;

@@ -21,12 +21,7 @@ pub fn step(f: &mut Field, words: &mut [u64], kind: u8, number: u16) -> Result<(
 }
 
 // The same as `run`; `done` counts the steps.
-fn run_on(
-    f: &mut Field,
-    words: &mut [u64],
-    bytes: &[u8],
-    done: &mut usize,
-) -> Result<(), Refusal>
+fn run_on(f: &mut Field, words: &mut [u64], bytes: &[u8], done: &mut usize) -> Result<(), Refusal>
     requires { done.old ≡ 0 }
     ensures { record { done = done.new; refusal = refusal_in result; state = record { field = f.new; words = words.new } }
         ≡ run_bytes bytes.now (record { field = f.old; words = words.old }) }

@@ -7,7 +7,7 @@ ghost use Rattle.path.specs.Between.{path_told, path_between};
 ghost use Rattle.path.specs.Near.{mark_near};
 
 use base::NONE;
-use path::{PathFound, LinkPath};
+use path::{LinkPath, PathFound};
 use plan::Plan;
 use refusal::{Refusal, refusal_in};
 

@@ -8,13 +8,14 @@ ghost use Rattle.library_schedule.specs.Found.{found_by};
 
 use field_calls::Step;
 use host_reader::Schedule;
+use refusal::refusal_in;
 
 // The check of a schedule's bytes: 51 to 54, or 0.
 #[unsafe(no_mangle)]
 pub extern "C" fn muruapy_schedule_check(bytes: &[u8]) -> u32
     ensures { result ≡ schedule_refusal bytes.now }
 {
-    host_schedule::check(bytes)
+    refusal_in(host_schedule::check(bytes))
 }
 
 // How many steps the bytes have: what a reader has left that is opened on them.
