@@ -1,19 +1,19 @@
 -- A field that was checked for 31: refused (`invalid`), or its arrays are the state that steps work on (`passes`, `starts`); and the field put together
 -- again from the arrays (`again`).
 use Prim.Native.Nat.{ℕ}
-use mathlib.Core.Path.{◌≡◌, ap, ◌∙◌}
+use mathlib.Core.Path.{◌≡◌, refl, ap, ◌∙◌}
 use mathlib.Core.Bool.{true, false}
 use Rattle.std.proofs.Common.{rules}
-use Rattle.std.specs.Prelude.{Ok, Err}
-use Rattle.refusal.specs.declared.Refusal.{Refusal}
-use Rattle.refusal.specs.declared.Refusal.TheVariants as R
+use Rattle.std.specs.Prelude.{Result, Ok, Err}
 use mathlib.Core.List.{List}
 use lib.ListN.{length, take}
+use Rattle.base.proofs.laws.Cond.{bool_cases}
 use Rattle.field.specs.declared.Field.{Field}
 use Rattle.field.specs.Valid.{waiting_in}
 use Rattle.field.specs.Held.{Held, layout, held_of, valid}
 use Rattle.field.specs.Held as H
-use Rattle.field_check.specs.Checked.{check_of}
+use Rattle.field_check.specs.declared.NoField.{NoField}
+use Rattle.field_check.specs.Checked.{check_of, waiting_told}
 use Rattle.field_check.proofs.Words.{front}
 use Rattle.field_words.specs.Laid.{Laid}
 use Rattle.field_words.specs.Hands.{lent_state}
@@ -22,7 +22,7 @@ module _ (f : Field) (lent : List ℕ) where
   abbrev h : Held
   h = record { field = f; words = lent }
 
-  pub invalid : {r : Refusal} → Err r ≡ check_of h → (r ≡ R.Field) × (valid h ≡ false)
+  pub invalid : {x : NoField} → Err x ≡ check_of h → valid h ≡ false
   invalid e = grind rules
 
   module _ {n : ℕ} (e : Ok n ≡ check_of h) where
@@ -32,10 +32,15 @@ module _ (f : Field) (lent : List ℕ) where
     pub admitted-waiting : n ≡ length (waiting_in lent)
     admitted-waiting = grind rules
 
-    pub words-waiting : take n lent ≡ (H.state_of h).words
-    words-waiting = front lent n admitted-waiting
+  -- of any field, refused or not
+  module _ {r : Result ℕ NoField} (e : r ≡ check_of h) where
+    pub told-waiting : waiting_told r ≡ length (waiting_in lent)
+    told-waiting = ap waiting_told e ∙ bool_cases (valid h) (λ v. rw v refl) (λ v. rw v refl)
 
-    pub starts : lent_state f.cells f.marks lent n f.sent ≡ H.state_of h
+    pub words-waiting : take (waiting_told r) lent ≡ (H.state_of h).words
+    words-waiting = front lent (waiting_told r) told-waiting
+
+    pub starts : lent_state f.cells f.marks lent (waiting_told r) f.sent ≡ H.state_of h
     starts = ap (λ (w : List ℕ). record { cells = f.cells; marks = f.marks; words = w; sent = f.sent }) words-waiting
 
 -- what the arrays hold, as what the host holds

@@ -3,7 +3,7 @@ use Prim.Native.Nat.{ℕ, ◌≤◌}
 use native.Mathlib.Omega.{arith}
 use mathlib.Core.Path.{◌≡◌, sym, ap, subst, ◌∙◌}
 use Rattle.std.specs.Prelude.{Result, Ok, Err, IfOk}
-use Rattle.refusal.specs.declared.Refusal.{Refusal}
+use Rattle.field_check.specs.declared.NoField.{NoField}
 use mathlib.Core.Bool.{◌&&◌, and-eq-true_iff}
 use mathlib.Core.List.{List}
 use lib.ListN.{length}
@@ -58,7 +58,7 @@ module _ (f : Field) (lent : List ℕ) (n : ℕ) (full : Full f) (e : Ok n ≡ c
   }
 
 -- the same of what the check answers
-pub ready-if : (f : Field) (lent : List ℕ) (full : Full f) (r : Result ℕ Refusal) → r ≡ check_of (record { field = f; words = lent })
+pub ready-if : (f : Field) (lent : List ℕ) (full : Full f) (r : Result ℕ NoField) → r ≡ check_of (record { field = f; words = lent })
     → IfOk r (λ n. Ready f.plan f.cells f.marks lent n f.sent)
 ready-if f lent full (Ok n) e = ready f lent n full e
 ready-if f lent full (Err r) e = tt

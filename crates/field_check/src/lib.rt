@@ -11,7 +11,7 @@ ghost use Rattle.node.specs.Work.{REJECTED, degree};
 ghost use Rattle.field.specs.State.{node_in};
 ghost use Rattle.field.specs.Valid.{all_of, waiting_in, word_fits, node_fits, fits};
 ghost use Rattle.field.specs.Held.{held_from};
-ghost use Rattle.field_check.specs.Checked.{check_of, state_in};
+ghost use Rattle.field_check.specs.Checked.{check_of, state_in, Is31};
 ghost use Rattle.field_check.specs.Ready.{Ready};
 
 use base::MAX_MODULES;
@@ -22,6 +22,20 @@ use refusal::Refusal;
 
 // How many links each module has.
 type Degrees = [u16; MAX_MODULES as usize];
+
+// What is no field, by 31. How many of its words wait is told all the same.
+#[derive(Clone, Copy, Debug, PartialEq, Eq)]
+pub struct NoField {
+    pub waiting: usize,
+}
+
+impl From<NoField> for Refusal {
+    ghost from_gives = { λ _ r. Is31 r };
+
+    fn from(_no_field: NoField) -> Refusal {
+        Refusal::Field
+    }
+}
 
 // How many words wait: those before the first zero.
 pub fn waiting(lent: &[u64]) -> usize
@@ -98,14 +112,14 @@ pub fn state_fits<'a>(
         & (sent <= plan::ceiling_of(plan))
 }
 
-// 31 of a field in lent arrays and words, or how many words wait.
+// 31 of a field in lent arrays and words, and how many words wait.
 pub fn check<'a>(
     plan: &'a Plan,
     cells: &'a Cells,
     marks: &'a Marks,
     sent: u32,
     lent: &[u64],
-) -> Result<usize, Refusal>
+) -> Result<usize, NoField>
     ensures { result ≡ check_of (held_from plan.now cells.now marks.now sent lent.now) }
 {
     let n = waiting(lent);
@@ -114,7 +128,7 @@ pub fn check<'a>(
         || !all_zero(&lent[n..])
         || !state_fits(plan, cells, marks, sent, &lent[..n])
     {
-        return Err(Refusal::Field);
+        return Err(NoField { waiting: n });
     }
     Ok(n)
 }
@@ -126,7 +140,7 @@ pub fn admit_parts<'a>(
     marks: &'a Marks,
     sent: u32,
     lent: &[u64],
-) -> Result<usize, Refusal>
+) -> Result<usize, NoField>
     ensures answer { result ≡ check_of (held_from plan.now cells.now marks.now sent lent.now) }
     ensures ready { IfOk result (λ n. Ready plan.now cells.now marks.now lent.now n sent) }
 {
@@ -138,7 +152,7 @@ pub fn admit_parts<'a>(
 }
 
 // The same of a field that a host supplies.
-pub fn admit(f: &Field, lent: &[u64]) -> Result<usize, Refusal>
+pub fn admit(f: &Field, lent: &[u64]) -> Result<usize, NoField>
     ensures answer { result ≡ check_of (record { field = f.now; words = lent.now }) }
     ensures ready { IfOk result (λ n. Ready f.now.plan f.now.cells f.now.marks lent.now n f.now.sent) }
 {

@@ -3,8 +3,6 @@ use Prim.Native.Nat.{ℕ}
 use mathlib.Core.Path.{◌≡◌, refl, ◌∙◌}
 use mathlib.Core.Bool.{true, false}
 use Rattle.std.specs.Prelude.{Ok, Err}
-use Rattle.refusal.specs.declared.Refusal.{Refusal}
-use Rattle.refusal.specs.Number.{numbered}
 use mathlib.Core.List.{List}
 use lib.ListN.{length}
 use Rattle.field.specs.declared.Field.{Field}
@@ -12,6 +10,7 @@ use Rattle.field.specs.Held.{Held, valid}
 use Rattle.field.specs.Held as H
 use Rattle.field_calls.specs.Rounds.{rounds_run}
 use Rattle.field_calls.specs.Call.{refused_run, laid_back, run_rounds}
+use Rattle.field_check.specs.declared.NoField.{NoField}
 use Rattle.field_check.specs.Checked.{check_of}
 use Rattle.field_serve.specs.Lent.{MovesOn}
 use Rattle.field_check.proofs.Admitted.{invalid, passes}
@@ -30,8 +29,8 @@ module _ (f : Field) (lent : List ℕ) where
   abbrev h : Held
   h = record { field = f; words = lent }
 
-  pub rounds-31 : {r : Refusal} → Err r ≡ check_of h → (limit : ℕ) → refused_run (numbered r) h ≡ run_rounds limit h
-  rounds-31 e limit = rw (invalid f lent e).0 (rounds-refused h limit (invalid f lent e).1)
+  pub rounds-31 : {x : NoField} → Err x ≡ check_of h → (limit : ℕ) → refused_run 31 h ≡ run_rounds limit h
+  rounds-31 e limit = rounds-refused h limit (invalid f lent e)
 
   pub rounds-done : {m : ℕ} → Ok m ≡ check_of h → (limit done refusal : ℕ) (f' : Field) (words : List ℕ) (n : ℕ)
       → MovesOn (λ p. rounds_run p limit) f lent m done refusal f' words n → length words ≡ length lent

@@ -5,8 +5,6 @@ use mathlib.Core.Path.{◌≡◌, refl, ap, ◌∙◌}
 use mathlib.Core.Logic.{◌≢◌}
 use mathlib.Core.Bool.{true, false}
 use Rattle.std.specs.Prelude.{Ok, Err}
-use Rattle.refusal.specs.declared.Refusal.{Refusal}
-use Rattle.refusal.specs.Number.{numbered}
 use mathlib.Core.List.{List}
 use lib.ListN.{length}
 use borrow.Author.Tests.{ne_eqb, eq-eqb}
@@ -18,6 +16,7 @@ use Rattle.field.specs.Held as H
 use Rattle.field.proofs.laws.Step.{alone-31, alone-step}
 use Rattle.field_calls.specs.Schedule.{schedule_refusal, schedule_run}
 use Rattle.field_calls.specs.Call.{refused_run, laid_back, run_bytes}
+use Rattle.field_check.specs.declared.NoField.{NoField}
 use Rattle.field_check.specs.Checked.{check_of}
 use Rattle.field_serve.specs.Lent.{Moves, MovesOn}
 use Rattle.field_check.proofs.Admitted.{invalid, passes}
@@ -40,12 +39,12 @@ module _ (f : Field) (lent : List ℕ) where
   abbrev h : Held
   h = record { field = f; words = lent }
 
-  module _ {r : Refusal} (e : Err r ≡ check_of h) where
-    pub step-31 : (kind number : ℕ) → refused_by (numbered r) h ≡ step_alone kind number h
-    step-31 kind number = rw (invalid f lent e).0 (alone-31 kind number h (invalid f lent e).1)
+  module _ {x : NoField} (e : Err x ≡ check_of h) where
+    pub step-31 : (kind number : ℕ) → refused_by 31 h ≡ step_alone kind number h
+    step-31 kind number = alone-31 kind number h (invalid f lent e)
 
-    pub run-31 : (bytes : List ℕ) → refused_run (numbered r) h ≡ run_bytes bytes h
-    run-31 bytes = rw (invalid f lent e).0 (run-refused h bytes (invalid f lent e).1)
+    pub run-31 : (bytes : List ℕ) → refused_run 31 h ≡ run_bytes bytes h
+    run-31 bytes = run-refused h bytes (invalid f lent e)
 
   module _ {m : ℕ} (e : Ok m ≡ check_of h) where
     pub run-54 : (bytes : List ℕ) (bad : ℕ) → bad ≡ schedule_refusal bytes → bad ≢ 0 → refused_run bad h ≡ run_bytes bytes h

@@ -10,7 +10,7 @@ ghost use Rattle.library_field.specs.Lent.{set_up_into};
 
 use field::{Cells, Field, Marks};
 use plan::Plan;
-use refusal::refusal_in;
+use refusal::{Refusal, refusal_in};
 
 // The field of these parts.
 pub fn field_of(plan: &Plan, cells: &Cells, marks: &Marks, sent: u32) -> Field
@@ -67,7 +67,7 @@ pub fn muruapy_field_check_parts<'a>(
 {
     match field_check::check(plan, cells, marks, sent, words) {
         Ok(_) => 0,
-        Err(r) => r.number(),
+        Err(r) => Refusal::from(r).number(),
     }
 }
 

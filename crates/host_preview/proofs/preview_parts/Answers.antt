@@ -7,6 +7,7 @@ use Rattle.std.specs.Prelude.{Ok, Err}
 use Rattle.std.proofs.Common.{rules, arith}
 use Rattle.std.proofs.lemmas.Bool.Decides.{nat_tests}
 use Rattle.refusal.specs.declared.Refusal.TheVariants.{StepKind}
+use Rattle.refusal.specs.declared.Refusal.TheVariants as R
 use Rattle.refusal.proofs.laws.Number.{positive}
 use Rattle.field.specs.State.{State}
 use Rattle.field.specs.Held.{held_from}
@@ -23,10 +24,9 @@ pub returns-in_err-n : goal.returns-in_err-n
 returns-in_err-n c =
     let a = c.args in
     let h = held_from a.plan.now a.cells.now a.marks.now a.sent a.words.now in
-    let x = c.in_err-n.field-0.0 in
-    let e : Err x ≡ check_of h = grind rules in
-    let q : c.from_residual.result ≡ Err x = grind rules in
-    rw (q, (invalid h.field h.words e).0) (preview-31 _ _ h _ (invalid h.field h.words e).1)
+    let e : Err c.in_err-n.field-0.0 ≡ check_of h = grind rules in
+    let q : c.from_residual.result ≡ Err R.Field = grind rules in
+    rw q (preview-31 _ _ h _ (invalid h.field h.words e))
 
 pub returns-in_err-try_from : goal.returns-in_err-try_from
 returns-in_err-try_from c =

@@ -1,6 +1,7 @@
 -- host_run::run_on: 31 by `run-31`, 51 to 54 by `run-54`, else the steps by `run-done`.
 use Rattle.std.specs.Prelude.{◌≡◌, Ok, Err}
 use Rattle.std.proofs.Common.{rules, arith}
+use Rattle.refusal.specs.declared.Refusal.TheVariants as R
 use Rattle.refusal.specs.Number.{numbered}
 use Rattle.refusal.proofs.laws.Number.{positive}
 use Rattle.field.specs.Held.{Held}
@@ -12,9 +13,8 @@ use Rattle.host_run.proofs.run_on.Goals as goal
 pub returns-in_err-waiting : goal.returns-in_err-waiting
 returns-in_err-waiting c =
     let h : Held = record { field = c.args.f.now; words = c.args.words.now } in
-    let x = c.in_err-waiting.field-0.0 in
-    let e : Err x ≡ check_of h = grind rules in
-    let q : c.from_residual.result ≡ Err x = grind rules in
+    let e : Err c.in_err-waiting.field-0.0 ≡ check_of h = grind rules in
+    let q : c.from_residual.result ≡ Err R.Field = grind rules in
     rw (q, c.requires) (run-31 _ _ e c.args.bytes.now)
 
 pub returns-in_err-check : goal.returns-in_err-check
