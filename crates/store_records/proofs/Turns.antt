@@ -25,8 +25,10 @@ module _ (rs : List (List ℕ)) (a : ℕ) (t : List ℕ) where
         e ∙ ap (λ xs. a + length (joined xs)) h.records ∙ l
 
   module _ (q : List ℕ → Bool) (e : spot_from q 0 rs ≡ spot_from q a (records_in t)) where
-    pub seek-ends : records_in t ≡ [] → not (eqb (spot_from q 0 rs).size 0) ≡ false
-    seek-ends z = rw (e, z, spot-none q a) refl
+    pub seek-ends : records_in t ≡ [] → (not (eqb (spot_from q 0 rs).size 0) ≡ false) × ◌≡◌ {A = Spot} (record { at = a; size = 0 }) (spot_from q 0 rs)
+    seek-ends z =
+        let none = e ∙ ap (spot_from q a) z ∙ spot-none q a in
+        (rw none refl, sym none)
 
     module _ {r u : List ℕ} (h : SplitsOff t r u) where
       seek-next : spot_from q 0 rs ≡ spot_from q a (r ∷ records_in u)

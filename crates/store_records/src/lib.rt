@@ -49,9 +49,9 @@ pub fn is_named(r: &[u8], name: &[u8]) -> bool
     name == name_in(r)
 }
 
-// Where the first record of a name stands.
+// Where the first record of a name stands. For a name that is not held the definition has the place behind the last record.
 pub fn place_of(s: &[u8], name: &[u8]) -> Option<Spot>
-    ensures { MatchOption result (holds name.now s.now ≡ false)
+    ensures { MatchOption result ((holds name.now s.now ≡ false) × (spot_of name.now s.now ≡ record { at = length (joined (records_in s.now)); size = 0 }))
         (λ p. (holds name.now s.now ≡ true) × (p ≡ spot_of name.now s.now)) }
 {
     let mut at = 0;
