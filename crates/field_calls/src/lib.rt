@@ -23,7 +23,7 @@ impl TryFrom<u8> for Kind {
             1 => Ok(Kind::Wake),
             2 => Ok(Kind::HandOver),
             3 => Ok(Kind::Serve),
-            _ => Err(Refusal::StepKind),
+            0 | 4..=255 => Err(Refusal::StepKind),
         }
     }
 }

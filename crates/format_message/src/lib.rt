@@ -103,7 +103,7 @@ fn of_parts(kind: u8, level: u16, carried: u16, find: bool) -> Option<NodeMessag
             Some(NodeMessage::Report { weight: carried })
         }
         7 if bare => Some(NodeMessage::ChangeRoot),
-        _ => None,
+        0..=255 => None,
     }
 }
 

@@ -76,7 +76,7 @@ pub fn floor_log2(n: u16) -> u16
     if n == 0 {
         return 0;
     }
-    n.ilog2() as u16
+    (31 - u32::leading_zeros(n as u32)) as u16
 }
 
 // The ceiling's first term.
