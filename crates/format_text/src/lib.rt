@@ -30,6 +30,14 @@ impl<'a> Page<'a> {
         Page { bytes, at: 0 }
     }
 
+    // Text goes behind so many bytes of the buffer; past its end nothing fits.
+    pub fn behind(bytes: &'a mut [u8], place: usize) -> Page<'a>
+        ensures same { result.bytes.ghost_name ≡ bytes.entry.ghost_name }
+        ensures made { page_of result ≡ page place bytes.old }
+    {
+        Page { bytes, at: place }
+    }
+
     // How many bytes of the buffer are text.
     pub fn place(&self) -> usize
         ensures { result ≡ (page_of self.now).place }
