@@ -57,11 +57,18 @@ pub fn first_in_queue(plan: &Plan, words: &[u64], v: u16) -> Option<usize>
     words.iter().position(|w| in_queue(plan, v, *w))
 }
 
-// How many words are in the air of directed link d.
+// How many words are in the air of directed link d. This and the next count by a `for`, which is most of a round's time: a `filter` with `count` is
+// not made into steps of four words at once.
 pub fn many_in_air(words: &[u64], d: u16) -> usize
     ensures { result ≡ many (in_air d) words.now }
 {
-    words.iter().filter(|w| in_air(d, **w)).count()
+    let mut m = 0;
+    for w in words {
+        if in_air(d, *w) {
+            m += 1;
+        }
+    }
+    m
 }
 
 // How many words module v's queue holds.
@@ -69,5 +76,11 @@ pub fn many_in_queue(plan: &Plan, words: &[u64], v: u16) -> usize
     requires { length plan.now ≡ plan_size }
     ensures { result ≡ many (in_queue plan.now v) words.now }
 {
-    words.iter().filter(|w| in_queue(plan, v, **w)).count()
+    let mut m = 0;
+    for w in words {
+        if in_queue(plan, v, *w) {
+            m += 1;
+        }
+    }
+    m
 }

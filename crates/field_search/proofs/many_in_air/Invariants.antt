@@ -1,0 +1,7 @@
+-- field_search::many_in_air: a loop; m of the words before w pass (`Counted`), by `counted-one` and `counted-on`.
+use Rattle.field.specs.Step.{in_air}
+use Rattle.field_search.proofs.Search.{Counted}
+use Rattle.field_search.proofs.many_in_air.Given as goal
+
+abbrev pub invariant-loop-w : goal.invariant-loop-w
+invariant-loop-w l = Counted (in_air l.d) l.words l.m l.w-index
