@@ -31,7 +31,8 @@ const CLAIMS: [(&str, &str, &str); 17] = [
 ];
 
 /// The functions that a host or one of the two programs calls, by crate; no names: all public ones of the crate.
-const CALLED: [(&str, &[&str]); 17] = [
+const CALLED: [(&str, &[&str]); 18] = [
+    ("refusal", &["number", "refusal_in"]),
     ("plan", &["ceiling", "ceiling_of"]),
     ("plan_file", &["check", "read", "write"]),
     ("plan_check", &["check"]),

@@ -188,7 +188,13 @@ fn declared(lines: &[&str], from: usize, to: usize, out: &mut Source) {
         return;
     };
     let mut found = item(name, from + 1, to - from, lines[from].starts_with("pub"), Sort::Declared);
-    let before = |i: usize| matches!(all.get(i).map(|t| &t.token), Some(Token::Mark(':' | ',' | '(' | '}')));
+    // A variant may have a number or fields behind it.
+    let variants = all[at].is("enum");
+    let before = |i: usize| match all.get(i).map(|t| &t.token) {
+        Some(Token::Mark(':' | ',' | '(' | '}')) => true,
+        Some(Token::Mark('=' | '{')) => variants,
+        _ => false,
+    };
     found.members =
         (at + 2..all.len()).filter(|&i| before(i + 1)).filter_map(|i| all[i].name()).map(str::to_string).collect();
     found.groups = vec![plain_group(all[at + 2..].to_vec(), 0)];

@@ -87,9 +87,9 @@ fn names_through_modules() {
     let made = Made::new(&[
         ("crates/a/specs/A.antt", "pub data D : Type 0 where\n  one : D\n\npub ◌⊕◌ : D → D → D\nx ⊕ y = x\n"),
         ("crates/a/specs/laws/B.antt", "pub use Rattle.a.specs.A.{D as E, one}\n\npub b : E\nb = one\n"),
-        ("crates/c/src/lib.rt", "pub struct S {\n    pub n: u16,\n}\n\npub enum T {\n    S,\n    Two(u8),\n}\n\npub const MOST: u16 = 9;\n"),
+        ("crates/c/src/lib.rt", "pub struct S {\n    pub n: u16,\n}\n\npub enum T {\n    S,\n    Two(u8),\n    Three = 3,\n    Four { n: u8 },\n}\n\npub const MOST: u16 = 9;\n"),
         ("crates/c/specs/C.antt", "use Rattle.a.specs.laws.B.{E, one}\nuse Rattle.a.specs.A.{◌⊕◌}\nuse Rattle.a.specs.laws.B as L\nuse Rattle.c.specs.declared.S.{S}\n\nf : S → E\nf one = L.b ⊕ one\n"),
-        ("crates/c/proofs/C.antt", "use Rattle.c.specs.declared.T.TheVariants.{S, Two}\nuse Rattle.c.specs.declared.TheConstants.{MOST}\n\ng : ℕ\ng = h S Two MOST\n"),
+        ("crates/c/proofs/C.antt", "use Rattle.c.specs.declared.T.TheVariants.{S, Two, Three, Four}\nuse Rattle.c.specs.declared.TheConstants.{MOST}\n\ng : ℕ\ng = h S Two Three Four MOST\n"),
     ]);
     let tree = Tree::load(made.top());
     let names = named(&tree, "f");

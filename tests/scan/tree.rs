@@ -294,7 +294,8 @@ impl Tree {
         };
         let text = |g: &Group| self.meanings(file, g).into_iter().map(|(_, m)| m.target).collect::<Vec<_>>();
         match item.sort {
-            Sort::Declared => item.groups.iter().flat_map(code).collect(),
+            // behind what is declared, the ghost items of its `impl`s
+            Sort::Declared => code(&item.groups[0]).into_iter().chain(item.groups[1..].iter().flat_map(text)).collect(),
             Sort::Function => code(&item.groups[0]).into_iter().chain(text(&item.groups[1])).collect(),
             _ => item.groups.iter().flat_map(text).collect(),
         }
